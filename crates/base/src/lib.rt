@@ -1,0 +1,25 @@
+//! The ground of every crate: lists, budgets and devices.
+//!
+//! - `Seq` is a list that contracts see as a plain list, so that values made of lists are equal
+//!   where their lists are.
+//! - `Budget` counts the steps that a search may still take. What is spent and what is left are
+//!   together what it began with, through every call that takes one (`Spends`).
+//! - `Source` and `Sink` are where bytes come from and where they go. A device counts its
+//!   failures, so that a caller can say exactly whether one failed in its call.
+//! - `read_all` and `put_all` move whole texts.
+#![tactic(auto)]
+
+mod budget;
+mod seq;
+mod sink;
+mod source;
+mod transfer;
+
+pub use budget::Budget;
+pub use seq::Seq;
+pub use sink::{Sink, ToVec, ToWrite};
+pub use source::{Failed, FromBytes, FromRead, Source};
+pub use transfer::{ReadAllError, put_all, read_all};
+
+#[cfg(test)]
+mod tests;

@@ -1,0 +1,71 @@
+//! Whole texts, moved from a source and to a sink.
+
+ghost use Rattle.std.specs.Prelude.{◌≡◌, ◌+◌, ◌-◌, ◌^◌, ◌<◌, ◌≤◌, ◌↔◌, length, Err, IfOk, IfSome, IsErrOf, OnOk, OnErr};
+ghost use Rattle.std.specs.Io.KnownBytes.{Consumes, IsAtEnd, Appends};
+ghost use Rattle.base.specs.Devices.{CountsFailure, PutsBeginning};
+
+use crate::sink::Sink;
+use crate::source::{Failed, Source};
+use std::alloc::Global;
+
+/// Why a source was not read to its end.
+#[derive(Clone, Copy, Debug, PartialEq, Eq)]
+pub enum ReadAllError {
+    /// A growth was refused.
+    OutOfMemory,
+    /// The source failed.
+    Device,
+    /// The source has more bytes than the limit.
+    TooLong,
+}
+
+/// How many bytes are asked for at once.
+const CHUNK: usize = 16_384;
+
+/// All the bytes that a source still gives, where they are `limit` at most. Past the limit it
+/// stops.
+pub fn read_all<S: Source>(
+    alloc: Global,
+    source: &mut S,
+    limit: usize,
+) -> Result<Vec<u8>, ReadAllError>
+    requires { S.failed source.old < 2 ^ 64 - 1 }
+    ensures bytes { IfOk result (λ v. Consumes (S.remaining source.old) (S.remaining source.new) v.items × IsAtEnd (S.remaining source.new)) }
+    ensures within { IfOk result (λ v. length v.items ≤ limit) }
+    ensures too_long { result ≡ Err ReadAllError.TooLong → IfSome (S.remaining source.old) (λ bytes. limit < length bytes) }
+    ensures device { IsErrOf result ReadAllError.Device ↔ (S.failed source.new ≡ S.failed source.old + 1) }
+    ensures others { (IsErrOf result ReadAllError.Device → ⊥) → S.failed source.new ≡ S.failed source.old }
+{
+    let mut bytes = Vec::new(alloc);
+    let mut chunk = [0u8; CHUNK];
+    'reading: loop {
+        let n = match source.take(&mut chunk) {
+            Ok(n) => n,
+            Err(Failed) => return Err(ReadAllError::Device),
+        };
+        if n == 0 {
+            return Ok(bytes);
+        }
+        if n > limit - bytes.len() {
+            return Err(ReadAllError::TooLong);
+        }
+        if bytes.extend_from_slice(&chunk[..n]).is_err() {
+            return Err(ReadAllError::OutOfMemory);
+        }
+    }
+}
+
+/// Puts all of the bytes. After a failure a beginning of them was put.
+pub fn put_all<W: Sink>(out: &mut W, bytes: &[u8]) -> Result<(), Failed>
+    requires { W.failed out.old < 2 ^ 64 - 1 }
+    ensures whole { OnOk result (Appends (W.contents out.old) (W.contents out.new) bytes.now) }
+    ensures beginning { OnErr result (PutsBeginning (W.contents out.old) (W.contents out.new) bytes.now) }
+    ensures counts { CountsFailure (W.failed out.old) (W.failed out.new) result }
+{
+    let mut rest = bytes;
+    'putting: while !rest.is_empty() {
+        let n = out.put(rest)?;
+        rest = &rest[n..];
+    }
+    Ok(())
+}
