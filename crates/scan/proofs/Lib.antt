@@ -1,0 +1,10 @@
+pub mod Digits
+pub mod Tags
+pub mod Loops
+pub mod CountLoop
+pub mod NumberLaws
+pub mod Toolbox
+pub mod WordLaws
+pub mod ListLaws
+pub mod SignedLaws
+pub mod CountLaws

@@ -1,0 +1,29 @@
+-- The counts of a header.
+use Rattle.std.specs.Prelude.{◌≡◌, ℕ, ◌-◌, ◌≤◌, Bool, ◌&&◌, ◌||◌, zero, suc, All, List, [], ◌∷◌, ◌++◌, length, replicate, decimal, Some, nat_lt, nat_le, ◌==◌, if◌then◌else◌}
+use Rattle.std.specs.List.{flat_map}
+use Rattle.scan.specs.Reading.{◌>>=◌, Read}
+use Rattle.scan.specs.Words.{any, word_at}
+
+-- what may end a count that at most k others follow, of which four may be left out
+abbrev pub ends_count : ℕ → ℕ → Bool
+ends_count k c = ((c == 32) && nat_lt 0 k) || ((c == 10) && nat_le k 4)
+
+-- at most k counts, and 0 for each that is left out
+unfoldable pub counts_at : ℕ → ℕ → List ℕ → Read (List ℕ)
+counts_at limit zero bytes = Some ([], bytes)
+counts_at limit (suc k) bytes = do
+  w ← word_at limit any (ends_count k) bytes
+  if w.0.1 == 10 then Some (w.0.0 ∷ replicate k 0, w.1) else (counts_at limit k w.1 >>= λ r. Some (w.0.0 ∷ r.0, r.1))
+
+-- a space and a count
+abbrev pub spaced : ℕ → List ℕ
+spaced n = 32 ∷ decimal n
+
+-- a text is four to eight counts of at most limit, a space before each, and a line end; the counts that are left out are 0
+pub record IsCounts (limit : ℕ) (text counts : List ℕ) : Type 0 where
+  pub written : List ℕ
+  pub enough : 4 ≤ length written
+  pub few : length written ≤ 8
+  pub within : All (λ n. n ≤ limit) written
+  pub padded : counts ≡ written ++ replicate (8 - length written) 0
+  pub spells : text ≡ flat_map spaced written ++ 10 ∷ []

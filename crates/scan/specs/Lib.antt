@@ -1,0 +1,9 @@
+pub mod Reading
+pub mod Numbers
+pub mod Bytes
+pub mod Refusals
+pub mod Words
+pub mod Counts
+pub mod Lists
+pub mod Spelling
+pub mod Signed

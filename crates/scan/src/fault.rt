@@ -1,0 +1,57 @@
+//! Why a text is refused.
+
+ghost use Rattle.std.specs.Prelude.{◌≡◌, ◌-◌};
+ghost use Rattle.scan.specs.declared.fault.Fault.TheVariants.{Memory};
+
+use std::alloc::{AllocError, AllocFailed};
+
+/// What a reading function answers where it has no value. Each reader has refusals `K` of its
+/// own, so that its type says which of them can come.
+#[derive(Clone, Copy, Debug, PartialEq, Eq)]
+pub enum Fault<K> {
+    /// A growth was refused.
+    Memory,
+    /// The text is refused at a place from which `left` bytes of it remain.
+    Text {
+        /// What is wrong there.
+        kind: K,
+        /// How many bytes of the text remain from that place on.
+        left: usize,
+    },
+}
+
+impl<K> From<AllocError> for Fault<K> {
+    ghost from_gives = { λ _ e. e ≡ Memory };
+
+    fn from(_e: AllocError) -> Fault<K> {
+        Fault::Memory
+    }
+}
+
+impl<K, T: Drop> From<AllocFailed<T>> for Fault<K> {
+    ghost from_gives = { λ _ e. e ≡ Memory };
+
+    fn from(_e: AllocFailed<T>) -> Fault<K> {
+        Fault::Memory
+    }
+}
+
+/// What a reader calls the faults of a number and of the bytes about it.
+#[derive(Clone, Copy, Debug, PartialEq, Eq)]
+pub struct Kinds<K> {
+    /// The text ends where a byte is needed. Its place is the text's end.
+    pub truncated: K,
+    /// No digit, or a 0 before another digit. Its place is the number's first byte.
+    pub number: K,
+    /// A number over its limit. Its place is the number's first byte.
+    pub over: K,
+    /// Another byte than is needed. Its place is that byte.
+    pub byte: K,
+}
+
+/// The place of a fault in a text of `length` bytes: how many bytes stand before it.
+pub fn place(length: usize, left: usize) -> u64
+    ensures { result ≡ length - left }
+{
+    length.saturating_sub(left) as u64
+}

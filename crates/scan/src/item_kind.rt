@@ -1,0 +1,65 @@
+//! Lists up to an end.
+
+ghost use Rattle.std.specs.Prelude.{◌≡◌};
+ghost use Rattle.scan.specs.Reading.{Gives};
+ghost use Rattle.scan.specs.Lists.{items_at};
+
+use crate::fault::Fault;
+use std::alloc::Global;
+
+/// One kind of item in a list that ends where an end of its own stands.
+pub trait ItemKind {
+    ghost use Rattle.std.specs.Prelude.{ℕ, List, Option};
+
+    /// What an item holds.
+    type Item: Drop;
+
+    /// What an item's meaning depends on, as the greatest number.
+    type Context: Copy;
+
+    /// The refusals of the reader.
+    type Refusal: Copy;
+
+    /// What has to hold of the context.
+    ghost allows: { Self.Context → Type 0 };
+
+    /// How an item or the list's end is read.
+    ghost at: { Self.Context → List ℕ → Option (Option Self.Item × List ℕ) };
+
+    /// One item, or none at the list's end, and what follows.
+    fn item(
+        alloc: Global,
+        text: &[u8],
+        context: Self::Context,
+    ) -> Result<(Option<Self::Item>, &[u8]), Fault<Self::Refusal>>
+        requires { allows context }
+        ensures { Gives (λ x. (x.0, x.1.now)) result (at context text.now) };
+}
+
+/// The items before the first end, and what follows that. The list grows item by item. Where each
+/// item takes a byte, as it should, every refusal is one of `item`; items that take none would
+/// never come to an end, and `endless` is told of them at the text's end.
+pub fn items<L: ItemKind>(
+    alloc: Global,
+    text: &[u8],
+    context: L::Context,
+    endless: L::Refusal,
+) -> Result<(Vec<L::Item>, &[u8]), Fault<L::Refusal>>
+    requires { L.allows context }
+    ensures { Gives (λ x. (x.0.items, x.1.now)) result (items_at (L.at context) text.now) }
+{
+    let mut items = Vec::new(alloc);
+    let mut rest = text;
+    for _ in 0..text.len() + 1 {
+        let (item, after) = L::item(alloc, rest, context)?;
+        rest = after;
+        match item {
+            None => return Ok((items, rest)),
+            Some(item) => items.push(item)?,
+        }
+    }
+    Err(Fault::Text {
+        kind: endless,
+        left: 0,
+    })
+}

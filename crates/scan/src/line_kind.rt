@@ -1,0 +1,58 @@
+//! Lists of a known length.
+
+ghost use Rattle.std.specs.Prelude.{◌≡◌};
+ghost use Rattle.scan.specs.Reading.{Gives};
+ghost use Rattle.scan.specs.Lists.{many_at};
+
+use crate::fault::Fault;
+use std::alloc::Global;
+
+/// One kind of line: what it holds, and how it is read.
+pub trait LineKind {
+    ghost use Rattle.std.specs.Prelude.{ℕ, List, Option};
+
+    /// What a line holds.
+    type Item: Drop;
+
+    /// What a line's meaning depends on, as the greatest variable.
+    type Context: Copy;
+
+    /// The refusals of the reader.
+    type Refusal: Copy;
+
+    /// What has to hold of the context.
+    ghost allows: { Self.Context → Type 0 };
+
+    /// How a line is read.
+    ghost at: { Self.Context → List ℕ → Option (Self.Item × List ℕ) };
+
+    /// One line, and what follows it.
+    fn line(
+        alloc: Global,
+        text: &[u8],
+        context: Self::Context,
+    ) -> Result<(Self::Item, &[u8]), Fault<Self::Refusal>>
+        requires { allows context }
+        ensures { Gives (λ x. (x.0, x.1.now)) result (at context text.now) };
+}
+
+/// As many lines of one kind as `count` says, and what follows them. The list grows line by line:
+/// no memory is taken ahead by a count that the text states.
+pub fn lines<L: LineKind>(
+    alloc: Global,
+    count: u32,
+    text: &[u8],
+    context: L::Context,
+) -> Result<(Vec<L::Item>, &[u8]), Fault<L::Refusal>>
+    requires { L.allows context }
+    ensures { Gives (λ x. (x.0.items, x.1.now)) result (many_at (L.at context) count text.now) }
+{
+    let mut items = Vec::new(alloc);
+    let mut rest = text;
+    for _ in 0..count {
+        let (item, after) = L::line(alloc, rest, context)?;
+        items.push(item)?;
+        rest = after;
+    }
+    Ok((items, rest))
+}
