@@ -1,0 +1,24 @@
+-- One hint more.
+use Rattle.std.proofs.Common.{◌≡◌, ℕ, ◌+◌, ◌<◌, ◌≤◌, List, [], ◌∷◌, ◌++◌, length, take, drop, get_or, ℤ, sym, ◌∙◌, ap, subst, add-one}
+use Rattle.std.proofs.Math.Seq.{take-suc, drop-cons}
+use Rattle.std.proofs.lemmas.List.{take-append-drop, take_all}
+use Rattle.lrat.specs.Literals.{Finder}
+use Rattle.lrat.specs.Lines.{Leads, SetsOne}
+use Rattle.lrat.specs.Faults.{Stops, StopsWithin}
+use Rattle.lrat.specs.declared.fault.Fault.{Fault}
+
+pub leads_more : (m : Finder) (ids : List ℕ) (s t : List ℤ) (id : ℕ) (l : ℤ) → Leads m s ids t → SetsOne m t id l → Leads m s (ids ++ id ∷ []) (t ++ l ∷ [])
+leads_more m [] s t id l same one = (l, subst (λ u. SetsOne m u id l) same one, ap (λ u. u ++ l ∷ []) same)
+leads_more m (i ∷ ids) s t id l leads one = (leads.0, leads.1, leads_more m ids (s ++ leads.0 ∷ []) t id l leads.2 one)
+
+pub leads_at : (m : Finder) (s : List ℤ) (ids : List ℕ) (i : ℕ) (t : List ℤ) (l : ℤ) → i < length ids → Leads m s (take i ids) t → SetsOne m t (get_or ids i 0) l → Leads m s (take (i + 1) ids) (t ++ l ∷ [])
+leads_at m s ids i t l h leads one = rw (add-one, take-suc ids i 0 h) (leads_more m (take i ids) s t _ l leads one)
+
+pub leads_all : (m : Finder) (s : List ℤ) (ids : List ℕ) (i : ℕ) (t : List ℤ) → length ids ≤ i → Leads m s (take i ids) t → Leads m s ids t
+leads_all m s ids i t h leads = subst (λ us. Leads m s us t) (take_all i ids h) leads
+
+parts_at : (ids : List ℕ) (i : ℕ) → i < length ids → ids ≡ take i ids ++ get_or ids i 0 ∷ drop (i + 1) ids
+parts_at ids i h = sym (take-append-drop i ids) ∙ ap (λ u. take i ids ++ u) (rw add-one (drop-cons ids i 0 h))
+
+pub stops_at : (m : Finder) (s : List ℤ) (ids : List ℕ) (i : ℕ) (t : List ℤ) (e : Fault) → i < length ids → Leads m s (take i ids) t → Stops m t (get_or ids i 0) e → StopsWithin m s ids e
+stops_at m s ids i t e h leads why = (take i ids, get_or ids i 0, drop (i + 1) ids, t, parts_at ids i h, leads, why)

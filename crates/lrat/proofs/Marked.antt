@@ -1,0 +1,166 @@
+-- What one mark for each variable says, as literals come and go.
+use Rattle.std.proofs.Common.{◌≡◌, ℕ, suc, zero, ◌+◌, ◌<◌, ◌≢◌, ◌⊎◌, ◌↔◌, ◌==◌, true, false, List, [], ◌∷◌, ◌++◌, length, get_or, take, drop, set, All, Contains, IsTrue, ℤ, pos, negsuc, neg_ℤ, unsigned_abs, refl, sym, ◌∙◌, ap, subst, inl, inr, arith, get_or-set_other, get_or-set_same}
+use Rattle.std.proofs.lemmas.List.{get_or_default, length-set, length-take, length-drop, get_or-take, get_or-drop, take-append-drop}
+use Rattle.std.proofs.lemmas.Bool.Decides.{nat_tests}
+use Rattle.std.proofs.lemmas.List.Elements.{All-push, All-nil, Contains-push, Contains-push_cases, Contains-append_left, Contains-append_right, Contains-append_cases, Contains-get_or, All-weaker, All-more, All-contains, All-cons, All-take}
+use Rattle.std.proofs.lemmas.List.Quantifiers.{all_pairs_push}
+use Rattle.lrat.proofs.Looks.{take_more}
+use Rattle.lrat.specs.Literals.{IsLiteral}
+use Rattle.lrat.specs.Marks.{Says, AreMarked, AreApart, IsUnmarked, mark_of}
+use Rattle.lrat.specs.declared.mark.Mark.{Mark}
+use Rattle.lrat.specs.declared.mark.Mark.TheVariants.{Neither, Positive, Negative}
+use lib.Signed.{lt_z}
+
+pub holds_neither : (t : List ℤ) (l : ℤ) → Says t (unsigned_abs l) Neither → Contains t l → ⊥
+holds_neither t (pos n) says at = says.0 at
+holds_neither t (negsuc n) says at = says.1 at
+
+positive : (n : ℕ) → lt_z (pos 0) (pos (suc n)) ≡ true
+positive n = grind (arith, nat_tests)
+
+not_below : (n : ℕ) → lt_z (pos (suc n)) (pos 0) ≡ true → ⊥
+not_below n h = grind (arith, nat_tests)
+
+pub holds_positive : (t : List ℤ) (l : ℤ) → l ≢ pos 0 → Says t (unsigned_abs l) Positive → IsTrue (lt_z (pos 0) l) ↔ Contains t l
+holds_positive t (pos zero) ne says = absurd (ne refl)
+holds_positive t (pos (suc n)) ne says = (λ h. says.0, λ h. positive n)
+holds_positive t (negsuc n) ne says = (λ h. cc, λ h. absurd (says.1 h))
+
+pub holds_negative : (t : List ℤ) (l : ℤ) → l ≢ pos 0 → Says t (unsigned_abs l) Negative → IsTrue (lt_z l (pos 0)) ↔ Contains t l
+holds_negative t (pos zero) ne says = absurd (ne refl)
+holds_negative t (pos (suc n)) ne says = (λ h. absurd (not_below n h), λ h. absurd (says.0 h))
+holds_negative t (negsuc n) ne says = (λ h. says.1, λ h. refl)
+
+pub denies_positive : (t : List ℤ) (l : ℤ) → l ≢ pos 0 → Says t (unsigned_abs l) Positive → IsTrue (lt_z l (pos 0)) ↔ Contains t (neg_ℤ l)
+denies_positive t (pos zero) ne says = absurd (ne refl)
+denies_positive t (pos (suc n)) ne says = (λ h. absurd (not_below n h), λ h. absurd (says.1 h))
+denies_positive t (negsuc n) ne says = (λ h. says.0, λ h. refl)
+
+pub denies_negative : (t : List ℤ) (l : ℤ) → l ≢ pos 0 → Says t (unsigned_abs l) Negative → IsTrue (lt_z (pos 0) l) ↔ Contains t (neg_ℤ l)
+denies_negative t (pos zero) ne says = absurd (ne refl)
+denies_negative t (pos (suc n)) ne says = (λ h. says.1, λ h. positive n)
+denies_negative t (negsuc n) ne says = (λ h. cc, λ h. absurd (says.0 h))
+
+-- what the mark at the literal's variable was read as
+pub read_mark : (n : ℕ) (marks : List Mark) (t : List ℤ) (l : ℤ) (i : ℕ) (x m : Mark) → AreMarked n marks t → IsLiteral n l → i ≡ unsigned_abs l → x ≡ get_or marks i x → x ≡ m → Says t (unsigned_abs l) m
+read_mark n marks t l i x m are lit at read is =
+    let lt : i < length marks = omega (arith, are.places, lit.1, at) in
+    let e : get_or marks i Neither ≡ m = get_or_default marks i Neither x lt ∙ sym read ∙ is in
+    subst (Says t (unsigned_abs l)) (subst (λ j. get_or marks j Neither ≡ m) at e) (are.say (unsigned_abs l))
+
+no_other : (t : List ℤ) (l k : ℤ) → l ≢ k → (Contains t k → ⊥) → Contains (t ++ l ∷ []) k → ⊥
+no_other t l k ne none at = elim (Contains-push_cases t l k at) [ inl h ↦ none h | inr e ↦ ne e ]
+
+says_other : (t : List ℤ) (v : ℕ) (l : ℤ) (m : Mark) → l ≢ pos v → l ≢ neg_ℤ (pos v) → Says t v m → Says (t ++ l ∷ []) v m
+says_other t v l Neither p q says = (no_other t l _ p says.0, no_other t l _ q says.1)
+says_other t v l Positive p q says = (Contains-append_left t (l ∷ []) _ says.0, no_other t l _ q says.1)
+says_other t v l Negative p q says = (no_other t l _ p says.0, Contains-append_left t (l ∷ []) _ says.1)
+
+says_same : (t : List ℤ) (l : ℤ) → l ≢ pos 0 → (Contains t (neg_ℤ l) → ⊥) → Says (t ++ l ∷ []) (unsigned_abs l) (mark_of l)
+says_same t (pos zero) ne none = absurd (ne refl)
+says_same t (pos (suc n)) ne none = (Contains-push t _, no_other t _ _ (λ e. cc) none)
+says_same t (negsuc n) ne none = (no_other t _ _ (λ e. cc) none, Contains-push t _)
+
+abs_pos : (l : ℤ) (v : ℕ) → v ≢ unsigned_abs l → l ≢ pos v
+abs_pos l v ne e = ne (sym (ap unsigned_abs e))
+
+abs_neg_pos : (v : ℕ) → unsigned_abs (neg_ℤ (pos v)) ≡ v
+abs_neg_pos zero = refl
+abs_neg_pos (suc n) = refl
+
+abs_neg : (l : ℤ) (v : ℕ) → v ≢ unsigned_abs l → l ≢ neg_ℤ (pos v)
+abs_neg l v ne e = ne (sym (abs_neg_pos v) ∙ sym (ap unsigned_abs e))
+
+by_eq : {P : Type 0} (a b : ℕ) → (a ≡ b → P) → (a ≢ b → P) → P
+by_eq {P = P} a b y n = elim (a == b) as (λ r. (a == b) ≡ r → P) [ true ↦ λ e. y (grind (arith, nat_tests)) | false ↦ λ e. n (λ same. grind (arith, nat_tests)) ] refl
+
+pub marked_push : (n : ℕ) (marks : List Mark) (t : List ℤ) (l : ℤ) → AreMarked n marks t → IsLiteral n l → (Contains t l → ⊥) → (Contains t (neg_ℤ l) → ⊥) → AreMarked n (set marks (unsigned_abs l) (mark_of l)) (t ++ l ∷ [])
+marked_push n marks t l are lit not_held none = record {
+  small = are.small;
+  places = length-set marks (unsigned_abs l) (mark_of l) ∙ are.places;
+  are_literals = All-push (IsLiteral n) t l are.are_literals lit;
+  apart = all_pairs_push (λ a b. (a ≢ b) × (a ≢ neg_ℤ b)) t l are.apart (λ k d lt. (
+    λ e. not_held (subst (Contains t) e (Contains-get_or t k d lt)),
+    λ e. none (subst (Contains t) e (Contains-get_or t k d lt)),
+  ));
+  say = λ v. by_eq v (unsigned_abs l)
+      (λ e. let lt : unsigned_abs l < length marks = omega (arith, are.places, lit.1) in rw (e, get_or-set_same marks (unsigned_abs l) (mark_of l) Neither lt) (says_same t l lit.0 none))
+      (λ ne. rw (get_or-set_other marks (unsigned_abs l) v (mark_of l) Neither ne) (says_other t v l _ (abs_pos l v ne) (abs_neg l v ne) (are.say v)));
+}
+
+pub unmarked_none : (marks : List Mark) (t : List ℤ) → IsUnmarked marks marks (take 0 t)
+unmarked_none marks t = record { places = refl; gone = λ k d lt. absurd (omega arith); kept = λ v all. refl }
+
+pub unmarked_more : (old new : List Mark) (t : List ℤ) (i : ℕ) → i < length t → unsigned_abs (get_or t i (pos 0)) < length new → IsUnmarked old new (take i t) → IsUnmarked old (set new (unsigned_abs (get_or t i (pos 0))) Neither) (take (i + 1) t)
+unmarked_more old new t i lt inside un =
+    let a : ℕ = unsigned_abs (get_or t i (pos 0)) in
+    record {
+      places = length-set new a Neither ∙ un.places;
+      gone = All-more (λ l. get_or (set new a Neither) (unsigned_abs l) Neither ≡ Neither) t i (pos 0) lt
+          (All-weaker (λ l. get_or new (unsigned_abs l) Neither ≡ Neither) (λ l. get_or (set new a Neither) (unsigned_abs l) Neither ≡ Neither)
+          (λ l e. by_eq (unsigned_abs l) a (λ same. ap (λ w. get_or (set new a Neither) w Neither) same ∙ get_or-set_same new a Neither Neither inside) (λ ne. get_or-set_other new a (unsigned_abs l) Neither Neither ne ∙ e))
+          (take i t) un.gone)
+          (get_or-set_same new a Neither Neither inside);
+      kept = λ v all.
+          let parts : All (λ l. unsigned_abs l ≢ v) (take i t ++ get_or t i (pos 0) ∷ []) = subst (All (λ l. unsigned_abs l ≢ v)) (take_more t i lt) all in
+          let last : a ≢ v = All-contains (λ l. unsigned_abs l ≢ v) _ _ parts (Contains-push (take i t) (get_or t i (pos 0))) in
+          get_or-set_other new a v Neither Neither (λ e. last (sym e)) ∙ un.kept v (λ k d lt2. All-contains (λ l. unsigned_abs l ≢ v) _ _ parts (Contains-append_left (take i t) (get_or t i (pos 0) ∷ []) _ (Contains-get_or (take i t) k d lt2)));
+    }
+
+-- a variable is one of the literals', or of none
+among : (t : List ℤ) (v : ℕ) → ((l : ℤ) × Contains t l × (unsigned_abs l ≡ v)) ⊎ All (λ l. unsigned_abs l ≢ v) t
+among [] v = inr (All-nil (λ l. unsigned_abs l ≢ v))
+among (l ∷ t) v =
+    by_eq (unsigned_abs l) v
+    (λ e. inl (l, (0, omega arith, refl), e))
+    (λ ne. elim (among t v) [
+      | inl (k, at, e) ↦ inl (k, Contains-append_right (l ∷ []) t k at, e)
+      | inr none ↦ inr (All-cons (λ k. unsigned_abs k ≢ v) l t ne none)
+    ])
+
+-- literals of one variable are the same or opposed
+same_variable : (a b : ℤ) → unsigned_abs a ≡ unsigned_abs b → (a ≡ b) ⊎ (a ≡ neg_ℤ b)
+same_variable (pos n) (pos m) e = inl (ap pos e)
+same_variable (pos zero) (negsuc m) e = absurd (omega arith)
+same_variable (pos (suc n)) (negsuc m) e = inr (ap pos e)
+same_variable (negsuc n) (pos zero) e = absurd (omega arith)
+same_variable (negsuc n) (pos (suc m)) e = inr (ap negsuc (omega arith))
+same_variable (negsuc n) (negsuc m) e = inl (ap negsuc (omega arith))
+
+-- a variable of the later literals is none of the earlier ones'
+later : (t : List ℤ) (k : ℕ) (a b : ℤ) → AreApart t → Contains (take k t) a → Contains (drop k t) b → unsigned_abs a ≡ unsigned_abs b → ⊥
+later t k a b apart (i, lt, at) (j, lt2, at2) e =
+    let il : i < k = omega (arith, length-take k t) in
+    let in_ : i < length t = omega (arith, length-take k t) in
+    let jl : k + j < length t = omega (arith, length-drop k t) in
+    let first : get_or t i a ≡ a = sym (get_or-take k t i a il) ∙ at in
+    let second : get_or t (k + j) a ≡ b = get_or_default t (k + j) a b jl ∙ (sym (get_or-drop k t j b) ∙ at2) in
+    let p : (a ≢ b) × (a ≢ neg_ℤ b) = rw (← first, ← second) (apart i (k + j) a (omega arith) jl) in
+    elim (same_variable a b e) [ inl same ↦ p.0 same | inr opposed ↦ p.1 opposed ]
+
+says_part : (t u : List ℤ) (v : ℕ) (m : Mark) → ((l : ℤ) → unsigned_abs l ≡ v → Contains u l → Contains t l) → ((l : ℤ) → unsigned_abs l ≡ v → Contains t l → Contains u l) → Says t v m → Says u v m
+says_part t u v Neither down up says = (λ h. says.0 (down (pos v) refl h), λ h. says.1 (down (neg_ℤ (pos v)) (abs_neg_pos v) h))
+says_part t u v Positive down up says = (up (pos v) refl says.0, λ h. says.1 (down (neg_ℤ (pos v)) (abs_neg_pos v) h))
+says_part t u v Negative down up says = (λ h. says.0 (down (pos v) refl h), up (neg_ℤ (pos v)) (abs_neg_pos v) says.1)
+
+in_whole : (t : List ℤ) (k : ℕ) (l : ℤ) → Contains (take k t) l → Contains t l
+in_whole t k l at = subst (λ u. Contains u l) (take-append-drop k t) (Contains-append_left (take k t) (drop k t) l at)
+
+in_part : (t : List ℤ) (k : ℕ) (l : ℤ) → Contains t l → Contains (take k t) l ⊎ Contains (drop k t) l
+in_part t k l at = Contains-append_cases (take k t) (drop k t) l (subst (λ u. Contains u l) (sym (take-append-drop k t)) at)
+
+pub marked_take : (n : ℕ) (marks new : List Mark) (t : List ℤ) (k : ℕ) → AreMarked n marks t → IsUnmarked marks new (drop k t) → AreMarked n new (take k t)
+marked_take n marks new t k are un = record {
+  small = are.small;
+  places = un.places ∙ are.places;
+  are_literals = All-take (IsLiteral n) k t are.are_literals;
+  apart = λ i j d lt lt2.
+      let jk : j < k = omega (arith, length-take k t) in
+      let jl : j < length t = omega (arith, length-take k t) in
+      rw (get_or-take k t i d (omega arith), get_or-take k t j d jk) (are.apart i j d lt jl);
+  say = λ v. elim (among (drop k t) v) [
+    | inl (l, at, e) ↦ rw (← e, All-contains (λ l. get_or new (unsigned_abs l) Neither ≡ Neither) _ _ un.gone at)
+        (λ h. later t k _ l are.apart h at refl, λ h. later t k _ l are.apart h at (abs_neg_pos (unsigned_abs l)))
+    | inr none ↦ rw (un.kept v none) (says_part t (take k t) v _ (λ l e h. in_whole t k l h) (λ l e h. elim (in_part t k l h) [ inl a ↦ a | inr b ↦ absurd (All-contains (λ l. unsigned_abs l ≢ v) _ _ none b e) ]) (are.say v))
+  ];
+}

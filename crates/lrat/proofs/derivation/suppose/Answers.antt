@@ -1,0 +1,47 @@
+use Rattle.std.proofs.Common.{rules, ℤ, pos, neg_ℤ, SFits, w32, get_or, arith, map, ◌∙◌, ap, subst, inl, inr, unsigned_abs, ◌≤◌, ◌<◌}
+use Rattle.std.proofs.lemmas.List.{take_all}
+use Rattle.lrat.specs.Literals.{IsProper}
+use Rattle.lrat.proofs.Fit.{read32, not_true}
+use Rattle.lrat.proofs.Proper.{proper_at, denials_at, from_denial, neg_neg}
+use Rattle.lrat.proofs.derivation.suppose.Goals as goal
+use Rattle.lrat.proofs.derivation.suppose.Goals.{then-holds-via-then-holds, then-holds-via-else-holds+then-denies}
+use Rattle.std.specs.List.{Contains}
+
+pub returns-then-holds-clause-answer : goal.returns-then-holds-clause-answer
+returns-then-holds-clause-answer c =
+    let x : ℤ = get_or c.args.clause.now c.loop-literal.literal-index (pos 0) in
+    let f : SFits w32 x = search rules in
+    let le : unsigned_abs x ≤ c.vars-vars.result = rw (← read32 x f) (omega (arith, c.unsigned_abs.ensures.value, c.if-unsigned_abs-vars.false)) in (
+      c.loop-literal.literal-index,
+      c.loop-literal-test.true,
+      rw (← c.vars-vars.ensures.value) c.loop-literal.invariant.proper,
+      rw (← c.vars-vars.ensures.value) le,
+      elim c.then-holds.branch [
+        | then-holds-via-then-holds w ↦ inr (from_denial _ _ (subst (λ s. Contains s x) c.loop-literal.invariant.supposed (rw (read32 x f) at (c.holds.ensures.0 w.if-holds.true))))
+        | then-holds-via-else-holds+then-denies w ↦ inl (subst (Contains _) (neg_neg x) (from_denial _ _ (subst (λ s. Contains s (neg_ℤ x)) c.loop-literal.invariant.supposed (rw (read32 x f) at (w.denies.ensures.0 w.if-denies.true)))))
+      ],
+    )
+
+pub loop-literal-preserved : goal.loop-literal-preserved
+loop-literal-preserved c =
+    let x : ℤ = get_or c.args.clause.now c.loop-literal.literal-index (pos 0) in
+    let f : SFits w32 x = search rules in
+    let le : unsigned_abs x ≤ c.vars-vars.result = rw (← read32 x f) (omega (arith, c.unsigned_abs.ensures.value, c.if-unsigned_abs-vars.false)) in
+    record {
+      vars = search rules;
+      proper = proper_at _ _ _ _ c.loop-literal-test.true c.loop-literal.invariant.proper c.loop-literal.invariant.supposed le
+          (λ h. not_true c.holds.ensures.1 c.if-holds.false (rw (read32 x f) h)) (λ h. not_true c.denies.ensures.1 c.if-denies.false (rw (read32 x f) h));
+      supposed = c.in_ok-deny.ensures.ok ∙ (rw (read32 x f) (denials_at _ _ _ c.loop-literal-test.true c.loop-literal.invariant.supposed));
+    }
+
+pub returns-clause-answer : goal.returns-clause-answer
+returns-clause-answer c =
+    let e = take_all c.loop-literal.literal-index c.args.clause.now c.loop-literal-test.false in
+    (subst (λ u. IsProper c.args.trail.now.vars u) e (rw (← c.vars-vars.ensures.value) c.loop-literal.invariant.proper), c.loop-literal.invariant.supposed ∙ ap (map neg_ℤ) e)
+
+pub returns-then-unsigned_abs-vars-clause-answer : goal.returns-then-unsigned_abs-vars-clause-answer
+returns-then-unsigned_abs-vars-clause-answer c =
+    let x : ℤ = get_or c.args.clause.now c.loop-literal.literal-index (pos 0) in
+    let f : SFits w32 x = search rules in
+    let over : c.vars-vars.result < unsigned_abs x = rw (← read32 x f) (omega (arith, c.unsigned_abs.ensures.value, c.if-unsigned_abs-vars.true)) in
+    (c.loop-literal.literal-index, c.loop-literal-test.true, rw (← c.vars-vars.ensures.value) c.loop-literal.invariant.proper, rw (← c.vars-vars.ensures.value) over)

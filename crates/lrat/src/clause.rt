@@ -1,0 +1,40 @@
+//! Clauses.
+
+ghost use Rattle.std.specs.Prelude.{◌≡◌, IfOk};
+
+use smallvec::SmallVec;
+use std::alloc::{AllocError, Global};
+use std::marker::Model;
+
+/// A clause, which a contract sees as the list of its literals. Up to four take no memory of
+/// their own.
+#[derive(Drop)]
+pub struct Clause {
+    literals: SmallVec<i32, 4>,
+}
+
+impl Model for Clause {
+    ghost use Rattle.std.specs.Prelude.{ℤ, List};
+
+    ghost Value = { List ℤ };
+
+    ghost view = { λ c. c.literals.items };
+}
+
+impl Clause {
+    /// The clause of these literals.
+    pub fn from_slice(alloc: Global, literals: &[i32]) -> Result<Clause, AllocError>
+        ensures { IfOk result (λ c. c ≡ literals.now) }
+    {
+        Ok(Clause {
+            literals: SmallVec::from_slice(alloc, literals)?,
+        })
+    }
+
+    /// The literals in order.
+    pub fn as_slice(&self) -> &[i32]
+        ensures { result.now ≡ self.now }
+    {
+        self.literals.as_slice()
+    }
+}

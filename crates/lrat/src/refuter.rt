@@ -1,0 +1,202 @@
+//! Proofs, checked line by line.
+
+ghost use Rattle.std.specs.Prelude.{◌≡◌, ◌≢◌, ◌+◌, ◌<◌, ◌^◌, ◌⊎◌, Bool, true, false, None, Some, map, length, All, IfOk, IfErr, IfSome, OnOk, OnErr, unsigned_abs};
+ghost use Rattle.lrat.specs.Courses.{at_formula, at_units};
+ghost use Rattle.lrat.specs.Halts.{Halts, LacksOne};
+ghost use Rattle.lrat.specs.Limits.{IsFormula, IsHint, IsId, IsLine};
+ghost use Rattle.lrat.specs.Literals.{IsLiteral};
+ghost use Rattle.lrat.specs.Stages.{Stage, Goes, IsPositive, TakesOut};
+ghost use Rattle.lrat.specs.declared.fault.Fault.TheVariants.{OutOfMemory, NegativeHint, NoEmptyClause, UnknownId};
+ghost use Rattle.lrat.specs.declared.line.Line.TheVariants.{Add};
+
+use crate::derivation::derive_with;
+use crate::fault::Fault;
+use crate::formula::Formula;
+use crate::line::Line;
+use crate::stack::Stack;
+use crate::trail::Trail;
+use std::alloc::{AllocError, Global};
+use std::marker::Model;
+
+/// A refutation in progress, of a formula or of a formula with some literals as further clauses.
+/// After a refusal every further call answers that refusal.
+///
+/// It keeps one mark for each variable and one buffer of hints through all lines and all
+/// refutations. A line costs the literals of its clause and of the clauses that it hints, and
+/// the logarithm of their number for each id.
+#[derive(Drop)]
+pub struct Refuter {
+    /// holds nothing between lines
+    trail: Trail,
+    /// the clauses that are present, over those that all refutations share
+    stack: Stack,
+    /// the hints of the line in progress
+    hints: Vec<u32>,
+    /// whether the empty clause was added
+    closed: bool,
+    /// the first refusal
+    refusal: Option<Fault>,
+}
+
+impl Model for Refuter {
+    ghost use Rattle.lrat.specs.Courses.{Course, course_code, course_of, IsSteady};
+    ghost use Rattle.lrat.specs.contracts.fault.Fault as fault;
+
+    ghost Value = { Course };
+
+    ghost coded = { course_code fault.the_row.coded };
+
+    ghost view = { λ r. course_of r.stack r.closed r.refusal };
+
+    ghost invariant = { λ r. IsSteady r.trail r.stack };
+}
+
+impl Refuter {
+    /// At the formula, before the first line. It costs the formula's literals and variables.
+    pub fn new(alloc: Global, formula: &Formula) -> Result<Refuter, AllocError>
+        requires { IsFormula formula.now }
+        ensures { IfOk result (λ r. r ≡ at_formula formula.now) }
+    {
+        Ok(Refuter {
+            trail: Trail::new(alloc, formula.vars)?,
+            stack: Stack::new(alloc, formula)?,
+            hints: Vec::new(alloc),
+            closed: false,
+            refusal: None,
+        })
+    }
+
+    /// Begins anew at the formula of `new`, with each of these literals as a clause of its own
+    /// under the next ids. It costs what was fed since the last beginning, and the units.
+    pub fn begin(&mut self, alloc: Global, units: &[i32]) -> Result<(), Fault>
+        requires in_range { All (IsLiteral self.old.base.vars) units.now }
+        requires few { self.old.base.top + length units.now < 2 ^ 32 }
+        ensures base { self.new.base ≡ self.old.base }
+        ensures stands { IfSome self.old.refusal (λ e. (result ≡ Err e) × (self.new ≡ self.old)) }
+        ensures ok { OnOk result ((self.old.refusal ≡ None) × (self.new ≡ at_units self.old.base units.now)) }
+        ensures memory { IfErr result (λ e. self.old.refusal ≡ None → e ≡ OutOfMemory) }
+        ensures from_then { IfErr result (λ e. self.new.refusal ≡ Some e) }
+    {
+        if let Some(fault) = self.refusal {
+            return Err(fault);
+        }
+        self.closed = false;
+        self.stack.rewind();
+        if self.stack.add_units(alloc, units).is_err() {
+            self.refusal = Some(Fault::OutOfMemory);
+            return Err(Fault::OutOfMemory);
+        }
+        Ok(())
+    }
+
+    /// Checks the next line.
+    pub fn feed(&mut self, alloc: Global, line: &Line) -> Result<(), Fault>
+        requires { IsLine line.now }
+        ensures base { self.new.base ≡ self.old.base }
+        ensures stands { IfSome self.old.refusal (λ e. (result ≡ Err e) × (self.new ≡ self.old)) }
+        ensures ok { OnOk result ((self.old.refusal ≡ None) × (self.new.refusal ≡ None) × Goes self.old.base.vars self.old.stage line.now self.new.stage) }
+        ensures refused { IfErr result (λ e. self.old.refusal ≡ None → Halts self.old.base.vars self.old.stage line.now e) }
+        ensures complete { IfErr result (λ e. self.old.refusal ≡ None → e ≢ OutOfMemory → (t : Stage) → Goes self.old.base.vars self.old.stage line.now t → ⊥) }
+        ensures from_then { IfErr result (λ e. self.new.refusal ≡ Some e) }
+    {
+        if let Some(fault) = self.refusal {
+            return Err(fault);
+        }
+        let answer = self.advance(alloc, line);
+        if let Err(fault) = answer {
+            self.refusal = Some(fault);
+        }
+        answer
+    }
+
+    /// Says that no line is left. The empty clause must have been added.
+    pub fn finish(&mut self) -> Result<(), Fault>
+        ensures same { OnOk result (self.new ≡ self.old) }
+        ensures stands { IfSome self.old.refusal (λ e. (result ≡ Err e) × (self.new ≡ self.old)) }
+        ensures ok { OnOk result ((self.old.refusal ≡ None) × (self.old.stage.closed ≡ true)) }
+        ensures open_end { IfErr result (λ e. self.old.refusal ≡ None → (e ≡ NoEmptyClause) × (self.old.stage.closed ≡ false)) }
+        ensures from_then { IfErr result (λ e. self.new ≡ record self.old { refusal = Some e }) }
+    {
+        if let Some(fault) = self.refusal {
+            return Err(fault);
+        }
+        if !self.closed {
+            self.refusal = Some(Fault::NoEmptyClause);
+            return Err(Fault::NoEmptyClause);
+        }
+        Ok(())
+    }
+
+    /// Takes a line where nothing was refused yet.
+    fn advance(&mut self, alloc: Global, line: &Line) -> Result<(), Fault>
+        requires { IsLine line.now }
+        ensures base { self.new.base ≡ self.old.base }
+        ensures refusal { self.new.refusal ≡ self.old.refusal }
+        ensures ok { OnOk result (Goes self.old.base.vars self.old.stage line.now self.new.stage) }
+        ensures refused { IfErr result (λ e. Halts self.old.base.vars self.old.stage line.now e) }
+    {
+        if self.closed {
+            return Err(Fault::AfterEmpty);
+        }
+        match line {
+            Line::Add { id, clause, hints } => {
+                self.add(alloc, *id, clause.as_slice(), hints.as_slice())
+            }
+            Line::Delete { ids, .. } => take_out(&mut self.stack, ids.as_slice()),
+        }
+    }
+
+    /// Adds a clause where the empty clause wasn't added yet.
+    fn add(&mut self, alloc: Global, id: u32, clause: &[i32], hints: &[i64]) -> Result<(), Fault>
+        requires are_open { self.old.stage.closed ≡ false }
+        requires literals { All (IsLiteral 2147483647) clause.now }
+        requires hints { All IsHint hints.now }
+        ensures base { self.new.base ≡ self.old.base }
+        ensures refusal { self.new.refusal ≡ self.old.refusal }
+        ensures ok { OnOk result (Goes self.old.base.vars self.old.stage (Add id clause.now hints.now) self.new.stage) }
+        ensures refused { IfErr result (λ e. Halts self.old.base.vars self.old.stage (Add id clause.now hints.now) e) }
+    {
+        if id <= self.stack.top() {
+            return Err(Fault::IdOrder);
+        }
+        positive(&mut self.hints, hints)?;
+        derive_with(&mut self.trail, &self.stack, clause, self.hints.as_slice())?;
+        self.stack.add(alloc, id, clause)?;
+        self.closed = clause.is_empty();
+        Ok(())
+    }
+}
+
+/// Takes the clauses with these ids out, one after the other.
+fn take_out(stack: &mut Stack, ids: &[u32]) -> Result<(), Fault>
+    ensures base { stack.new.base ≡ stack.old.base }
+    ensures top { stack.new.top ≡ stack.old.top }
+    ensures ok { OnOk result (TakesOut stack.old.present ids.now stack.new.present) }
+    ensures refused { IfErr result (λ e. (e ≡ OutOfMemory) ⊎ ((e ≡ UnknownId) × LacksOne stack.old.present ids.now)) }
+{
+    for id in ids {
+        let was_present = stack.remove(*id)?;
+        if !was_present {
+            return Err(Fault::UnknownId);
+        }
+    }
+    Ok(())
+}
+
+/// Puts the hints into the buffer, where all of them are positive.
+fn positive(buffer: &mut Vec<u32>, hints: &[i64]) -> Result<(), Fault>
+    requires { All IsHint hints.now }
+    ensures ok { OnOk result (All IsPositive hints.now × (buffer.new.items ≡ map unsigned_abs hints.now)) }
+    ensures refused { IfErr result (λ e. (e ≡ OutOfMemory) ⊎ ((e ≡ NegativeHint) × (All IsPositive hints.now → ⊥))) }
+{
+    buffer.clear();
+    for hint in hints {
+        if *hint < 0 {
+            return Err(Fault::NegativeHint);
+        }
+        if buffer.push(hint.unsigned_abs() as u32).is_err() {
+            return Err(Fault::OutOfMemory);
+        }
+    }
+    Ok(())
+}

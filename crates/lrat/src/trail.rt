@@ -1,0 +1,142 @@
+//! The literals that are held true, in the order in which they came.
+
+ghost use Rattle.std.specs.Prelude.{◌≡◌, ℕ, ℤ, pos, neg_ℤ, ◌≤◌, ◌<◌, ◌^◌, List, [], ◌∷◌, ◌++◌, OnOk, OnErr, IfOk, IsTrue, ◌↔◌, Contains, All, length, take, unsigned_abs};
+ghost use Rattle.lrat.specs.Literals.{IsLiteral};
+ghost use Rattle.lrat.specs.Marks.{AreApart};
+
+use crate::mark::{Mark, mark_for, unmark};
+use std::alloc::{AllocError, Global};
+use std::marker::Model;
+
+/// Literals that are held true, no variable twice. One mark for each variable tells at once
+/// whether a literal is held, and going back costs what is given up.
+#[derive(Drop)]
+pub struct Trail {
+    /// the variables are those from 1 to this one
+    vars: u32,
+    /// for each variable, and for 0, which of its literals is among `literals`
+    marks: Vec<Mark>,
+    /// the literals held, in order
+    literals: Vec<i32>,
+}
+
+impl Model for Trail {
+    ghost use Rattle.lrat.specs.Assigned.{Assigned, assigned_code};
+
+    ghost Value = { Assigned };
+
+    ghost coded = { assigned_code };
+
+    ghost use Rattle.lrat.specs.Marks.{AreMarked};
+
+    ghost view = { λ a. record { vars = a.vars; literals = a.literals.items } };
+
+    ghost invariant = { λ a. AreMarked a.vars a.marks.items a.literals.items };
+}
+
+impl Trail {
+    /// A trail over the variables 1 to `vars` that holds nothing. It takes a byte for each.
+    pub fn new(alloc: Global, vars: u32) -> Result<Trail, AllocError>
+        requires { vars < 2 ^ 31 }
+        ensures { IfOk result (λ h. h ≡ record { vars = vars; literals = [] }) }
+    {
+        let marks = vec![in alloc; Mark::Neither; vars as usize + 1]?;
+        Ok(Trail {
+            vars,
+            marks,
+            literals: Vec::new(alloc),
+        })
+    }
+
+    /// The greatest variable.
+    pub fn vars(&self) -> u32
+        ensures value { result ≡ self.now.vars }
+        ensures fits { self.now.vars < 2 ^ 31 }
+    {
+        self.vars
+    }
+
+    /// Whether the literal is held true.
+    pub fn holds(&self, literal: i32) -> bool
+        requires { IsLiteral self.now.vars literal }
+        ensures { IsTrue result ↔ Contains self.now.literals literal }
+    {
+        match self.marks[literal.unsigned_abs() as usize] {
+            Mark::Neither => false,
+            Mark::Positive => literal > 0,
+            Mark::Negative => literal < 0,
+        }
+    }
+
+    /// Whether the literal's negation is held true.
+    pub fn denies(&self, literal: i32) -> bool
+        requires { IsLiteral self.now.vars literal }
+        ensures { IsTrue result ↔ Contains self.now.literals (neg_ℤ literal) }
+    {
+        match self.marks[literal.unsigned_abs() as usize] {
+            Mark::Neither => false,
+            Mark::Positive => literal < 0,
+            Mark::Negative => literal > 0,
+        }
+    }
+
+    /// Holds the literal true from now on. Without memory nothing changes.
+    pub fn set(&mut self, literal: i32) -> Result<(), AllocError>
+        requires in_range { IsLiteral self.old.vars literal }
+        requires not_held { Contains self.old.literals literal → ⊥ }
+        requires not_denied { Contains self.old.literals (neg_ℤ literal) → ⊥ }
+        ensures vars { self.new.vars ≡ self.old.vars }
+        ensures ok { OnOk result (self.new.literals ≡ self.old.literals ++ literal ∷ []) }
+        ensures err { OnErr result (self.new ≡ self.old) }
+    {
+        self.literals.push(literal)?;
+        self.marks[literal.unsigned_abs() as usize] = mark_for(literal);
+        Ok(())
+    }
+
+    /// Holds the literal's negation true from now on. Without memory nothing changes.
+    pub fn deny(&mut self, literal: i32) -> Result<(), AllocError>
+        requires in_range { IsLiteral self.old.vars literal }
+        requires not_held { Contains self.old.literals literal → ⊥ }
+        requires not_denied { Contains self.old.literals (neg_ℤ literal) → ⊥ }
+        ensures vars { self.new.vars ≡ self.old.vars }
+        ensures ok { OnOk result (self.new.literals ≡ self.old.literals ++ neg_ℤ literal ∷ []) }
+        ensures err { OnErr result (self.new ≡ self.old) }
+    {
+        let _vars = self.vars();
+        self.set(-literal)
+    }
+
+    /// The literals held true, in order.
+    pub fn literals(&self) -> &[i32]
+        ensures value { result.now ≡ self.now.literals }
+        ensures in_range { All (IsLiteral self.now.vars) self.now.literals }
+        ensures apart { AreApart self.now.literals }
+        ensures fits { self.now.vars < 2 ^ 31 }
+    {
+        self.literals.as_slice()
+    }
+
+    /// How many literals are held true.
+    pub fn len(&self) -> usize
+        ensures { result ≡ length self.now.literals }
+    {
+        self.literals.len()
+    }
+
+    /// Goes on holding only the first `len` literals. It costs the number of those that go.
+    pub fn truncate(&mut self, len: usize)
+        requires { len ≤ length self.old.literals }
+        ensures { self.new ≡ record { vars = self.old.vars; literals = take len self.old.literals } }
+    {
+        unmark(&mut self.marks, &self.literals[len..]);
+        self.literals.truncate(len);
+    }
+
+    /// Holds nothing true any more. It costs the number of literals that were held.
+    pub fn clear(&mut self)
+        ensures { self.new ≡ record { vars = self.old.vars; literals = [] } }
+    {
+        self.truncate(0);
+    }
+}
