@@ -1,0 +1,15 @@
+pub mod Filled
+pub mod Gates
+pub mod Evaluation
+pub mod Searching
+pub mod Ended
+pub mod Cycles
+pub mod Times
+pub mod Going
+pub mod Blank
+pub mod Listed
+pub mod Numbered
+pub mod Tabled
+pub mod Limits
+pub mod Shape
+pub mod Marking

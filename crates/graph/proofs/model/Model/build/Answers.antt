@@ -1,0 +1,5 @@
+use Rattle.graph.proofs.Shape.{exact_told}
+use Rattle.graph.proofs.model.Model.build.Goals as goal
+
+pub returns-in_err-order-clause-exact : goal.returns-in_err-order-clause-exact
+returns-in_err-order-clause-exact c = exact_told c.args.parts.now _ _ c.from_residual.ensures.1 c.in_err-order.ensures.refused

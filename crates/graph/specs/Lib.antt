@@ -1,0 +1,12 @@
+pub mod Valuation
+pub mod Runs
+pub mod Justice
+pub mod WellFormed
+pub mod Uses
+pub mod Faults
+pub mod Refusals
+pub mod Tables
+pub mod Search
+pub mod Symbols
+pub mod Taken
+pub mod File
