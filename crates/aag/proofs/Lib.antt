@@ -1,0 +1,11 @@
+pub mod JusticeLoops
+pub mod LineLaws
+pub mod JusticeLaws
+pub mod HeaderLaws
+pub mod CircuitLaws
+pub mod NameLaws
+pub mod SymbolLaws
+pub mod SymbolSteps
+pub mod TextLaws
+pub mod ReadLaws
+pub mod WritingLaws

@@ -1,0 +1,10 @@
+pub mod Lines
+pub mod Justice
+pub mod Sections
+pub mod Spelling
+pub mod Symbols
+pub mod Tail
+pub mod Whole
+pub mod Ascii
+pub mod Refusals
+pub mod Writing

@@ -1,0 +1,64 @@
+//! Justice properties: all their sizes, and then all their literals.
+
+ghost use Rattle.std.specs.Prelude.{◌≡◌, ◌≤◌};
+ghost use Rattle.scan.specs.Reading.{Gives};
+ghost use Rattle.aag.specs.Justice.{sizes_at, properties_at, justice_at};
+
+use crate::lines::{GREATEST, LiteralLine};
+use crate::refusal::{IN_SIZE, Refusal};
+use graph::{Lit, Seq};
+use scan::{Fault, field, lines};
+use std::alloc::Global;
+
+/// The sizes of as many properties as `count` says, and what follows their lines. A size with
+/// which there would be too many literals is refused.
+fn sizes(alloc: Global, count: u32, text: &[u8]) -> Result<(Vec<u32>, &[u8]), Fault<Refusal>>
+    ensures { Gives (λ x. (x.0.items, x.1.now)) result (sizes_at GREATEST count text.now) }
+{
+    let mut sizes = Vec::new(alloc);
+    let mut room = GREATEST;
+    let mut rest = text;
+    for _ in 0..count {
+        let (size, after) = field(rest, room, b'\n', IN_SIZE)?;
+        sizes.push(size)?;
+        room -= size;
+        rest = after;
+    }
+    Ok((sizes, rest))
+}
+
+/// The literals of properties of these sizes, and what follows their lines.
+fn properties<'a>(
+    alloc: Global,
+    max_var: u32,
+    sizes: &[u32],
+    text: &'a [u8],
+) -> Result<(Vec<Seq<Lit>>, &'a [u8]), Fault<Refusal>>
+    requires { max_var ≤ GREATEST }
+    ensures { Gives (λ x. (x.0.items, x.1.now)) result (properties_at max_var sizes.now text.now) }
+{
+    let mut properties = Vec::new(alloc);
+    let mut rest = text;
+    for size in sizes {
+        let (literals, after) = lines::<LiteralLine>(alloc, *size, rest, max_var)?;
+        properties.push(Seq::from_vec(literals))?;
+        rest = after;
+    }
+    Ok((properties, rest))
+}
+
+/// As many justice properties as `count` says, and what follows their lines.
+#[tactic(auto, unfolding(crate::specs::Justice::justice_at))]
+pub fn justice(
+    alloc: Global,
+    max_var: u32,
+    count: u32,
+    text: &[u8],
+) -> Result<(Seq<Seq<Lit>>, &[u8]), Fault<Refusal>>
+    requires { max_var ≤ GREATEST }
+    ensures { Gives (λ x. (x.0, x.1.now)) result (justice_at max_var count text.now) }
+{
+    let (sizes, rest) = sizes(alloc, count, text)?;
+    let (properties, rest) = properties(alloc, max_var, sizes.as_slice(), rest)?;
+    Ok((Seq::from_vec(properties), rest))
+}

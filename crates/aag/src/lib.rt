@@ -1,0 +1,32 @@
+//! Circuits as ASCII texts (AIGER 1.9).
+//!
+//! `read` answers the `AigerFile` that a text spells: a header of five to nine counts, a line for
+//! each input, latch, output, bad literal, constraint, justice size, justice literal, fairness
+//! literal and gate, a line for each symbol, and a comment.
+//!
+//! - `SpellsAscii` (`specs/Ascii.antt`) says which texts spell which files, as a relation between
+//!   a whole text and a file. `read` answers `Ok` exactly on the texts that spell one, with that
+//!   file; only want of memory can keep it from one.
+//! - A text that spells none is refused at its first fault, by the byte. A fault of a number is
+//!   told before what follows it. What no single line shows, as a cycle of gates, is told after
+//!   the last byte.
+//!
+//! One pass, and no memory beside the lists that are built: a list grows line by line, whatever
+//! count the header states.
+#![tactic(auto)]
+
+mod circuit;
+mod comment;
+mod header;
+mod justice;
+mod lines;
+mod name;
+mod reading;
+mod refusal;
+mod symbol;
+mod uses;
+
+pub use reading::read;
+
+#[cfg(test)]
+mod tests;

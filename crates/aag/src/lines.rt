@@ -1,0 +1,155 @@
+//! The lines of a circuit.
+
+ghost use Rattle.std.specs.Prelude.{◌≡◌, ◌≤◌};
+ghost use Rattle.scan.specs.Reading.{Gives};
+ghost use Rattle.scan.specs.Words.{any};
+ghost use Rattle.aag.specs.Lines.{greatest, literal_at, defines, next_at, reset_at, latch_at, gate_at};
+
+use crate::refusal::{IN_LITERAL, IN_RESET, Refusal};
+use graph::{Gate, Latch, Lit};
+use scan::{Fault, LineKind, byte, field, number, word};
+use std::alloc::Global;
+
+/// The greatest variable and the greatest count.
+pub const GREATEST: u32 = 4_194_303;
+
+/// A literal, and what follows the byte behind it.
+#[tactic(auto, unfolding(crate::specs::Lines::literal_at))]
+fn literal(text: &[u8], max_var: u32, end: u8) -> Result<(Lit, &[u8]), Fault<Refusal>>
+    requires { max_var ≤ GREATEST }
+    ensures { Gives (λ x. (x.0, x.1.now)) result (literal_at max_var any end text.now) }
+{
+    let (lit, rest) = field(text, 2 * max_var + 1, end, IN_LITERAL)?;
+    Ok((Lit(lit), rest))
+}
+
+/// A literal that defines its variable, and what follows the byte behind it.
+#[tactic(auto, unfolding(crate::specs::Lines::literal_at, scan::specs::Words::field_at))]
+fn defining(text: &[u8], max_var: u32, end: u8) -> Result<(Lit, &[u8]), Fault<Refusal>>
+    requires { max_var ≤ GREATEST }
+    ensures { Gives (λ x. (x.0, x.1.now)) result (literal_at max_var defines end text.now) }
+{
+    let (lit, rest) = number(text, 2 * max_var + 1, IN_LITERAL)?;
+    if lit % 2 == 1 || lit < 2 {
+        return Err(Fault::Text {
+            kind: Refusal::Defining,
+            left: text.len(),
+        });
+    }
+    let rest = byte(rest, end, IN_LITERAL)?;
+    Ok((Lit(lit), rest))
+}
+
+/// A latch's next literal, the byte that ends it, and what follows that.
+#[tactic(auto, unfolding(crate::specs::Lines::next_at))]
+fn next(text: &[u8], max_var: u32) -> Result<(Lit, u8, &[u8]), Fault<Refusal>>
+    requires { max_var ≤ GREATEST }
+    ensures { Gives (λ x. ((x.0, x.1), x.2.now)) result (next_at max_var text.now) }
+{
+    let (lit, end, rest) = word(text, 2 * max_var + 1, (b' ', b'\n'), IN_LITERAL)?;
+    Ok((Lit(lit), end, rest))
+}
+
+/// The reset of the latch with this literal, and what follows its line.
+#[tactic(auto, unfolding(crate::specs::Lines::reset_at, scan::specs::Words::field_at))]
+fn reset(text: &[u8], lit: Lit) -> Result<(Lit, &[u8]), Fault<Refusal>>
+    ensures { Gives (λ x. (x.0, x.1.now)) result (reset_at lit text.now) }
+{
+    let (reset, rest) = number(text, u32::MAX, IN_RESET)?;
+    if reset > 1 && reset != lit.0 {
+        return Err(Fault::Text {
+            kind: Refusal::Reset,
+            left: text.len(),
+        });
+    }
+    let rest = byte(rest, b'\n', IN_RESET)?;
+    Ok((Lit(reset), rest))
+}
+
+/// A line of an input.
+pub struct InputLine;
+
+impl LineKind for InputLine {
+    type Item = Lit;
+
+    type Context = u32;
+
+    type Refusal = Refusal;
+
+    ghost allows = { λ max_var. max_var ≤ greatest };
+
+    ghost at = { λ max_var. literal_at max_var defines 10 };
+
+    fn line(_alloc: Global, text: &[u8], max_var: u32) -> Result<(Lit, &[u8]), Fault<Refusal>> {
+        defining(text, max_var, b'\n')
+    }
+}
+
+/// A line of a literal that is only used.
+pub struct LiteralLine;
+
+impl LineKind for LiteralLine {
+    type Item = Lit;
+
+    type Context = u32;
+
+    type Refusal = Refusal;
+
+    ghost allows = { λ max_var. max_var ≤ greatest };
+
+    ghost at = { λ max_var. literal_at max_var any 10 };
+
+    fn line(_alloc: Global, text: &[u8], max_var: u32) -> Result<(Lit, &[u8]), Fault<Refusal>> {
+        literal(text, max_var, b'\n')
+    }
+}
+
+/// A line of a latch.
+pub struct LatchLine;
+
+impl LineKind for LatchLine {
+    type Item = Latch;
+
+    type Context = u32;
+
+    type Refusal = Refusal;
+
+    ghost allows = { λ max_var. max_var ≤ greatest };
+
+    ghost at = { latch_at };
+
+    #[tactic(auto, unfolding(crate::specs::Lines::latch_at, crate::specs::Lines::latch_end_at))]
+    fn line(_alloc: Global, text: &[u8], max_var: u32) -> Result<(Latch, &[u8]), Fault<Refusal>> {
+        let (lit, rest) = defining(text, max_var, b' ')?;
+        let (next, end, rest) = next(rest, max_var)?;
+        if end == b'\n' {
+            let reset = Lit(0);
+            return Ok((Latch { lit, next, reset }, rest));
+        }
+        let (reset, rest) = reset(rest, lit)?;
+        Ok((Latch { lit, next, reset }, rest))
+    }
+}
+
+/// A line of a gate.
+pub struct GateLine;
+
+impl LineKind for GateLine {
+    type Item = Gate;
+
+    type Context = u32;
+
+    type Refusal = Refusal;
+
+    ghost allows = { λ max_var. max_var ≤ greatest };
+
+    ghost at = { gate_at };
+
+    #[tactic(auto, unfolding(crate::specs::Lines::gate_at))]
+    fn line(_alloc: Global, text: &[u8], max_var: u32) -> Result<(Gate, &[u8]), Fault<Refusal>> {
+        let (lhs, rest) = defining(text, max_var, b' ')?;
+        let (rhs0, rest) = literal(rest, max_var, b' ')?;
+        let (rhs1, rest) = literal(rest, max_var, b'\n')?;
+        Ok((Gate { lhs, rhs0, rhs1 }, rest))
+    }
+}

@@ -1,0 +1,126 @@
+//! Symbols.
+
+ghost use Rattle.std.specs.Prelude.{◌≡◌, IfOk, IfErr};
+ghost use Rattle.scan.specs.Reading.{Gives};
+ghost use Rattle.graph.specs.Symbols.{symbol_counts, AreSymbols, IsName, IsFree};
+ghost use Rattle.aag.specs.Symbols.{kind_of, kind_at, label_at, symbol_at, symbols_at};
+ghost use Rattle.aag.specs.Whole.{Refuses, GivesOnly, Adds};
+
+use crate::comment::ends_symbols;
+use crate::name::name;
+use crate::refusal::{IN_SYMBOL, Refusal};
+use graph::{Parts, Seq, Symbol, SymbolKind, Symbols};
+use scan::{Fault, byte, number};
+use std::alloc::Global;
+
+/// The kind that this letter stands for.
+fn kind_of(letter: u8) -> Option<SymbolKind>
+    ensures { result ≡ kind_of letter }
+{
+    match letter {
+        b'i' => Some(SymbolKind::Input),
+        b'l' => Some(SymbolKind::Latch),
+        b'o' => Some(SymbolKind::Output),
+        b'b' => Some(SymbolKind::Bad),
+        b'c' => Some(SymbolKind::Constraint),
+        b'j' => Some(SymbolKind::Justice),
+        b'f' => Some(SymbolKind::Fairness),
+        _ => None,
+    }
+}
+
+/// The kind that the next letter stands for, and what follows the letter.
+#[tactic(auto, unfolding(crate::specs::Symbols::kind_at))]
+fn kind(text: &[u8]) -> Result<(SymbolKind, &[u8]), Fault<Refusal>>
+    ensures { Gives (λ x. (x.0, x.1.now)) result (kind_at text.now) }
+{
+    let [letter, rest @ ..] = text else {
+        return Err(Fault::Text {
+            kind: Refusal::Truncated,
+            left: 0,
+        });
+    };
+    match kind_of(*letter) {
+        Some(kind) => Ok((kind, rest)),
+        None => Err(Fault::Text {
+            kind: Refusal::Symbol,
+            left: text.len(),
+        }),
+    }
+}
+
+/// The name behind a symbol's position, and what follows its line.
+fn label(alloc: Global, text: &[u8]) -> Result<(Seq<u8>, &[u8]), Fault<Refusal>>
+    ensures value { Gives (λ x. (x.0, x.1.now)) result (label_at text.now) }
+    ensures named { IfOk result (λ x. IsName x.0) }
+{
+    let rest = byte(text, b' ', IN_SYMBOL)?;
+    name(alloc, rest)
+}
+
+/// Adds the next symbol, and answers what follows its line. What is wrong with its position goes
+/// before what is wrong behind it. After a refusal the symbols are of no use.
+fn add_symbol<'a>(
+    alloc: Global,
+    symbols: &mut Symbols,
+    text: &'a [u8],
+) -> Result<&'a [u8], Fault<Refusal>>
+    ensures added { IfOk result (λ rest. Adds symbols.old symbols.new (symbol_at text.now) rest.now) }
+    ensures refused { IfErr result (λ e. Refuses (λ s. IsFree symbols.old.counts symbols.old.symbols s.0) e (symbol_at text.now)) }
+{
+    let (kind, digits) = kind(text)?;
+    let (position, behind) = number(digits, u32::MAX, IN_SYMBOL)?;
+    let not_free = Fault::Text {
+        kind: Refusal::Symbol,
+        left: digits.len(),
+    };
+    match label(alloc, behind) {
+        Ok((name, rest)) => {
+            let symbol = Symbol {
+                kind,
+                position,
+                name,
+            };
+            if symbols.add(symbol)? {
+                Ok(rest)
+            } else {
+                Err(not_free)
+            }
+        }
+        Err(fault) => {
+            let symbol = Symbol {
+                kind,
+                position,
+                name: Seq::from_slice(alloc, b"?")?,
+            };
+            if symbols.add(symbol)? {
+                Err(fault)
+            } else {
+                Err(not_free)
+            }
+        }
+    }
+}
+
+/// The symbols of these parts that the text begins with, and what follows the last one's line.
+pub fn symbols<'a>(
+    alloc: Global,
+    parts: &Parts,
+    text: &'a [u8],
+) -> Result<(Symbols, &'a [u8]), Fault<Refusal>>
+    ensures value { GivesOnly (λ x. AreSymbols (symbol_counts parts.now) x.0) (λ x. (x.0.symbols, x.1.now)) result (symbols_at text.now) }
+    ensures counts { IfOk result (λ x. x.0.counts ≡ symbol_counts parts.now) }
+{
+    let mut symbols = Symbols::new(alloc, parts)?;
+    let mut rest = text;
+    for _ in 0..text.len() + 1 {
+        if ends_symbols(rest) {
+            return Ok((symbols, rest));
+        }
+        rest = add_symbol(alloc, &mut symbols, rest)?;
+    }
+    Err(Fault::Text {
+        kind: Refusal::Truncated,
+        left: 0,
+    })
+}

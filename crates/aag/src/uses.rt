@@ -1,0 +1,50 @@
+//! What a circuit says of its literals, between the latches and the gates.
+
+ghost use Rattle.std.specs.Prelude.{◌≡◌, ◌≤◌};
+ghost use Rattle.scan.specs.Reading.{Gives};
+ghost use Rattle.aag.specs.Sections.{uses_at};
+
+use crate::header::Header;
+use crate::justice::justice;
+use crate::lines::{GREATEST, LiteralLine};
+use crate::refusal::Refusal;
+use graph::{Lit, Seq};
+use scan::{Fault, lines};
+use std::alloc::Global;
+
+/// The lists of literals that are only used.
+#[derive(Debug, Drop)]
+pub struct Uses {
+    pub outputs: Seq<Lit>,
+    pub bad: Seq<Lit>,
+    pub constraints: Seq<Lit>,
+    pub justice: Seq<Seq<Lit>>,
+    pub fairness: Seq<Lit>,
+}
+
+/// As many outputs, bad literals, constraints, justice properties and fairness literals as the
+/// header states, and what follows their lines.
+#[tactic(auto, unfolding(crate::specs::Sections::uses_at))]
+pub fn read_uses(
+    alloc: Global,
+    header: Header,
+    text: &[u8],
+) -> Result<(Uses, &[u8]), Fault<Refusal>>
+    requires { header.max_var ≤ GREATEST }
+    ensures { Gives (λ x. (x.0, x.1.now)) result (uses_at header text.now) }
+{
+    let max_var = header.max_var;
+    let (outputs, rest) = lines::<LiteralLine>(alloc, header.outputs, text, max_var)?;
+    let (bad, rest) = lines::<LiteralLine>(alloc, header.bad, rest, max_var)?;
+    let (constraints, rest) = lines::<LiteralLine>(alloc, header.constraints, rest, max_var)?;
+    let (justice, rest) = justice(alloc, max_var, header.justice, rest)?;
+    let (fairness, rest) = lines::<LiteralLine>(alloc, header.fairness, rest, max_var)?;
+    let uses = Uses {
+        outputs: Seq::from_vec(outputs),
+        bad: Seq::from_vec(bad),
+        constraints: Seq::from_vec(constraints),
+        justice,
+        fairness: Seq::from_vec(fairness),
+    };
+    Ok((uses, rest))
+}
