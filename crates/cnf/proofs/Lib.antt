@@ -1,0 +1,11 @@
+pub mod Listed
+pub mod Values
+pub mod Frames
+pub mod CaseLaws
+pub mod Safety
+pub mod Formed
+pub mod Made
+pub mod Tabling
+pub mod Laid
+pub mod RunLaw
+pub mod Counted

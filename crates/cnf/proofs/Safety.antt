@@ -1,0 +1,75 @@
+-- An inductive invariant makes the circuit safe.
+use Rattle.std.proofs.Common.{◌≡◌, ℕ, suc, zero, ◌+◌, ◌*◌, ◌≤◌, Bool, true, false, ◌⊎◌, inl, inr, List, [], ◌∷◌, get_or, All, Some, slice_get, sym, ◌∙◌, subst}
+use Rattle.std.proofs.lemmas.Bool.{cases_Bool}
+use Rattle.std.proofs.lemmas.List.Elements.{All-nil, All-cons, All-head, All-tail}
+use Rattle.graph.specs.declared.circuit.Lit.{Lit}
+use Rattle.graph.specs.declared.parts.Parts.{Parts}
+use Rattle.graph.specs.Valuation.{value_of, Agrees}
+use Rattle.graph.specs.Runs.{IsInitial, IsStep, Steps, IsRun, KeepsConstraints}
+use Rattle.graph.specs.WellFormed.{IsWellFormed}
+use Rattle.cnf.specs.Formulas.{IsOverLatches}
+use Rattle.cnf.specs.Meaning.{extension_of, HoldsClause, Denies, DeniesNext, KeepsNow, IsKept}
+use Rattle.cnf.specs.Invariants.{IsInductive, SafetyLaw}
+use Rattle.cnf.proofs.Listed.{one_or_all}
+use Rattle.cnf.proofs.CaseLaws.{init_law, step_law, bad_law, next_value, bad_in_range}
+
+-- what is given of the invariant
+record IsGiven (m : Parts) (inv : List (List Lit)) (a : Lit) : Type 0 where
+  well : IsWellFormed m
+  overs : All (IsOverLatches m) inv
+  bad : a.0 ≤ 2 * m.max_var + 1
+  inductive_in : IsInductive m inv a
+
+abbrev HoldsAll : List (List Lit) → List Bool → Type 0
+HoldsAll inv w = All (HoldsClause w) inv
+
+holds_or_denies : (w : List Bool) (c : List Lit) → HoldsClause w c ⊎ Denies w c
+holds_or_denies w c = one_or_all (λ a. value_of w a ≡ true) (λ a. value_of w a ≡ false) c (λ a. cases_Bool (value_of w a))
+
+holds_first : (m : Parts) (inv : List (List Lit)) (a : Lit) (w : List Bool) → IsGiven m inv a → Agrees m w → IsInitial m w → HoldsAll inv w
+holds_first m inv a w given agrees initial k d k_in = elim (holds_or_denies w (get_or inv k d)) [
+  | inl holds ↦ holds
+  | inr denies ↦ absurd (given.inductive_in.begins k d k_in (extension_of w) ((init_law m (get_or inv k d) given.well (given.overs k d k_in) w agrees.valuation).0 (initial, denies)))
+]
+
+holds_next : (m : Parts) (inv : List (List Lit)) (a : Lit) (w x : List Bool) → IsGiven m inv a → IsKept m inv w → IsStep m w x → HoldsAll inv x
+holds_next m inv a w x given kept step k d k_in = elim (holds_or_denies x (get_or inv k d)) [
+  | inl holds ↦ holds
+  | inr denies ↦
+      let next : DeniesNext m w (get_or inv k d) = λ i b i_in. sym (next_value m w x (get_or (get_or inv k d) i b) given.well step (given.overs k d k_in i b i_in)) ∙ denies i b i_in in
+      absurd (given.inductive_in.goes_on k d k_in (extension_of w) ((step_law m inv (get_or inv k d) given.well given.overs (given.overs k d k_in) w kept.agrees.valuation).0 (kept, next)))
+]
+
+not_bad : (m : Parts) (inv : List (List Lit)) (a : Lit) (w : List Bool) → IsGiven m inv a → IsKept m inv w → value_of w a ≡ false
+not_bad m inv a w given kept = elim (cases_Bool (value_of w a)) [
+  | inl on ↦ absurd (given.inductive_in.excludes (extension_of w) ((bad_law m inv a given.well given.overs given.bad w kept.agrees.valuation).0 (kept, on)))
+  | inr off ↦ off
+]
+
+-- along a run that keeps the constraints
+never_bad : (m : Parts) (inv : List (List Lit)) (a : Lit) (w : List Bool) (r : List (List Bool)) → IsGiven m inv a → All (Agrees m) (w ∷ r) → KeepsConstraints m (w ∷ r) → Steps m (w ∷ r) →
+    HoldsAll inv w → All (λ x. value_of x a ≡ false) (w ∷ r)
+never_bad m inv a w [] given agrees keeps steps holds =
+    let kept : IsKept m inv w = record { agrees = All-head (Agrees m) w [] agrees; keeps = All-head (KeepsNow m) w [] keeps; holds = holds } in
+    All-cons (λ x. value_of x a ≡ false) w [] (not_bad m inv a w given kept) (All-nil (λ x. value_of x a ≡ false))
+never_bad m inv a w (x ∷ r) given agrees keeps steps holds =
+    let kept : IsKept m inv w = record { agrees = All-head (Agrees m) w (x ∷ r) agrees; keeps = All-head (KeepsNow m) w (x ∷ r) keeps; holds = holds } in
+    All-cons (λ y. value_of y a ≡ false) w (x ∷ r) (not_bad m inv a w given kept)
+    (never_bad m inv a x r given (All-tail (Agrees m) w (x ∷ r) agrees) (All-tail (KeepsNow m) w (x ∷ r) keeps) steps.1 (holds_next m inv a w x given kept steps.0))
+
+get_in_range : (P : Lit → Type 0) (xs : List Lit) (n : ℕ) (a : Lit) → All P xs → slice_get xs n ≡ Some a → P a
+get_in_range P [] n a all e = cc
+get_in_range P (x ∷ xs) zero a all e = let same : x ≡ a = cc in subst P same (All-head P x xs all)
+get_in_range P (x ∷ xs) (suc n) a all e = get_in_range P xs n a (All-tail P x xs all) e
+
+run_safe : (m : Parts) (inv : List (List Lit)) (a : Lit) (r : List (List Bool)) → IsGiven m inv a → IsRun m r → KeepsConstraints m r → All (λ w. value_of w a ≡ false) r
+run_safe m inv a [] given run keeps = All-nil (λ w. value_of w a ≡ false)
+run_safe m inv a (w ∷ r) given run keeps =
+    never_bad m inv a w r given run.agrees keeps run.steps (holds_first m inv a w given (All-head (Agrees m) w r run.agrees) run.starts)
+
+pub safety_law : (m : Parts) (inv : List (List Lit)) → IsWellFormed m → All (IsOverLatches m) inv → SafetyLaw m inv
+safety_law m inv well overs n a named inductive_in r b run keeps named_too =
+    let same : a ≡ b = cc in
+    let range : a.0 ≤ 2 * m.max_var + 1 = get_in_range (λ x. x.0 ≤ 2 * m.max_var + 1) m.bad n a (bad_in_range m well) named in
+    subst (λ (x : Lit). All (λ w. value_of w x ≡ false) r) same
+    (run_safe m inv a r (record { well = well; overs = overs; bad = range; inductive_in = inductive_in }) run keeps)

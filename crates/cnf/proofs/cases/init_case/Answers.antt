@@ -1,0 +1,19 @@
+use Rattle.std.proofs.Common.{rules, ◌≡◌, sym, subst}
+use Rattle.lrat.specs.Limits.{IsFormula}
+use Rattle.cnf.specs.Formulas.{init_formula, IsOver}
+use Rattle.cnf.proofs.CaseLaws.{init_law}
+use Rattle.cnf.proofs.Formed.{init_formed, init_over}
+use Rattle.cnf.proofs.cases.init_case.Goals as goal
+
+pub returns-clause-is_formula : goal.returns-clause-is_formula
+returns-clause-is_formula c =
+    let e : c.formula.result ≡ init_formula c.args.model.now c.args.clause.now = search rules in
+    subst (λ f. IsFormula f) (sym e) (init_formed c.args.model.now c.args.clause.now c.parts.ensures.well_formed c.requires)
+
+pub returns-clause-variables : goal.returns-clause-variables
+returns-clause-variables c =
+    let e : c.formula.result ≡ init_formula c.args.model.now c.args.clause.now = search rules in
+    subst (λ f. IsOver c.args.model.now 1 f.clauses) (sym e) (init_over c.args.model.now c.args.clause.now c.requires.over)
+
+pub returns-clause-meaning : goal.returns-clause-meaning
+returns-clause-meaning c = init_law c.args.model.now c.args.clause.now c.parts.ensures.well_formed c.requires.over

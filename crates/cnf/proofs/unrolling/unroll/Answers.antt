@@ -1,0 +1,13 @@
+use Rattle.std.proofs.Common.{arith}
+use Rattle.cnf.proofs.RunLaw.{unroll_law}
+use Rattle.cnf.proofs.Counted.{unroll_over, unroll_formed}
+use Rattle.cnf.proofs.unrolling.unroll.Goals as goal
+
+pub returns-clause-is_formula : goal.returns-clause-is_formula
+returns-clause-is_formula c = rw (c.max_var.ensures, c.in_ok-clauses.ensures) (unroll_formed c.args.model.now c.args.steps c.parts.ensures.well_formed (omega arith))
+
+pub returns-clause-variables : goal.returns-clause-variables
+returns-clause-variables c = rw c.in_ok-clauses.ensures (unroll_over c.args.model.now c.args.steps c.parts.ensures.well_formed)
+
+pub returns-clause-meaning : goal.returns-clause-meaning
+returns-clause-meaning c = unroll_law c.args.model.now c.args.steps c.parts.ensures.well_formed

@@ -1,0 +1,72 @@
+//! The cases of an invariant: each is to have no satisfying assignment.
+
+ghost use Rattle.std.specs.Prelude.{◌≡◌, ◌<◌, IfOk, length};
+ghost use Rattle.lrat.specs.Limits.{IsFormula};
+ghost use Rattle.cnf.specs.Formulas.{init_formula, step_formula, bad_formula, bad_literal, clause_at, IsClause, IsInvariant, IsOver};
+ghost use Rattle.cnf.specs.Meaning.{InitLaw, StepLaw, BadLaw};
+
+use crate::bases::{formula, shared_clauses, start_clauses};
+use crate::error::CnfError;
+use crate::next_table::NextTable;
+use crate::push::push_units;
+use crate::units::{bad_unit, init_units, step_units};
+use graph::{Lit, Model, Seq};
+use lrat::Formula;
+use std::alloc::Global;
+
+/// The case that an initial state does not satisfy the clause.
+pub fn init_case(alloc: Global, model: &Model, clause: &[Lit]) -> Result<Formula, CnfError>
+    requires { IsClause model.now clause.now }
+    ensures formula { IfOk result (λ f. f ≡ init_formula model.now clause.now) }
+    ensures is_formula { IfOk result (λ f. IsFormula f) }
+    ensures variables { IfOk result (λ f. IsOver model.now 1 f.clauses) }
+    ensures meaning { IfOk result (λ _. InitLaw model.now clause.now) }
+{
+    model.parts();
+    let mut clauses = start_clauses(alloc, model)?;
+    let units = init_units(alloc, model, clause)?;
+    push_units(alloc, &mut clauses, units.as_slice())?;
+    Ok(formula(model, clauses))
+}
+
+/// The case that a step from a state of the invariant does not satisfy its clause at position `k`.
+pub fn step_case(
+    alloc: Global,
+    model: &Model,
+    invariant: &[Seq<Lit>],
+    k: usize,
+) -> Result<Formula, CnfError>
+    requires invariant { IsInvariant model.now invariant.now }
+    requires in_range { k < length invariant.now }
+    ensures formula { IfOk result (λ f. f ≡ step_formula model.now invariant.now (clause_at invariant.now k)) }
+    ensures is_formula { IfOk result (λ f. IsFormula f) }
+    ensures variables { IfOk result (λ f. IsOver model.now 1 f.clauses) }
+    ensures meaning { IfOk result (λ _. StepLaw model.now invariant.now (clause_at invariant.now k)) }
+{
+    model.parts();
+    let mut clauses = shared_clauses(alloc, model, invariant)?;
+    let table = NextTable::new(alloc, model)?;
+    let units = step_units(alloc, model, &table, invariant[k].as_slice())?;
+    push_units(alloc, &mut clauses, units.as_slice())?;
+    Ok(formula(model, clauses))
+}
+
+/// The case that a state of the invariant sets the bad literal at position `bad`.
+pub fn bad_case(
+    alloc: Global,
+    model: &Model,
+    invariant: &[Seq<Lit>],
+    bad: u32,
+) -> Result<Formula, CnfError>
+    requires invariant { IsInvariant model.now invariant.now }
+    requires in_range { bad < length model.now.bad }
+    ensures formula { IfOk result (λ f. f ≡ bad_formula model.now invariant.now (bad_literal model.now bad)) }
+    ensures is_formula { IfOk result (λ f. IsFormula f) }
+    ensures variables { IfOk result (λ f. IsOver model.now 1 f.clauses) }
+    ensures meaning { IfOk result (λ _. BadLaw model.now invariant.now (bad_literal model.now bad)) }
+{
+    model.parts();
+    let mut clauses = shared_clauses(alloc, model, invariant)?;
+    push_units(alloc, &mut clauses, &[bad_unit(model, bad)])?;
+    Ok(formula(model, clauses))
+}

@@ -1,0 +1,34 @@
+//! Circuits as clauses (Tseitin 1968), and the cases that show an invariant.
+//!
+//! - `frame` is satisfied exactly by the valuations that agree with the circuit's gates.
+//! - `init_case`, `step_case` and `bad_case` are the cases of an invariant, a list of clauses over
+//!   the latches. Where nothing satisfies any of them, the circuit is safe: no run that keeps the
+//!   constraints sets the bad literal.
+//! - `start_base` and `shared_base` are what cases begin with, and `init_units`, `step_units` and
+//!   `bad_unit` the literals that follow, each as a clause of its own. So all cases can be checked
+//!   over two formulas.
+//! - `unroll` is satisfied exactly by the runs of a number of steps that keep the constraints.
+//!
+//! Each formula is the list of clauses that `specs/` names, in its order. Variable `v` of the
+//! circuit is variable `v` of the clauses, and the one above the greatest is true. Each call costs
+//! what the formula is long; a case costs its circuit and its invariant.
+#![tactic(auto)]
+
+mod bases;
+mod cases;
+mod error;
+mod next_table;
+mod push;
+#[cfg(test)]
+mod tests;
+mod time;
+mod units;
+mod unrolling;
+
+pub use bases::{frame, shared_base, start_base};
+pub use cases::{bad_case, init_case, step_case};
+pub use error::CnfError;
+pub use next_table::NextTable;
+pub use time::Time;
+pub use units::{bad_unit, init_units, step_units};
+pub use unrolling::unroll;

@@ -1,0 +1,167 @@
+//! Lists of clauses in the making.
+
+ghost use Rattle.std.specs.Prelude.{◌≡◌, ◌<◌, ◌+◌, ◌^◌, ◌++◌, ◌∷◌, [], All, map, flat_map, OnOk};
+ghost use Rattle.lrat.specs.Shared.{unit_clauses};
+ghost use Rattle.cnf.specs.Clauses.{literal, denial, gate_clauses, reset_clauses};
+ghost use Rattle.cnf.specs.Formulas.{IsGateIn, IsInRange};
+
+use crate::time::Time;
+use graph::{Gate, Latch, Lit, Seq};
+use lrat::Clause;
+use std::alloc::{AllocError, Global};
+
+/// Adds a clause.
+pub fn push(alloc: Global, clauses: &mut Seq<Clause>, clause: &[i32]) -> Result<(), AllocError>
+    ensures { OnOk result (clauses.new ≡ clauses.old ++ clause.now ∷ []) }
+{
+    clauses.push(Clause::from_slice(alloc, clause)?)?;
+    Ok(())
+}
+
+/// Adds each literal as a clause of its own.
+pub fn push_units(
+    alloc: Global,
+    clauses: &mut Seq<Clause>,
+    literals: &[i32],
+) -> Result<(), AllocError>
+    ensures { OnOk result (clauses.new ≡ clauses.old ++ unit_clauses literals.now) }
+{
+    for literal in literals {
+        push(alloc, clauses, &[*literal])?;
+    }
+    Ok(())
+}
+
+/// Adds the literals of clauses for literals of the circuit.
+pub fn push_literals(literals: &mut Vec<i32>, time: Time, lits: &[Lit]) -> Result<(), AllocError>
+    requires fits { time.offset + time.max_var + 1 < 2 ^ 31 }
+    requires in_range { All (IsInRange time.max_var) lits.now }
+    ensures { OnOk result (literals.new.items ≡ literals.old.items ++ map (literal time.max_var time.offset) lits.now) }
+{
+    for lit in lits {
+        literals.push(time.literal(*lit))?;
+    }
+    Ok(())
+}
+
+/// Adds their negations.
+pub fn push_denials(literals: &mut Vec<i32>, time: Time, lits: &[Lit]) -> Result<(), AllocError>
+    requires fits { time.offset + time.max_var + 1 < 2 ^ 31 }
+    requires in_range { All (IsInRange time.max_var) lits.now }
+    ensures { OnOk result (literals.new.items ≡ literals.old.items ++ map (denial time.max_var time.offset) lits.now) }
+{
+    for lit in lits {
+        literals.push(time.denial(*lit))?;
+    }
+    Ok(())
+}
+
+/// Adds each literal of the circuit as a unit.
+pub fn push_constraints(
+    alloc: Global,
+    clauses: &mut Seq<Clause>,
+    time: Time,
+    lits: &[Lit],
+) -> Result<(), AllocError>
+    requires fits { time.offset + time.max_var + 1 < 2 ^ 31 }
+    requires in_range { All (IsInRange time.max_var) lits.now }
+    ensures { OnOk result (clauses.new ≡ clauses.old ++ unit_clauses (map (literal time.max_var time.offset) lits.now)) }
+{
+    for lit in lits {
+        push(alloc, clauses, &[time.literal(*lit)])?;
+    }
+    Ok(())
+}
+
+fn push_gate(
+    alloc: Global,
+    clauses: &mut Seq<Clause>,
+    time: Time,
+    gate: Gate,
+) -> Result<(), AllocError>
+    requires fits { time.offset + time.max_var + 1 < 2 ^ 31 }
+    requires in_range { IsGateIn time.max_var gate }
+    ensures { OnOk result (clauses.new ≡ clauses.old ++ gate_clauses time.max_var time.offset gate) }
+{
+    let left = time.literal(gate.lhs);
+    let not_left = time.denial(gate.lhs);
+    push(alloc, clauses, &[not_left, time.literal(gate.rhs0)])?;
+    push(alloc, clauses, &[not_left, time.literal(gate.rhs1)])?;
+    push(
+        alloc,
+        clauses,
+        &[left, time.denial(gate.rhs0), time.denial(gate.rhs1)],
+    )?;
+    Ok(())
+}
+
+/// Adds the clauses of the gates.
+pub fn push_gates(
+    alloc: Global,
+    clauses: &mut Seq<Clause>,
+    time: Time,
+    gates: &[Gate],
+) -> Result<(), AllocError>
+    requires fits { time.offset + time.max_var + 1 < 2 ^ 31 }
+    requires in_range { All (IsGateIn time.max_var) gates.now }
+    ensures { OnOk result (clauses.new ≡ clauses.old ++ flat_map (gate_clauses time.max_var time.offset) gates.now) }
+{
+    for gate in gates {
+        push_gate(alloc, clauses, time, *gate)?;
+    }
+    Ok(())
+}
+
+fn push_reset(
+    alloc: Global,
+    clauses: &mut Seq<Clause>,
+    time: Time,
+    latch: Latch,
+) -> Result<(), AllocError>
+    requires fits { time.offset + time.max_var + 1 < 2 ^ 31 }
+    requires in_range { IsInRange time.max_var latch.lit }
+    ensures { OnOk result (clauses.new ≡ clauses.old ++ reset_clauses time.max_var time.offset latch) }
+{
+    match latch.reset.0 {
+        0 => push(alloc, clauses, &[time.denial(latch.lit)]),
+        1 => push(alloc, clauses, &[time.literal(latch.lit)]),
+        _ => Ok(()),
+    }
+}
+
+/// Adds the units of the latches that are reset to a value.
+pub fn push_resets(
+    alloc: Global,
+    clauses: &mut Seq<Clause>,
+    time: Time,
+    latches: &[Latch],
+) -> Result<(), AllocError>
+    requires fits { time.offset + time.max_var + 1 < 2 ^ 31 }
+    requires in_range { All (λ l. IsInRange time.max_var l.lit) latches.now }
+    ensures { OnOk result (clauses.new ≡ clauses.old ++ flat_map (reset_clauses time.max_var time.offset) latches.now) }
+{
+    for latch in latches {
+        push_reset(alloc, clauses, time, *latch)?;
+    }
+    Ok(())
+}
+
+/// Adds the clauses of an invariant.
+pub fn push_invariant(
+    alloc: Global,
+    clauses: &mut Seq<Clause>,
+    time: Time,
+    invariant: &[Seq<Lit>],
+) -> Result<(), AllocError>
+    requires fits { time.offset + time.max_var + 1 < 2 ^ 31 }
+    requires in_range { All (λ c. All (IsInRange time.max_var) c) invariant.now }
+    ensures { OnOk result (clauses.new ≡ clauses.old ++ map (map (literal time.max_var time.offset)) invariant.now) }
+{
+    let mut literals = Vec::new(alloc);
+    for clause in invariant {
+        literals.clear();
+        push_literals(&mut literals, time, clause.as_slice())?;
+        push(alloc, clauses, literals.as_slice())?;
+    }
+    Ok(())
+}

@@ -1,0 +1,58 @@
+//! The units that make a case of what the cases share.
+
+ghost use Rattle.std.specs.Prelude.{◌≡◌, ◌+◌, ◌<◌, All, IfOk, length};
+ghost use Rattle.lrat.specs.Literals.{IsLiteral};
+ghost use Rattle.cnf.specs.Clauses.{init_units as init_units_of, step_units as step_units_of, literal};
+ghost use Rattle.cnf.specs.Formulas.{IsOverLatches, bad_literal};
+ghost use Rattle.cnf.specs.Tables.{IsTableOf};
+
+use crate::error::CnfError;
+use crate::next_table::NextTable;
+use crate::push::push_denials;
+use crate::time::Time;
+use graph::{Lit, Model};
+use std::alloc::Global;
+
+/// The units of the initial case of a clause: each of its literals is denied.
+pub fn init_units(alloc: Global, model: &Model, clause: &[Lit]) -> Result<Vec<i32>, CnfError>
+    requires { IsOverLatches model.now clause.now }
+    ensures units { IfOk result (λ v. v.items ≡ init_units_of model.now clause.now) }
+    ensures in_range { IfOk result (λ v. All (IsLiteral (model.now.max_var + 1)) v.items) }
+{
+    model.parts();
+    let mut units = Vec::new(alloc);
+    push_denials(&mut units, Time::first(model), clause)?;
+    Ok(units)
+}
+
+/// The units of the step case of a clause: each of its literals is denied, with its latch replaced
+/// by that latch's next literal.
+pub fn step_units(
+    alloc: Global,
+    model: &Model,
+    table: &NextTable,
+    clause: &[Lit],
+) -> Result<Vec<i32>, CnfError>
+    requires over { IsOverLatches model.now clause.now }
+    requires table { IsTableOf model.now.latches table.now }
+    ensures units { IfOk result (λ v. v.items ≡ step_units_of model.now clause.now) }
+    ensures in_range { IfOk result (λ v. All (IsLiteral (model.now.max_var + 1)) v.items) }
+{
+    model.parts();
+    let time = Time::first(model);
+    let mut units = Vec::new(alloc);
+    for lit in clause {
+        units.push(time.denial(table.next_of(*lit)))?;
+    }
+    Ok(units)
+}
+
+/// The unit of the bad case of the bad literal at a position.
+pub fn bad_unit(model: &Model, bad: u32) -> i32
+    requires { bad < length model.now.bad }
+    ensures unit { result ≡ literal model.now.max_var 0 (bad_literal model.now bad) }
+    ensures in_range { IsLiteral (model.now.max_var + 1) result }
+{
+    model.parts();
+    Time::first(model).literal(model.bad()[bad as usize])
+}

@@ -1,0 +1,133 @@
+//! A circuit over several times.
+
+ghost use Rattle.std.specs.Prelude.{◌≡◌, ◌<◌, ◌≤◌, ◌+◌, ◌*◌, ◌^◌, ◌++◌, ◌⊎◌, All, flat_map, IfOk, IfErr, OnOk};
+ghost use Rattle.lrat.specs.Limits.{IsFormula};
+ghost use Rattle.graph.specs.WellFormed.{IsWellFormed};
+ghost use Rattle.cnf.specs.Clauses.{time_clauses};
+ghost use Rattle.cnf.specs.Formulas.{IsInRange, IsOver};
+ghost use Rattle.cnf.specs.Unrolled.{join_clauses, times_from, unroll_clauses as unroll_list, unroll_formula, UnrollLaw};
+ghost use Rattle.cnf.specs.declared.error.CnfError.TheVariants.{Limit, OutOfMemory};
+
+use crate::error::CnfError;
+use crate::push::{push, push_constraints, push_gates, push_resets};
+use crate::time::Time;
+use graph::{Latch, Model, Seq};
+use lrat::{Clause, Formula};
+use std::alloc::{AllocError, Global};
+
+/// The greatest number of steps.
+const GREATEST: u32 = 255;
+
+/// Truth, gates and constraints of one time.
+fn push_time(
+    alloc: Global,
+    clauses: &mut Seq<Clause>,
+    model: &Model,
+    time: Time,
+) -> Result<(), AllocError>
+    requires max_var { time.max_var ≡ model.now.max_var }
+    requires fits { time.offset + time.max_var + 1 < 2 ^ 31 }
+    ensures { OnOk result (clauses.new ≡ clauses.old ++ time_clauses model.now time.offset) }
+{
+    model.parts();
+    push(alloc, clauses, &[time.truth()])?;
+    push_gates(alloc, clauses, time, model.gates())?;
+    push_constraints(alloc, clauses, time, model.constraints())?;
+    Ok(())
+}
+
+/// A latch at the next time has the value of its next literal at this one.
+fn push_join(
+    alloc: Global,
+    clauses: &mut Seq<Clause>,
+    time: Time,
+    latch: Latch,
+) -> Result<(), AllocError>
+    requires fits { time.offset + 2 * (time.max_var + 1) < 2 ^ 31 }
+    requires lit { IsInRange time.max_var latch.lit }
+    requires next { IsInRange time.max_var latch.next }
+    ensures { OnOk result (clauses.new ≡ clauses.old ++ join_clauses time.max_var time.offset latch) }
+{
+    let after = time.next();
+    push(
+        alloc,
+        clauses,
+        &[after.denial(latch.lit), time.literal(latch.next)],
+    )?;
+    push(
+        alloc,
+        clauses,
+        &[after.literal(latch.lit), time.denial(latch.next)],
+    )?;
+    Ok(())
+}
+
+/// Each latch takes over the value of its next literal.
+fn push_joins(
+    alloc: Global,
+    clauses: &mut Seq<Clause>,
+    time: Time,
+    latches: &[Latch],
+) -> Result<(), AllocError>
+    requires fits { time.offset + 2 * (time.max_var + 1) < 2 ^ 31 }
+    requires lits { All (λ l. IsInRange time.max_var l.lit) latches.now }
+    requires nexts { All (λ l. IsInRange time.max_var l.next) latches.now }
+    ensures { OnOk result (clauses.new ≡ clauses.old ++ flat_map (join_clauses time.max_var time.offset) latches.now) }
+{
+    for latch in latches {
+        push_join(alloc, clauses, time, *latch)?;
+    }
+    Ok(())
+}
+
+/// The first time and `steps` more.
+fn push_times(
+    alloc: Global,
+    clauses: &mut Seq<Clause>,
+    model: &Model,
+    steps: u32,
+) -> Result<(), AllocError>
+    requires { steps ≤ 255 }
+    ensures { OnOk result (clauses.new ≡ clauses.old ++ times_from model.now steps 0) }
+{
+    model.parts();
+    let mut time = Time::first(model);
+    for _step in 0..steps {
+        push_time(alloc, clauses, model, time)?;
+        push_joins(alloc, clauses, time, model.latches())?;
+        time = time.next();
+    }
+    push_time(alloc, clauses, model, time)?;
+    Ok(())
+}
+
+fn unroll_clauses(alloc: Global, model: &Model, steps: u32) -> Result<Seq<Clause>, AllocError>
+    requires { steps ≤ 255 }
+    ensures { IfOk result (λ s. s ≡ unroll_list model.now steps) }
+{
+    model.parts();
+    let mut clauses = Seq::new(alloc);
+    push_resets(alloc, &mut clauses, Time::first(model), model.latches())?;
+    push_times(alloc, &mut clauses, model, steps)?;
+    Ok(clauses)
+}
+
+/// The runs of so many steps that keep the constraints, at most 255. Variable `v` at time `t` is
+/// `t * (M + 1) + v`, where `M` is the greatest variable. It costs `steps + 1` circuits.
+pub fn unroll(alloc: Global, model: &Model, steps: u32) -> Result<Formula, CnfError>
+    ensures formula { IfOk result (λ f. (steps ≤ 255) × (f ≡ unroll_formula model.now steps)) }
+    ensures refused { IfErr result (λ e. (e ≡ OutOfMemory) ⊎ ((e ≡ Limit) × (255 < steps))) }
+    ensures is_formula { IfOk result (λ f. IsFormula f) }
+    ensures variables { IfOk result (λ f. IsOver model.now (steps + 1) f.clauses) }
+    ensures meaning { IfOk result (λ _. UnrollLaw model.now steps) }
+{
+    if steps > GREATEST {
+        return Err(CnfError::Limit);
+    }
+    model.parts();
+    let clauses = unroll_clauses(alloc, model, steps)?;
+    Ok(Formula {
+        vars: (steps + 1) * (model.max_var() + 1),
+        clauses,
+    })
+}
