@@ -10,3 +10,4 @@ pub mod Search
 pub mod Symbols
 pub mod Taken
 pub mod File
+pub mod Properties
