@@ -9,3 +9,5 @@ pub mod SymbolSteps
 pub mod TextLaws
 pub mod ReadLaws
 pub mod WritingLaws
+pub mod PieceLaws
+pub mod TrimLaws

@@ -41,6 +41,16 @@ abbrev pub comment_lines : Option (List ℕ) → List ℕ
 comment_lines None = []
 comment_lines (Some comment) = 99 ∷ 10 ∷ comment
 
+-- the lines between those of the latches and those of the gates
+abbrev pub use_lines : Parts → List ℕ
+use_lines m =
+    flat_map literal_line m.outputs
+    ++ flat_map literal_line m.bad
+    ++ flat_map literal_line m.constraints
+    ++ flat_map size_line m.justice
+    ++ flat_map literal_line (justice_literals m.justice)
+    ++ flat_map literal_line m.fairness
+
 abbrev pub circuit_text : Parts → List ℕ
 circuit_text m =
     header_line m

@@ -13,20 +13,31 @@
 //!
 //! One pass, and no memory beside the lists that are built: a list grows line by line, whatever
 //! count the header states.
+//!
+//! `write` puts the shortest text of a file to a `Sink` (`written_text` in `specs/Writing.antt`),
+//! without memory. That text spells the file where it is no longer than a text may be, so `read`
+//! gives the file again.
 #![tactic(auto)]
 
+mod aag_write_error;
 mod circuit;
 mod comment;
 mod header;
 mod justice;
 mod lines;
 mod name;
+mod pieces;
 mod reading;
 mod refusal;
 mod symbol;
 mod uses;
+mod writing;
 
+pub use aag_write_error::AagWriteError;
 pub use reading::read;
+pub use writing::write;
 
 #[cfg(test)]
 mod tests;
+#[cfg(test)]
+mod write_tests;

@@ -40,3 +40,7 @@ pub record Reader (R : Type 0) : Type 0 where
 pub record Writer (W : Type 0) : Type 0 where
   pub writer : W
   pub failures : ℕ
+
+-- the bytes were put, or after a failure a beginning of them
+abbrev pub Puts : {X E : Type 0} → Result X E → Option (List ℕ) → Option (List ℕ) → List ℕ → Type 0
+Puts result before after bytes = MatchResult result (λ _. Appends before after bytes) (λ _. PutsBeginning before after bytes)
