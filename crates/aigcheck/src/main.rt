@@ -1,0 +1,119 @@
+//! `aigcheck`: whether evidence about a circuit is accepted.
+//!
+//! `aigcheck safe FILE CERT` puts `yes safe P` where the certificate CERT shows that no run of the
+//! circuit FILE which keeps the constraints sets the bad literal P at any time, and else `no` with
+//! the number of the refusal. The status is 0 for yes, 1 for no, and 3 where there is no answer.
+//!
+//! Nothing is decided here: the answer is that of `checker::run_safe`, whose contract says what it
+//! means. That the files hold what was read is the premise.
+#![tactic(auto)]
+
+use checker::{RunError, run_safe};
+use clap::error::ErrorKind;
+use clap::{Arg, ArgAction, ArgMatches, Command, Error};
+use graph::{FromRead, ToWrite};
+use std::alloc::{AllocError, Global};
+use std::fs::File;
+use std::process::ExitCode;
+use std::{env, io};
+
+/// The status of a yes.
+const YES: u8 = 0;
+/// The status of a no.
+const NO: u8 = 1;
+/// The status where there is no answer.
+const FAULT: u8 = 3;
+
+/// A file that has to be named.
+fn file<'a>(alloc: Global, name: &'a str, about: &'a str) -> Arg<'a> {
+    Arg::new(alloc, name)
+        .help(about)
+        .required(true)
+        .action(ArgAction::Set)
+}
+
+/// The command line.
+fn command<'a>(alloc: Global) -> Result<Command<'a>, AllocError> {
+    let safe = Command::new(alloc, "safe")
+        .about("Whether a certificate shows that a circuit is safe")
+        .arg(file(alloc, "FILE", "The circuit (AIGER 1.9, ASCII)"))?
+        .arg(file(alloc, "CERT", "The certificate"))?;
+    Command::new(alloc, "aigcheck")
+        .about("Checks evidence about AIGER circuits")
+        .subcommand_required(true)
+        .subcommand(safe)
+}
+
+/// Tells a fault, and the status of one.
+fn fault(rt: &HostRuntime, error: RunError) -> ExitCode {
+    let _ = eprintln!(rt; "aigcheck: {error}");
+    ExitCode::from(FAULT)
+}
+
+/// The fault of a file that is not opened.
+fn unopened(error: &io::Error) -> RunError {
+    match error.kind() {
+        io::ErrorKind::OutOfMemory => RunError::OutOfMemory,
+        _ => RunError::Device,
+    }
+}
+
+/// Opens both files, and then says whether the second shows that the first is safe.
+fn safe(rt: &HostRuntime, words: &ArgMatches<'_>) -> Result<bool, RunError> {
+    let circuit = words.get_str("FILE").unwrap_or("");
+    let certificate = words.get_str("CERT").unwrap_or("");
+    let circuit = File::open(rt, circuit).map_err(|e| unopened(&e))?;
+    let certificate = File::open(rt, certificate).map_err(|e| unopened(&e))?;
+    run_safe(
+        rt.alloc(),
+        &mut FromRead::new(circuit),
+        &mut FromRead::new(certificate),
+        &mut ToWrite::new(io::writer(rt)),
+    )
+}
+
+/// What the words ask for.
+fn answer(rt: &HostRuntime, matches: &ArgMatches<'_>) -> ExitCode {
+    let answer = match matches.subcommand() {
+        Some(("safe", words)) => safe(rt, words),
+        _ => return ExitCode::from(FAULT),
+    };
+    match answer {
+        Ok(true) => ExitCode::from(YES),
+        Ok(false) => ExitCode::from(NO),
+        Err(error) => fault(rt, error),
+    }
+}
+
+/// Tells what is wrong with the words, or the help that they ask for.
+fn wrong(rt: &HostRuntime, error: &Error) -> ExitCode {
+    if error.kind() == ErrorKind::OutOfMemory {
+        return fault(rt, RunError::OutOfMemory);
+    }
+    let _ = error.print(rt);
+    ExitCode::from(if error.exit_code() == 0 { YES } else { FAULT })
+}
+
+fn main(rt: HostRuntime) -> ExitCode {
+    let alloc = rt.alloc();
+    let args = match env::args(&rt) {
+        Ok(args) => args,
+        Err(error) => {
+            let _ = eprintln!(rt; "aigcheck: {error}");
+            return ExitCode::from(FAULT);
+        }
+    };
+    let mut words: Vec<String> = Vec::new(alloc);
+    for word in args {
+        if words.push(word).is_err() {
+            return fault(&rt, RunError::OutOfMemory);
+        }
+    }
+    let Ok(command) = command(alloc) else {
+        return fault(&rt, RunError::OutOfMemory);
+    };
+    match command.try_get_matches_from(words.as_slice()) {
+        Ok(matches) => answer(&rt, &matches),
+        Err(error) => wrong(&rt, &error),
+    }
+}

@@ -1,0 +1,5 @@
+pub mod Numbers
+pub mod Texts
+pub mod Reading
+pub mod Refusals
+pub mod Writing

@@ -1,0 +1,81 @@
+-- How the texts of certificates are read, step by step.
+use Rattle.std.specs.Prelude.{ℕ, List, [], ◌∷◌, ◌++◌, Option, Some, None, codes}
+use Rattle.scan.specs.Reading.{◌>>=◌, Read}
+use Rattle.scan.specs.Numbers.{number_at}
+use Rattle.scan.specs.Bytes.{byte_at, tag_at, choice_at}
+use Rattle.scan.specs.Words.{any, field_at}
+use Rattle.scan.specs.Lists.{many_at, items_at}
+use Rattle.graph.specs.declared.circuit.Lit.{Lit}
+use Rattle.graph.specs.declared.circuit.Property.{Property}
+use Rattle.graph.specs.declared.circuit.Property.TheVariants.{Bad, Justice}
+use Rattle.lrat.specs.declared.line.Line.{Line}
+use Rattle.lrat.specs.Reading.{line_at}
+use Rattle.certificate.specs.declared.certificate.Certificate.{Certificate}
+
+-- the greatest count
+abbrev pub greatest : ℕ
+greatest = 4194303
+
+-- the position of a bad literal, and of a justice property
+unfoldable pub bad_at : List ℕ → Read Property
+bad_at bytes = do
+  n ← field_at 4294967295 any 10 bytes
+  Some (Bad n.0, n.1)
+
+unfoldable pub justice_at : List ℕ → Read Property
+justice_at bytes = do
+  rest ← byte_at 106 bytes
+  n ← field_at 4294967295 any 10 rest
+  Some (Justice n.0, n.1)
+
+-- the property's line
+unfoldable pub property_at : List ℕ → Read Property
+property_at bytes = choice_at 98 bad_at justice_at bytes
+
+-- a space and a literal
+unfoldable pub spaced_at : List ℕ → Read Lit
+spaced_at bytes = do
+  rest ← byte_at 32 bytes
+  n ← number_at 4294967295 rest
+  Some (record { 0 = n.0 }, n.1)
+
+-- as many literals, and the line end
+unfoldable pub literals_at : ℕ → List ℕ → Read (List Lit)
+literals_at count bytes = do
+  literals ← many_at spaced_at count bytes
+  rest ← byte_at 10 literals.1
+  Some (literals.0, rest)
+
+-- a clause's line
+unfoldable pub clause_at : List ℕ → Read (List Lit)
+clause_at bytes = do
+  count ← number_at greatest bytes
+  literals_at count.0 count.1
+
+-- a line of a section, or the line with a dot that ends it
+unfoldable pub item_at : List ℕ → Read (Option Line)
+item_at bytes = choice_at 46 (λ after. byte_at 10 after >>= λ rest. Some (None, rest)) (λ text. line_at text >>= λ line. Some (Some line.0, line.1)) bytes
+
+-- a line with the letter, and the lines up to the dot
+unfoldable pub section_at : ℕ → List ℕ → Read (List Line)
+section_at letter bytes = do
+  behind ← byte_at letter bytes
+  lines ← byte_at 10 behind
+  items_at item_at lines
+
+-- the sections for so many clauses
+unfoldable pub sections_at : ℕ → List ℕ → Read (List (List Line))
+sections_at clauses bytes = do
+  initial ← many_at (section_at 105) clauses bytes
+  steps ← many_at (section_at 115) clauses initial.1
+  bad ← section_at 98 steps.1
+  Some (initial.0 ++ steps.0 ++ bad.0 ∷ [], bad.1)
+
+unfoldable pub certificate_at : List ℕ → Read Certificate
+certificate_at bytes = do
+  rest ← tag_at (codes "aigcert 1\n") bytes
+  property ← property_at rest
+  count ← field_at greatest any 10 property.1
+  invariant ← many_at clause_at count.0 count.1
+  sections ← sections_at count.0 invariant.1
+  Some (record { property = property.0; invariant = invariant.0; sections = sections.0 }, sections.1)

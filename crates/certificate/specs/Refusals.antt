@@ -1,0 +1,22 @@
+-- What is told of a text that is refused.
+use Rattle.std.specs.Prelude.{ℕ, ◌-◌}
+use Rattle.scan.specs.declared.fault.Fault.{Fault}
+use Rattle.scan.specs.declared.fault.Fault.TheVariants.{Memory, Text}
+use Rattle.certificate.specs.declared.cert_error.CertError.{CertError}
+use Rattle.certificate.specs.declared.cert_error.CertError.TheVariants as error
+use Rattle.certificate.specs.declared.refusal.Refusal.{Refusal}
+use Rattle.certificate.specs.declared.refusal.Refusal.TheVariants.{Version, PropertyLine, Number, Section, Byte, Truncated}
+
+-- a refusal at a byte
+abbrev pub at_byte : Refusal → ℕ → CertError
+at_byte Version p = error.Version p
+at_byte PropertyLine p = error.PropertyLine p
+at_byte Number p = error.Number p
+at_byte Section p = error.Section p
+at_byte Byte p = error.Byte p
+at_byte Truncated p = error.Truncated p
+
+-- the error that a fault is in a text of this length
+abbrev pub error_of : ℕ → Fault Refusal → CertError
+error_of length Memory = error.OutOfMemory
+error_of length (Text kind left) = at_byte kind (length - left)

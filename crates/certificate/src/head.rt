@@ -1,0 +1,83 @@
+//! The lines before the sections.
+
+ghost use Rattle.scan.specs.Reading.{Gives};
+ghost use Rattle.certificate.specs.Reading.{property_at, spaced_at, literals_at, clause_at};
+
+use crate::refusal::{IN_LINE, IN_PROPERTY, Refusal};
+use graph::{Lit, Property, Seq};
+use scan::{Fault, LineKind, byte, field, lines, number};
+use std::alloc::Global;
+
+/// The greatest count of clauses, and of literals in a clause.
+pub const GREATEST: u32 = 4_194_303;
+
+/// The property that the second line names, and what follows that line.
+#[tactic(auto, unfolding(crate::specs::Reading::property_at, crate::specs::Reading::bad_at, crate::specs::Reading::justice_at))]
+pub fn property(text: &[u8]) -> Result<(Property, &[u8]), Fault<Refusal>>
+    ensures { Gives (λ x. (x.0, x.1.now)) result (property_at text.now) }
+{
+    match text {
+        [b'b', behind @ ..] => {
+            let (position, rest) = field(behind, u32::MAX, b'\n', IN_PROPERTY)?;
+            Ok((Property::Bad(position), rest))
+        }
+        _ => {
+            let behind = byte(text, b'j', IN_PROPERTY)?;
+            let (position, rest) = field(behind, u32::MAX, b'\n', IN_PROPERTY)?;
+            Ok((Property::Justice(position), rest))
+        }
+    }
+}
+
+/// A literal behind a space.
+struct SpacedLiteral;
+
+impl LineKind for SpacedLiteral {
+    type Item = Lit;
+
+    type Context = ();
+
+    type Refusal = Refusal;
+
+    ghost allows = { λ _. Unit {0} };
+
+    ghost at = { λ _ bytes. spaced_at bytes };
+
+    #[tactic(auto, unfolding(crate::specs::Reading::spaced_at))]
+    fn line(_alloc: Global, text: &[u8], _context: ()) -> Result<(Lit, &[u8]), Fault<Refusal>> {
+        let rest = byte(text, b' ', IN_LINE)?;
+        let (literal, rest) = number(rest, u32::MAX, IN_LINE)?;
+        Ok((Lit(literal), rest))
+    }
+}
+
+/// As many literals as `count` says, and what follows the line end behind them.
+#[tactic(auto, unfolding(crate::specs::Reading::literals_at))]
+fn literals(alloc: Global, count: u32, text: &[u8]) -> Result<(Seq<Lit>, &[u8]), Fault<Refusal>>
+    ensures { Gives (λ x. (x.0, x.1.now)) result (literals_at count text.now) }
+{
+    let (literals, rest) = lines::<SpacedLiteral>(alloc, count, text, ())?;
+    let rest = byte(rest, b'\n', IN_LINE)?;
+    Ok((Seq::from_vec(literals), rest))
+}
+
+/// A line of a clause.
+pub struct ClauseLine;
+
+impl LineKind for ClauseLine {
+    type Item = Seq<Lit>;
+
+    type Context = ();
+
+    type Refusal = Refusal;
+
+    ghost allows = { λ _. Unit {0} };
+
+    ghost at = { λ _ bytes. clause_at bytes };
+
+    #[tactic(auto, unfolding(crate::specs::Reading::clause_at))]
+    fn line(alloc: Global, text: &[u8], _context: ()) -> Result<(Seq<Lit>, &[u8]), Fault<Refusal>> {
+        let (count, rest) = number(text, GREATEST, IN_LINE)?;
+        literals(alloc, count, rest)
+    }
+}

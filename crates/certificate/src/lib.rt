@@ -1,0 +1,32 @@
+//! Certificates: an invariant of a circuit, and a proof for each of its cases.
+//!
+//! A certificate names a property, gives clauses over the circuit's latches, and for each case of
+//! that invariant a section: a proof that nothing satisfies the case. Whether the proofs are
+//! accepted is the checker's matter; this crate has the value and its text, version 1.
+//!
+//! - `SpellsCertificate` (`specs/Texts.antt`) says which text spells which certificate. A
+//!   certificate has one text at most.
+//! - `read` answers Ok exactly on the texts that spell one, with that certificate; only want of
+//!   memory can keep it from one. A text that spells none is refused at its first fault, by the
+//!   byte.
+//! - `write` puts the text of a certificate that has one, and nothing of any other.
+#![tactic(auto)]
+
+mod cert_error;
+mod cert_write_error;
+mod certificate;
+mod head;
+mod limits;
+mod reading;
+mod refusal;
+mod sections;
+mod writing;
+
+pub use cert_error::CertError;
+pub use cert_write_error::CertWriteError;
+pub use certificate::Certificate;
+pub use reading::read;
+pub use writing::write;
+
+#[cfg(test)]
+mod tests;

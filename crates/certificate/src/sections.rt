@@ -1,0 +1,108 @@
+//! The sections.
+
+ghost use Rattle.std.specs.Prelude.{◌≡◌, ◌++◌, OnOk};
+ghost use Rattle.scan.specs.Reading.{Gives};
+ghost use Rattle.scan.specs.Lists.{items_at};
+ghost use Rattle.certificate.specs.Reading.{item_at, section_at, sections_at};
+
+use crate::refusal::{IN_LETTER, IN_LINE, Refusal};
+use graph::Seq;
+use lrat::{Line, Proof, next_line};
+use scan::{Fault, LineKind, byte, lines};
+use std::alloc::{AllocFailed, Global};
+
+/// A line of a section, or none where a line with a dot ends it, and what follows.
+#[tactic(auto, unfolding(crate::specs::Reading::item_at))]
+fn item(alloc: Global, text: &[u8]) -> Result<(Option<Line>, &[u8]), Fault<Refusal>>
+    ensures { Gives (λ x. (x.0, x.1.now)) result (item_at text.now) }
+{
+    match text {
+        [b'.', behind @ ..] => {
+            let rest = byte(behind, b'\n', IN_LINE)?;
+            Ok((None, rest))
+        }
+        _ => {
+            let (line, rest) = next_line(alloc, text, IN_LINE)?;
+            Ok((Some(line), rest))
+        }
+    }
+}
+
+/// The lines of a section, and what follows the line with a dot behind them. Each goes into the
+/// proof as it is read; a line that was read is in its limits, so only want of memory keeps it out.
+fn section_lines(alloc: Global, text: &[u8]) -> Result<(Proof, &[u8]), Fault<Refusal>>
+    ensures { Gives (λ x. (x.0, x.1.now)) result (items_at item_at text.now) }
+{
+    let mut proof = Proof::new(alloc);
+    let mut rest = text;
+    for _ in 0..text.len() + 1 {
+        let (item, after) = item(alloc, rest)?;
+        rest = after;
+        let Some(line) = item else {
+            return Ok((proof, rest));
+        };
+        if proof.push(line).is_err() {
+            return Err(Fault::Memory);
+        }
+    }
+    Err(Fault::Text {
+        kind: Refusal::Truncated,
+        left: 0,
+    })
+}
+
+/// The section with this letter, and what follows it.
+#[tactic(auto, unfolding(crate::specs::Reading::section_at))]
+fn section(alloc: Global, text: &[u8], letter: u8) -> Result<(Proof, &[u8]), Fault<Refusal>>
+    ensures { Gives (λ x. (x.0, x.1.now)) result (section_at letter text.now) }
+{
+    let rest = byte(text, letter, IN_LETTER)?;
+    let rest = byte(rest, b'\n', IN_LINE)?;
+    section_lines(alloc, rest)
+}
+
+/// A section with a letter.
+struct AnySection;
+
+impl LineKind for AnySection {
+    type Item = Proof;
+
+    type Context = u8;
+
+    type Refusal = Refusal;
+
+    ghost allows = { λ _. Unit {0} };
+
+    ghost at = { section_at };
+
+    fn line(alloc: Global, text: &[u8], letter: u8) -> Result<(Proof, &[u8]), Fault<Refusal>> {
+        section(alloc, text, letter)
+    }
+}
+
+/// Adds the proofs at the end of the list.
+fn append(list: &mut Vec<Proof>, proofs: Vec<Proof>) -> Result<(), AllocFailed<Proof>>
+    ensures { OnOk result (list.new.items ≡ list.old.items ++ proofs.items) }
+{
+    for proof in proofs {
+        list.push(proof)?;
+    }
+    Ok(())
+}
+
+/// The sections for an invariant of so many clauses, and what follows the last one.
+#[tactic(auto, unfolding(crate::specs::Reading::sections_at))]
+pub fn sections(
+    alloc: Global,
+    clauses: u32,
+    text: &[u8],
+) -> Result<(Seq<Proof>, &[u8]), Fault<Refusal>>
+    ensures { Gives (λ x. (x.0, x.1.now)) result (sections_at clauses text.now) }
+{
+    let (mut sections, rest) = lines::<AnySection>(alloc, clauses, text, b'i')?;
+    let (steps, rest) = lines::<AnySection>(alloc, clauses, rest, b's')?;
+    append(&mut sections, steps)?;
+    let (bad, rest) = section(alloc, rest, b'b')?;
+    sections.push(bad)?;
+    Ok((Seq::from_vec(sections), rest))
+}

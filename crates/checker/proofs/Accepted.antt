@@ -1,0 +1,156 @@
+-- What an accepted certificate shows.
+use Rattle.std.proofs.Common.{◌≡◌, ◌≢◌, ℕ, zero, suc, ◌+◌, ◌*◌, ◌<◌, ◌≤◌, List, [], ◌∷◌, ◌++◌, map, length, get_or, All, AllPairs, Some, Result, Ok, Err, OnOk, slice_get, refl, sym, ◌∙◌, ap, subst, arith, length-append}
+use Rattle.std.proofs.lemmas.List.{get_or_at, get_or_append_left, map-append}
+use Rattle.graph.specs.declared.circuit.Lit.{Lit}
+use Rattle.graph.specs.declared.circuit.Property.TheVariants.{Bad}
+use Rattle.graph.specs.declared.parts.Parts.{Parts}
+use Rattle.graph.specs.Properties.{position_of}
+use Rattle.graph.specs.Valuation.{variable}
+use Rattle.lrat.specs.declared.formula.Formula.{Formula}
+use Rattle.lrat.specs.declared.line.Line.{Line}
+use Rattle.lrat.proofs.Refuted.{refuted_false}
+use Rattle.lrat.proofs.Refusing.{refused_proof_not}
+use Rattle.cnf.specs.Formulas.{init_formula, step_formula, bad_formula, bad_literal}
+use Rattle.cnf.specs.Invariants.{AreContradictory, IsInductive}
+use Rattle.cnf.proofs.Safety.{safety_law}
+use Rattle.certificate.specs.declared.certificate.Certificate.{Certificate}
+use Rattle.checker.specs.declared.check_error.CheckError.{CheckError}
+use Rattle.checker.specs.declared.check_error.CheckError.TheVariants.{NoProperty, Limit, Sections, NotLatch, Repeated, Section, OutOfMemory}
+use Rattle.checker.specs.declared.invariant.ClauseFault.{ClauseFault}
+use Rattle.checker.specs.declared.invariant.ClauseFault.TheVariants as fault
+use Rattle.checker.specs.Accepted.{cases, IsProofOf, RefuteBelow, IsGood, HasProperty, IsAcceptedCertificate, AcceptedLaw}
+use Rattle.checker.specs.Causes.{HasCause, IsClausesFault, IsFirstFault, IsSectionFault, IsCounted, IsLatch, IsAmong}
+use Rattle.checker.proofs.InOrder.{case_init, case_step, case_bad}
+
+-- nothing satisfies the clauses of a case that a proof refutes
+contradictory : (fs : List Formula) (ps : List (List Line)) (n k : ℕ) (f : Formula) → RefuteBelow fs ps n → k < n → ((g : Formula) → get_or fs k g ≡ f) → AreContradictory f.clauses
+contradictory fs ps n k f refute k_in is_f v sat =
+    let proof : IsProofOf f (get_or ps k []) = subst (λ g. IsProofOf g (get_or ps k [])) (is_f f) (refute k k_in f []) in
+    refuted_false f (get_or ps k []) proof.0 proof.1 v sat
+
+inductive_from : (m : Parts) (inv : List (List Lit)) (a : Lit) (ps : List (List Line)) → length ps ≡ 2 * length inv + 1 → RefuteBelow (cases m inv a) ps (length ps) → IsInductive m inv a
+inductive_from m inv a ps count refute = record {
+  begins = λ k c k_in. contradictory (cases m inv a) ps (length ps) k (init_formula m (get_or inv k c)) refute (omega arith) (λ g. case_init m inv a k c g k_in);
+  goes_on = λ k c k_in. contradictory (cases m inv a) ps (length ps) (length inv + k) (step_formula m inv (get_or inv k c)) refute (omega arith) (λ g. case_step m inv a k c g k_in);
+  excludes = contradictory (cases m inv a) ps (length ps) (2 * length inv) (bad_formula m inv a) refute (omega arith) (λ g. case_bad m inv a g);
+}
+
+get_at : (xs : List Lit) (n : ℕ) (d : Lit) → n < length xs → slice_get xs n ≡ Some (get_or xs n d)
+get_at [] n d n_in = absurd (omega arith)
+get_at (x ∷ xs) zero d n_in = refl
+get_at (x ∷ xs) (suc n) d n_in = get_at xs n d (omega arith)
+
+pub accepted_law : AcceptedLaw
+accepted_law m c n well accepted is_bad =
+    let a : Lit = bad_literal m (position_of c.property) in
+    let exists : n < length m.bad = subst (HasProperty m) is_bad accepted.exists in
+    let named : slice_get m.bad n ≡ Some a = get_at m.bad n (record { 0 = 0 }) exists ∙ ap (λ p. Some (bad_literal m (position_of p))) (sym is_bad) in
+    safety_law m c.invariant well (λ k d k_in. (accepted.clauses k d k_in).over) n a named (inductive_from m c.invariant a c.sections accepted.count accepted.sections)
+
+-- the clause in the middle of good ones is good
+middle : (m : Parts) (inv before after : List (List Lit)) (c : List Lit) → inv ≡ before ++ c ∷ after → All (IsGood m) inv → IsGood m c
+middle m inv before after c are good =
+    let all : All (IsGood m) (before ++ c ∷ after) = subst (All (IsGood m)) are good in
+    subst (IsGood m) (get_or_at before c after [] (length before) refl) (all (length before) [] (omega (arith, length-append before (c ∷ after))))
+
+no_latch : (m : Parts) (c before after : List Lit) (a : Lit) → c ≡ before ++ a ∷ after → (IsLatch m a → ⊥) → IsGood m c → ⊥
+no_latch m c before after a are foreign good =
+    let all : All (IsLatch m) (before ++ a ∷ after) = subst (All (IsLatch m)) are good.over in
+    foreign (subst (IsLatch m) (get_or_at before a after a (length before) refl) (all (length before) a (omega (arith, length-append before (a ∷ after)))))
+
+repeats : (us vs : List ℕ) (v k : ℕ) → k < length us → get_or us k v ≡ v → AllPairs (λ u w. u ≢ w) (us ++ v ∷ vs) → ⊥
+repeats us vs v k k_in at apart =
+    apart k (length us) v k_in (omega (arith, length-append us (v ∷ vs)))
+    (get_or_append_left us (v ∷ vs) v k k_in ∙ at ∙ sym (get_or_at us v vs v (length us) refl))
+
+no_repeat : (m : Parts) (c before after : List Lit) (a : Lit) → c ≡ before ++ a ∷ after → IsAmong before a → IsGood m c → ⊥
+no_repeat m c before after a are (k, k_in, at) good =
+    repeats (map variable before) (map variable after) (variable a) k k_in at
+    (subst (AllPairs (λ u w. u ≢ w)) (ap (map variable) are ∙ map-append variable before (a ∷ after)) good.apart)
+
+first_fault_refuses : (m : Parts) (inv : List (List Lit)) (k : ℕ) (e : ClauseFault) → IsFirstFault m inv k e → All (IsGood m) inv → ⊥
+first_fault_refuses m inv k fault.NotLatch f good =
+    let g = f.faulty in no_latch m f.clause g.before g.after g.literal g.are g.faulty (middle m inv f.before f.after f.clause f.are good)
+first_fault_refuses m inv k fault.Repeated f good =
+    let g = f.faulty in no_repeat m f.clause g.before g.after g.literal g.are g.faulty.1 (middle m inv f.before f.after f.clause f.are good)
+
+-- what has a cause is not accepted
+pub cause_refuses : (m : Parts) (c : Certificate) (e : CheckError) → HasCause m c e → e ≢ OutOfMemory → IsAcceptedCertificate m c → ⊥
+cause_refuses m c (NoProperty n) cause ne accepted = cause.1 accepted.exists
+cause_refuses m c Limit cause ne accepted = let few = accepted.few in let many = cause.1 in omega arith
+cause_refuses m c (Sections n) cause ne accepted = cause.3 (cause.2 ∙ accepted.count)
+cause_refuses m c (NotLatch k) cause ne accepted = first_fault_refuses m c.invariant k fault.NotLatch cause.1 accepted.clauses
+cause_refuses m c (Repeated k) cause ne accepted = first_fault_refuses m c.invariant k fault.Repeated cause.1 accepted.clauses
+cause_refuses m c (Section e k) cause ne accepted =
+    let f : Formula = bad_formula m c.invariant (bad_literal m 0) in
+    refused_proof_not _ _ e (cause.2.refused f []) cause.2.other (accepted.sections k cause.2.stands f []).1
+cause_refuses m c OutOfMemory cause ne accepted = absurd (ne refl)
+
+-- what holds of an `Ok` follows from what holds of it
+pub if_on_ok : {T E P Q : Type 0} → (r : Result T E) → OnOk r P → (P → Q) → OnOk r Q
+if_on_ok (Ok x) p f = f p
+if_on_ok (Err e) p f = tt
+
+-- the parts of a certificate, as they were read, with their counts in order
+pub record IsOpened (m : Parts) (c : Certificate) (n : ℕ) (inv : List (List Lit)) (ps : List (List Line)) : Type 0 where
+  pub is_bad : c.property ≡ Bad n
+  pub is_inv : inv ≡ c.invariant
+  pub is_ps : ps ≡ c.sections
+  pub exists : n < length m.bad
+  pub few : length inv ≤ 4194303
+  pub count : length ps ≡ 2 * length inv + 1
+
+counted : (m : Parts) (c : Certificate) (n : ℕ) (inv : List (List Lit)) (ps : List (List Line)) → IsOpened m c n inv ps → IsCounted m c
+counted m c n inv ps opened = record {
+  exists = subst (HasProperty m) (sym opened.is_bad) opened.exists;
+  few = subst (λ i. length i < 4194304) opened.is_inv (let few = opened.few in omega arith);
+  count = subst (λ i. length c.sections ≡ 2 * length i + 1) opened.is_inv (ap length (sym opened.is_ps) ∙ opened.count);
+}
+
+cases_are : (m : Parts) (c : Certificate) (n : ℕ) (inv : List (List Lit)) (ps : List (List Line)) → IsOpened m c n inv ps →
+    cases m inv (bad_literal m n) ≡ cases m c.invariant (bad_literal m (position_of c.property))
+cases_are m c n inv ps opened = ap (λ i. cases m i (bad_literal m n)) opened.is_inv ∙ ap (λ p. cases m c.invariant (bad_literal m (position_of p))) (sym opened.is_bad)
+
+pub accepted_from : (m : Parts) (c : Certificate) (n : ℕ) (inv : List (List Lit)) (ps : List (List Line)) → IsOpened m c n inv ps → All (IsGood m) inv →
+    RefuteBelow (cases m inv (bad_literal m n)) ps (length ps) → IsAcceptedCertificate m c
+accepted_from m c n inv ps opened good refute =
+    let counts = counted m c n inv ps opened in
+    record {
+      exists = counts.exists;
+      few = let few = counts.few in omega arith;
+      count = counts.count;
+      clauses = subst (All (IsGood m)) opened.is_inv good;
+      sections = subst (λ fs. RefuteBelow fs c.sections (length c.sections)) (cases_are m c n inv ps opened)
+          (subst (λ s. RefuteBelow (cases m inv (bad_literal m n)) s (length s)) opened.is_ps refute);
+    }
+
+clauses_cause_of : (m : Parts) (c : Certificate) (e : CheckError) → IsCounted m c → IsClausesFault m c.invariant e → HasCause m c e
+clauses_cause_of m c (NotLatch k) counts fault = (counts, fault)
+clauses_cause_of m c (Repeated k) counts fault = (counts, fault)
+clauses_cause_of m c OutOfMemory counts fault = tt
+clauses_cause_of m c (NoProperty n) counts fault = absurd fault
+clauses_cause_of m c Limit counts fault = absurd fault
+clauses_cause_of m c (Sections n) counts fault = absurd fault
+clauses_cause_of m c (Section e k) counts fault = absurd fault
+
+-- a refusal of the clauses, and one of the sections, is a cause
+pub clauses_cause : (m : Parts) (c : Certificate) (n : ℕ) (inv : List (List Lit)) (ps : List (List Line)) → IsOpened m c n inv ps → (e : CheckError) →
+    IsClausesFault m inv e → HasCause m c e
+clauses_cause m c n inv ps opened e fault =
+    clauses_cause_of m c e (counted m c n inv ps opened) (subst (λ i. IsClausesFault m i e) opened.is_inv fault)
+
+section_cause_of : (m : Parts) (c : Certificate) (e : CheckError) → IsCounted m c → All (IsGood m) c.invariant →
+    IsSectionFault (cases m c.invariant (bad_literal m (position_of c.property))) c.sections e → HasCause m c e
+section_cause_of m c (Section e k) counts good fault = (counts, good, fault)
+section_cause_of m c OutOfMemory counts good fault = tt
+section_cause_of m c (NoProperty n) counts good fault = absurd fault
+section_cause_of m c Limit counts good fault = absurd fault
+section_cause_of m c (Sections n) counts good fault = absurd fault
+section_cause_of m c (NotLatch k) counts good fault = absurd fault
+section_cause_of m c (Repeated k) counts good fault = absurd fault
+
+pub section_cause : (m : Parts) (c : Certificate) (n : ℕ) (inv : List (List Lit)) (ps : List (List Line)) → IsOpened m c n inv ps → All (IsGood m) inv → (e : CheckError) →
+    IsSectionFault (cases m inv (bad_literal m n)) ps e → HasCause m c e
+section_cause m c n inv ps opened good e fault =
+    section_cause_of m c e (counted m c n inv ps opened) (subst (All (IsGood m)) opened.is_inv good)
+    (subst (λ fs. IsSectionFault fs c.sections e) (cases_are m c n inv ps opened) (subst (λ s. IsSectionFault (cases m inv (bad_literal m n)) s e) opened.is_ps fault))

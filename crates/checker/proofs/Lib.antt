@@ -1,0 +1,5 @@
+pub mod Good
+pub mod Shared
+pub mod InOrder
+pub mod Accepted
+pub mod Said

@@ -1,0 +1,89 @@
+-- Why a certificate is not accepted: the first cause.
+use Rattle.std.specs.Prelude.{◌≡◌, ◌≢◌, ℕ, ◌+◌, ◌*◌, ◌<◌, ◌⊎◌, List, ◌∷◌, ◌++◌, map, length, slice_index_or, All, Contains}
+use Rattle.graph.specs.declared.circuit.Lit.{Lit}
+use Rattle.graph.specs.declared.parts.Parts.{Parts}
+use Rattle.graph.specs.Properties.{position_of}
+use Rattle.graph.specs.Valuation.{variable}
+use Rattle.lrat.specs.declared.fault.Fault.TheVariants.{OutOfMemory as NoMemory}
+use Rattle.lrat.specs.declared.formula.Formula.{Formula}
+use Rattle.lrat.specs.declared.line.Line.{Line}
+use Rattle.lrat.specs.declared.step_error.StepError.{StepError}
+use Rattle.lrat.specs.Proofs.{IsRefusedProof}
+use Rattle.cnf.specs.Formulas.{bad_literal}
+use Rattle.certificate.specs.declared.certificate.Certificate.{Certificate}
+use Rattle.checker.specs.declared.check_error.CheckError.{CheckError}
+use Rattle.checker.specs.declared.check_error.CheckError.TheVariants.{NoProperty, Limit, Sections, NotLatch, Repeated, Section, OutOfMemory}
+use Rattle.checker.specs.declared.invariant.ClauseFault.{ClauseFault}
+use Rattle.checker.specs.declared.invariant.ClauseFault.TheVariants as fault
+use Rattle.checker.specs.Accepted.{IsGood, cases, RefuteBelow, HasProperty}
+
+-- the clause is good up to a literal of which P holds
+pub record HasFirst (m : Parts) (c : List Lit) (P : List Lit → Lit → Type 0) : Type 0 where
+  pub before : List Lit
+  pub literal : Lit
+  pub after : List Lit
+  pub are : c ≡ before ++ literal ∷ after
+  pub good : IsGood m before
+  pub faulty : P before literal
+
+-- the literal is a latch's or the negation of one
+abbrev pub IsLatch : Parts → Lit → Type 0
+IsLatch m a = Contains (map (λ l. variable l.lit) m.latches) (variable a)
+
+-- the literal's variable is that of one of these
+abbrev pub IsAmong : List Lit → Lit → Type 0
+IsAmong c a = Contains (map variable c) (variable a)
+
+-- what is wrong with the clause at its first fault: not a latch's, or repeated or opposed
+abbrev pub IsClauseFault : Parts → List Lit → ClauseFault → Type 0
+IsClauseFault m c fault.NotLatch = HasFirst m c (λ _ a. IsLatch m a → ⊥)
+IsClauseFault m c fault.Repeated = HasFirst m c (λ before a. IsLatch m a × IsAmong before a)
+
+-- the clause at k is the first that is not good
+pub record IsFirstFault (m : Parts) (inv : List (List Lit)) (k : ℕ) (e : ClauseFault) : Type 0 where
+  pub before : List (List Lit)
+  pub clause : List Lit
+  pub after : List (List Lit)
+  pub are : inv ≡ before ++ clause ∷ after
+  pub place : k ≡ length before
+  pub good : All (IsGood m) before
+  pub faulty : IsClauseFault m clause e
+
+-- the section at k is the first that is no proof of its case, and this is the first cause in it
+pub record IsFirstRefused (fs : List Formula) (ps : List (List Line)) (e : StepError) (k : ℕ) : Type 0 where
+  pub stands : k < length ps
+  pub earlier : RefuteBelow fs ps k
+  pub refused : (f : Formula) (p : List Line) → IsRefusedProof (slice_index_or fs k f) (slice_index_or ps k p) e
+  pub other : e.fault ≢ NoMemory
+
+-- how the refusal of a proof is told of the section at k: want of memory has no section
+abbrev pub IsSectionError : StepError → ℕ → CheckError → Type 0
+IsSectionError e k r = ((e.fault ≡ NoMemory) × (r ≡ OutOfMemory)) ⊎ ((e.fault ≢ NoMemory) × (r ≡ Section e k))
+
+abbrev pub IsClausesFault : Parts → List (List Lit) → CheckError → Type 0
+IsClausesFault m inv (NotLatch k) = IsFirstFault m inv k fault.NotLatch
+IsClausesFault m inv (Repeated k) = IsFirstFault m inv k fault.Repeated
+IsClausesFault m inv OutOfMemory = Unit {0}
+IsClausesFault m inv _ = ⊥
+
+abbrev pub IsSectionFault : List Formula → List (List Line) → CheckError → Type 0
+IsSectionFault fs ps (Section e k) = IsFirstRefused fs ps e k
+IsSectionFault fs ps OutOfMemory = Unit {0}
+IsSectionFault fs ps _ = ⊥
+
+-- the counts are in order
+pub record IsCounted (m : Parts) (c : Certificate) : Type 0 where
+  pub exists : HasProperty m c.property
+  pub few : length c.invariant < 4194304
+  pub count : length c.sections ≡ 2 * length c.invariant + 1
+
+-- the first cause of each refusal: the property, the number of clauses, the number of sections, a clause, a section
+abbrev pub HasCause : Parts → Certificate → CheckError → Type 0
+HasCause m c (NoProperty n) = (n ≡ position_of c.property) × (HasProperty m c.property → ⊥)
+HasCause m c Limit = HasProperty m c.property × (4194303 < length c.invariant)
+HasCause m c (Sections n) = HasProperty m c.property × (length c.invariant < 4194304) × (n ≡ length c.sections) × (n ≢ 2 * length c.invariant + 1)
+HasCause m c (NotLatch k) = IsCounted m c × IsFirstFault m c.invariant k fault.NotLatch
+HasCause m c (Repeated k) = IsCounted m c × IsFirstFault m c.invariant k fault.Repeated
+HasCause m c (Section e k) = IsCounted m c × All (IsGood m) c.invariant
+    × IsFirstRefused (cases m c.invariant (bad_literal m (position_of c.property))) c.sections e k
+HasCause m c OutOfMemory = Unit {0}

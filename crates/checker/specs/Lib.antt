@@ -1,0 +1,5 @@
+pub mod Accepted
+pub mod Causes
+pub mod Numbers
+pub mod Verdicts
+pub mod Stops

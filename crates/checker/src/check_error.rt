@@ -1,0 +1,93 @@
+//! Why certificates are refused.
+
+ghost use Rattle.std.specs.Prelude.{◌≡◌};
+ghost use Rattle.checker.specs.Numbers.{number_of, place_of, section_of};
+ghost use Rattle.checker.specs.declared.check_error.CheckError.TheVariants.{OutOfMemory};
+
+use cnf::CnfError;
+use lrat::StepError;
+use std::alloc::AllocError;
+use thiserror::Error;
+
+/// Why a certificate is not accepted for a circuit.
+#[derive(Clone, Copy, Debug, PartialEq, Eq, Error)]
+pub enum CheckError {
+    /// the circuit has no such property
+    #[error("there is no property {property}")]
+    NoProperty { property: u32 },
+    /// the invariant has more clauses than the limit allows
+    #[error("too many invariant clauses")]
+    Limit,
+    /// the invariant has another number of cases
+    #[error("{found} sections are not those of the invariant")]
+    Sections { found: u64 },
+    /// the clause, from 0, has a literal that is not a latch's
+    #[error("clause {clause}: a literal is not a latch's")]
+    NotLatch { clause: u64 },
+    /// the clause, from 0, has a literal that is repeated or opposed
+    #[error("clause {clause}: a literal is repeated or opposed")]
+    Repeated { clause: u64 },
+    /// the section, from 0, is no proof of its case
+    #[error("section {section}: {error}")]
+    Section { error: StepError, section: u64 },
+    /// want of memory
+    #[error("out of memory")]
+    OutOfMemory,
+}
+
+impl From<AllocError> for CheckError {
+    ghost from_gives = { λ _ e. e ≡ OutOfMemory };
+
+    fn from(_e: AllocError) -> CheckError {
+        CheckError::OutOfMemory
+    }
+}
+
+impl From<CnfError> for CheckError {
+    ghost from_gives = { λ _ e. e ≡ OutOfMemory };
+
+    fn from(_e: CnfError) -> CheckError {
+        CheckError::OutOfMemory
+    }
+}
+
+impl CheckError {
+    /// The refusal's number.
+    pub fn number(self) -> u8
+        ensures { result ≡ number_of self }
+    {
+        match self {
+            CheckError::Limit => 4,
+            CheckError::OutOfMemory => 20,
+            CheckError::NoProperty { .. } => 30,
+            CheckError::NotLatch { .. } => 32,
+            CheckError::Repeated { .. } => 33,
+            CheckError::Sections { .. } => 34,
+            CheckError::Section { error, .. } => error.number(),
+        }
+    }
+
+    /// The refusal's place: the property's number, how many sections there are, the clause, or the
+    /// line of the section's proof; else 0.
+    pub fn place(self) -> u64
+        ensures { result ≡ place_of self }
+    {
+        match self {
+            CheckError::NoProperty { property } => u64::from(property),
+            CheckError::Sections { found } => found,
+            CheckError::NotLatch { clause } | CheckError::Repeated { clause } => clause,
+            CheckError::Section { error, .. } => error.place(),
+            CheckError::Limit | CheckError::OutOfMemory => 0,
+        }
+    }
+
+    /// The position of the section that is refused, from 0; else 0.
+    pub fn section(self) -> u64
+        ensures { result ≡ section_of self }
+    {
+        match self {
+            CheckError::Section { section, .. } => section,
+            _ => 0,
+        }
+    }
+}

@@ -1,0 +1,76 @@
+//! The clauses of an invariant.
+
+ghost use Rattle.std.specs.Prelude.{◌≡◌, ◌+◌, ◌<◌, ◌≤◌, All, IfErr, MatchOption, OnOk, length};
+ghost use Rattle.cnf.specs.Tables.{IsTableOf};
+ghost use Rattle.checker.specs.Accepted.{IsGood};
+ghost use Rattle.checker.specs.Causes.{IsClauseFault, IsClausesFault};
+
+use crate::check_error::CheckError;
+use cnf::NextTable;
+use graph::{Lit, Model, Seq};
+use std::alloc::Global;
+
+/// What is wrong with a clause.
+#[derive(Clone, Copy, Debug, PartialEq, Eq)]
+pub enum ClauseFault {
+    /// A literal is not a latch's.
+    NotLatch,
+    /// A literal is repeated or opposed.
+    Repeated,
+}
+
+/// The first fault of a clause. `seen` has for each variable a number that is `stamp` once the
+/// variable was seen in this clause.
+fn clause_fault(
+    model: &Model,
+    table: &NextTable,
+    seen: &mut [u32],
+    stamp: u32,
+    clause: &[Lit],
+) -> Option<ClauseFault>
+    requires table { IsTableOf model.now.latches table.now }
+    requires whole { length seen.old ≡ model.now.max_var + 1 }
+    requires below { All (λ s. s < stamp) seen.old }
+    ensures fault { MatchOption result (IsGood model.now clause.now) (IsClauseFault model.now clause.now) }
+    ensures most { All (λ s. s ≤ stamp) seen.new }
+    ensures same_length { length seen.new ≡ length seen.old }
+{
+    model.parts();
+    for (i, lit) in clause.iter().enumerate() {
+        let variable = lit.variable();
+        if !table.is_latch(variable) {
+            return Some(ClauseFault::NotLatch);
+        }
+        if seen[variable as usize] == stamp {
+            return Some(ClauseFault::Repeated);
+        }
+        seen[variable as usize] = stamp;
+    }
+    None
+}
+
+/// Whether each clause is one over the latches, without a literal that is repeated or opposed. It
+/// costs the literals and the variables.
+pub fn check_clauses(
+    alloc: Global,
+    model: &Model,
+    table: &NextTable,
+    invariant: &[Seq<Lit>],
+) -> Result<(), CheckError>
+    requires table { IsTableOf model.now.latches table.now }
+    requires few { length invariant.now ≤ 4194303 }
+    ensures good { OnOk result (All (IsGood model.now) invariant.now) }
+    ensures refused { IfErr result (IsClausesFault model.now invariant.now) }
+{
+    model.parts();
+    let mut seen = vec![in alloc; 0u32; model.max_var() as usize + 1]?;
+    for (k, clause) in invariant.iter().enumerate() {
+        let stamp = k as u32 + 1;
+        match clause_fault(model, table, seen.as_mut_slice(), stamp, clause.as_slice()) {
+            None => {}
+            Some(ClauseFault::NotLatch) => return Err(CheckError::NotLatch { clause: k as u64 }),
+            Some(ClauseFault::Repeated) => return Err(CheckError::Repeated { clause: k as u64 }),
+        }
+    }
+    Ok(())
+}

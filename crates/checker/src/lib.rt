@@ -1,0 +1,31 @@
+//! The judge of certificates.
+//!
+//! - `check` answers Ok exactly where a certificate is accepted for a circuit, want of memory
+//!   aside. Then the circuit is safe: no run of it that keeps the constraints sets the bad literal
+//!   at any time. A refusal has the first cause.
+//! - `run_safe` does it from bytes to bytes: it reads a circuit and a certificate, and puts one
+//!   line, `yes safe b0` or `no 44`. It says yes exactly where the first bytes spell a circuit and
+//!   the second, to their end, a certificate that is accepted for it; and then that circuit is
+//!   safe.
+//!
+//! Nothing is assumed of whoever wrote the certificate. It costs its own length and one circuit:
+//! all sections of a kind are checked over one formula, and what a section adds is forgotten after
+//! it.
+#![tactic(auto)]
+
+mod acceptance;
+mod check_error;
+mod invariant;
+mod line;
+mod run;
+mod run_error;
+mod sections;
+mod stop;
+
+pub use acceptance::check;
+pub use check_error::CheckError;
+pub use run::run_safe;
+pub use run_error::RunError;
+
+#[cfg(test)]
+mod tests;
