@@ -79,6 +79,7 @@ fn check_initial(
     model.parts();
     let base = start_base(alloc, model)?;
     let mut refuter = Refuter::new(alloc, &base)?;
+    drop(base);
     for (k, clause) in invariant.iter().enumerate() {
         let units = init_units(alloc, model, clause.as_slice())?;
         match refute(alloc, &mut refuter, units.as_slice(), &sections[k]) {
@@ -109,6 +110,7 @@ fn check_others(
     model.parts();
     let base = shared_base(alloc, model, invariant)?;
     let mut refuter = Refuter::new(alloc, &base)?;
+    drop(base);
     let count = invariant.len();
     for (k, clause) in invariant.iter().enumerate() {
         let units = step_units(alloc, model, table, clause.as_slice())?;
