@@ -1,0 +1,3 @@
+pub mod Starts
+pub mod Refusals
+pub mod Replays

@@ -1,0 +1,115 @@
+//! Replaying a circuit.
+
+ghost use Rattle.std.specs.Prelude.{◌≡◌, ◌≢◌, ◌<◌, ◌≤◌, length, map, All, IfOk, IfErr, IfSome, IsSome};
+ghost use Rattle.graph.specs.Valuation.{variable, value_of};
+ghost use Rattle.simulate.specs.Refusals.{HasCause};
+ghost use Rattle.simulate.specs.Replays.{begun, Steps};
+ghost use Rattle.simulate.specs.Starts.{Starts};
+
+use crate::initial::first_against;
+use crate::replay_error::ReplayError;
+use graph::{Latch, Lit, Model};
+use std::alloc::{AllocError, Global};
+
+/// A circuit at one time after another. Contracts see the circuit, the state of the next time to be
+/// stepped, and the valuation of the time that was stepped last.
+#[derive(Debug, Drop)]
+pub struct Replay<'a> {
+    model: &'a Model,
+    // the state of the next time to be stepped
+    state: Vec<bool>,
+    // the values of the variables at the time stepped last
+    values: Vec<bool>,
+    // whether there is such a time
+    is_stepped: bool,
+}
+
+impl<'a> std::marker::Model for Replay<'a> {
+    ghost use Rattle.std.specs.Prelude.{◌≡◌, ◌+◌, length, Some, None, if◌then◌else◌};
+    ghost use Rattle.simulate.specs.Replays.{Replayed};
+
+    ghost Value = { Replayed };
+
+    ghost view = { λ r. record { circuit = r.model.now; state = r.state.items; now = if r.is_stepped then Some r.values.items else None } };
+
+    ghost invariant = { λ r. (length r.state.items ≡ length r.model.now.latches) × (length r.values.items ≡ r.model.now.max_var + 1) };
+}
+
+/// The truth value of a literal.
+fn literal_value(values: &[bool], lit: Lit) -> bool
+    requires { variable lit < length values.now }
+    ensures { result ≡ value_of values.now lit }
+{
+    let at = values[lit.variable() as usize];
+    if lit.is_negated() { !at } else { at }
+}
+
+/// Gives each latch the value of its next literal.
+fn take_over(latches: &[Latch], values: &[bool], state: &mut [bool])
+    requires lengths { length state.old ≡ length latches.now }
+    requires in_range { All (λ l. variable l.next < length values.now) latches.now }
+    ensures { state.new ≡ map (λ l. value_of values.now l.next) latches.now }
+{
+    for (i, latch) in latches.iter().enumerate() {
+        state[i] = literal_value(values, latch.next);
+    }
+}
+
+impl<'a> Replay<'a> {
+    /// A replay that begins in this state. It takes memory for the state and a valuation, and none
+    /// after that.
+    pub fn new(alloc: Global, model: &'a Model, initial: &[bool]) -> Result<Replay<'a>, ReplayError>
+        requires { length initial.now ≡ length model.now.latches }
+        ensures begun { IfOk result (λ r. (r ≡ begun model.now initial.now) × Starts model.now.latches initial.now) }
+        ensures refused { IfErr result (HasCause model.now.latches initial.now) }
+        ensures exact { IfErr result (λ e. e ≢ ReplayError.OutOfMemory → Starts model.now.latches initial.now → ⊥) }
+    {
+        let parts = model.parts();
+        if let Some(latch) = first_against(parts.latches.as_slice(), initial) {
+            return Err(ReplayError::InitialReset {
+                latch: latch as u32,
+            });
+        }
+        let mut state = Vec::new(alloc);
+        state.extend_from_slice(initial)?;
+        let values = vec![in alloc; false; parts.max_var as usize + 1]?;
+        Ok(Replay {
+            model,
+            state,
+            values,
+            is_stepped: false,
+        })
+    }
+
+    /// Evaluates the circuit in its state under these inputs, and moves on to the next state. It
+    /// touches each gate once and takes no memory.
+    pub fn step(&mut self, inputs: &[bool])
+        requires { length inputs.now ≡ length self.old.circuit.inputs }
+        ensures { Steps self.old self.new inputs.now }
+    {
+        let model = self.model;
+        model.eval(&self.state, inputs, &mut self.values);
+        take_over(
+            model.parts().latches.as_slice(),
+            &self.values,
+            &mut self.state,
+        );
+        self.is_stepped = true;
+    }
+
+    /// The state of the next time to be stepped.
+    pub fn state(&self) -> &[bool]
+        ensures { result.now ≡ self.now.state }
+    {
+        self.state.as_slice()
+    }
+
+    /// The value of a literal at the time that was stepped last.
+    pub fn value(&self, lit: Lit) -> bool
+        requires stepped { IsSome self.now.now }
+        requires in_range { variable lit ≤ self.now.circuit.max_var }
+        ensures { IfSome self.now.now (λ w. result ≡ value_of w lit) }
+    {
+        literal_value(&self.values, lit)
+    }
+}

@@ -1,0 +1,50 @@
+//! Why there is no replay.
+
+ghost use Rattle.std.specs.Prelude.{◌≡◌};
+ghost use Rattle.simulate.specs.Refusals.{number_of, place_of};
+
+use std::alloc::AllocError;
+use thiserror::Error;
+
+/// Why a replay is refused.
+#[derive(Clone, Copy, Debug, PartialEq, Eq, Error)]
+pub enum ReplayError {
+    /// The first latch whose initial value is not that of its reset, by its position.
+    #[error("latch {latch} is against its reset")]
+    InitialReset { latch: u32 },
+    #[error("out of memory")]
+    OutOfMemory,
+}
+
+impl From<AllocError> for ReplayError {
+    ghost use Rattle.std.specs.Prelude.{◌≡◌};
+    ghost use Rattle.simulate.specs.declared.replay_error.ReplayError.TheVariants.{OutOfMemory};
+
+    ghost from_gives = { λ _ e. e ≡ OutOfMemory };
+
+    fn from(_e: AllocError) -> ReplayError {
+        ReplayError::OutOfMemory
+    }
+}
+
+impl ReplayError {
+    /// The refusal's number.
+    pub fn number(&self) -> u8
+        ensures { result ≡ number_of self.now }
+    {
+        match self {
+            ReplayError::InitialReset { latch: _ } => 60,
+            ReplayError::OutOfMemory => 20,
+        }
+    }
+
+    /// The refusal's place: the latch, and 0 for want of memory.
+    pub fn place(&self) -> u64
+        ensures { result ≡ place_of self.now }
+    {
+        match self {
+            ReplayError::InitialReset { latch } => u64::from(*latch),
+            ReplayError::OutOfMemory => 0,
+        }
+    }
+}
