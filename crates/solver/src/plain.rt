@@ -1,0 +1,108 @@
+//! A solver by backtracking.
+
+ghost use Rattle.std.specs.Prelude.{◌≡◌, ◌≤◌, ◌++◌, ◌∷◌, [], length, All, IfOk, IfErr, OnOk, OnErr};
+ghost use Rattle.base.specs.Budget.{Spends};
+ghost use Rattle.lrat.specs.Literals.{IsLiteral};
+ghost use Rattle.solver.specs.Answers.{IsLawful};
+ghost use Rattle.solver.specs.declared.sat_error.SatError.TheVariants.{Limit, OutOfMemory};
+
+use crate::answer::Answer;
+use crate::sat::Sat;
+use crate::sat_error::SatError;
+use crate::search::search;
+use base::{Budget, Seq};
+use lrat::{Clause, Formula};
+use std::alloc::Global;
+use std::marker::Model;
+
+/// A solver that tries all values of the variables in order, and goes back where a clause or an
+/// assumption is false. It is short, to check faster solvers by; it remembers nothing but the
+/// clauses from one call to the next.
+#[derive(Drop)]
+pub struct Plain {
+    formula: Formula,
+}
+
+impl Model for Plain {
+    ghost use Rattle.lrat.specs.declared.formula.Formula.{Formula};
+    ghost use Rattle.lrat.specs.Limits.{IsFormula};
+
+    ghost Value = { Formula };
+
+    ghost view = { λ s. s.formula };
+
+    ghost invariant = { λ s. IsFormula s.formula };
+}
+
+impl Plain {
+    /// A solver over no variables and without clauses, which takes no memory.
+    pub fn new(alloc: Global) -> Plain
+        ensures { result ≡ record { vars = 0; clauses = [] } }
+    {
+        Plain {
+            formula: Formula {
+                vars: 0,
+                clauses: Seq::new(alloc),
+            },
+        }
+    }
+}
+
+impl Sat for Plain {
+    ghost vars = { λ s. s.vars };
+
+    ghost clauses = { λ s. s.clauses };
+
+    fn reset(&mut self, alloc: Global, count: u32) -> Result<(), SatError> {
+        self.formula = Formula {
+            vars: count,
+            clauses: Seq::new(alloc),
+        };
+        Ok(())
+    }
+
+    fn vars(&self) -> u32 {
+        self.formula.vars
+    }
+
+    /// Adds a clause, and refuses one as over the limit only where there are 4,294,967,295.
+    fn add(&mut self, alloc: Global, clause: &[i32]) -> Result<(), SatError>
+        requires { All (IsLiteral self.old.vars) clause.now }
+        ensures vars { self.new.vars ≡ self.old.vars }
+        ensures ok { OnOk result (self.new.clauses ≡ self.old.clauses ++ clause.now ∷ []) }
+        ensures few { OnOk result (length self.new.clauses ≤ 4294967295) }
+        ensures err { OnErr result (self.new.clauses ≡ self.old.clauses) }
+        ensures limit { IfErr result (λ e. e ≡ Limit → length self.old.clauses ≡ 4294967295) }
+    {
+        if self.formula.clauses.len() >= 4_294_967_295 {
+            return Err(SatError::Limit);
+        }
+        let clause = Clause::from_slice(alloc, clause)?;
+        self.formula.clauses.push(clause)?;
+        Ok(())
+    }
+
+    /// Finds a model or a core. The only refusal is want of memory.
+    fn solve(
+        &mut self,
+        alloc: Global,
+        assume: &[i32],
+        budget: &mut Budget,
+    ) -> Result<Answer, SatError>
+        requires { All (IsLiteral self.old.vars) assume.now }
+        ensures vars { self.new.vars ≡ self.old.vars }
+        ensures clauses { self.new.clauses ≡ self.old.clauses }
+        ensures spends { Spends budget.old budget.new }
+        ensures lawful { IfOk result (IsLawful self.old.vars self.old.clauses assume.now budget.new) }
+        ensures refused { IfErr result (λ e. e ≡ OutOfMemory) }
+    {
+        let formula = &self.formula;
+        search(
+            alloc,
+            formula.vars,
+            formula.clauses.as_slice(),
+            assume,
+            budget,
+        )
+    }
+}
