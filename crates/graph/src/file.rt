@@ -69,6 +69,15 @@ impl AigerFile {
         &self.model
     }
 
+    /// The same names and comment for another circuit, which has as many of each kind that can have
+    /// a name.
+    pub fn with_model(self, model: Model) -> AigerFile
+        requires { symbol_counts model ≡ symbol_counts self.model }
+        ensures { result ≡ record { model = model; symbols = self.symbols; comment = self.comment } }
+    {
+        AigerFile { model, ..self }
+    }
+
     /// The circuit alone.
     pub fn into_model(self) -> Model
         ensures { result ≡ self.model }

@@ -35,6 +35,3 @@ pub use file::AigerFile;
 pub use model::Model;
 pub use parts::Parts;
 pub use symbol::{Symbol, SymbolKind, Symbols, is_name};
-
-#[cfg(test)]
-mod tests;

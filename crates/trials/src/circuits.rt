@@ -1,7 +1,7 @@
-//! What no clause says: that calls succeed where there is memory, what the numbers and places of
-//! refusals are, and that a deep chain of gates costs no stack.
+//! Circuits: that calls succeed where there is memory, what the numbers and places of refusals are, and
+//! that a deep chain of gates costs no stack.
 
-use crate::{
+use graph::{
     AigerFile, Gate, Latch, Lit, Model, Parts, ReadError, Seq, Symbol, SymbolKind, Symbols, is_name,
 };
 use std::alloc::{AllocError, Global};
@@ -56,7 +56,7 @@ fn parts_of(alloc: Global, plain: &Plain<'_>) -> Result<Parts, AllocError> {
 }
 
 /// A circuit of one input and one latch that it toggles: the gates are given last first.
-const TOGGLE: Plain<'static> = Plain {
+static TOGGLE: Plain<'static> = Plain {
     max_var: 5,
     inputs: &[2],
     latches: &[(4, 11, 4)],
@@ -64,56 +64,90 @@ const TOGGLE: Plain<'static> = Plain {
     gates: &[(10, 7, 9), (8, 3, 5), (6, 2, 4)],
 };
 
+/// The circuit of plain parts.
+fn model_of(alloc: Global, plain: &Plain<'_>) -> Result<Model, Fail> {
+    let parts = parts_of(alloc, plain)?;
+    let model = Model::from_parts(alloc, parts)?;
+    Ok(model)
+}
+
+/// The number and place of the refusal of parts.
+fn refusal(alloc: Global, plain: &Plain<'_>) -> Result<Option<(u8, u64)>, Fail> {
+    let parts = parts_of(alloc, plain)?;
+    match Model::build(alloc, &parts) {
+        Ok(_) => Ok(None),
+        Err(e) => Ok(Some((e.number(), e.place()))),
+    }
+}
+
+/// The toggle's gates as they are evaluated: positions in its list, each after what it reads.
+static ORDER: [u32; 3] = [2, 1, 0];
+
 #[test]
-fn well_formed_parts_build(rt: HostRuntime) -> Result<(), Fail> {
+fn gates_in_their_order(rt: HostRuntime) -> Result<(), Fail> {
     let parts = parts_of(rt.alloc(), &TOGGLE)?;
     let model = Model::build(rt.alloc(), &parts)?;
-    assert_eq!(rt; model.max_var(), 5);
-    assert_eq!(rt; model.inputs(), [Lit(2)].as_slice());
-    assert_eq!(rt; model.gates().len(), 3);
-    assert_eq!(rt; model.order(), [2, 1, 0].as_slice());
+    assert_eq!(rt; model.order(), ORDER.as_slice());
     Ok(())
+}
+
+/// How many outputs, bad literals, constraints, justice properties and fairness literals there are.
+fn shown(model: &Model) -> (usize, usize, usize, usize, usize) {
+    (
+        model.outputs().len(),
+        model.bad().len(),
+        model.constraints().len(),
+        model.justice().len(),
+        model.fairness().len(),
+    )
 }
 
 #[test]
 fn the_lists_of_a_circuit(rt: HostRuntime) -> Result<(), Fail> {
-    let model = Model::from_parts(rt.alloc(), parts_of(rt.alloc(), &TOGGLE)?)?;
-    assert_eq!(rt; model.latches().len(), 1);
-    assert_eq!(rt; model.bad(), [Lit(4), Lit(5)].as_slice());
-    assert!(rt; model.outputs().is_empty() && model.constraints().is_empty());
-    assert!(rt; model.justice().is_empty() && model.fairness().is_empty());
+    let model = model_of(rt.alloc(), &TOGGLE)?;
+    assert_eq!(rt; shown(&model), (0, 2, 0, 0, 0));
     Ok(())
+}
+
+/// The bad literal of the circuit for one of the toggle's alone, or the refusal's number and place.
+fn alone(alloc: Global, n: u32) -> Result<Result<Option<Lit>, (u8, u64)>, Fail> {
+    let model = model_of(alloc, &TOGGLE)?;
+    match model.for_bad(alloc, n) {
+        Ok(one) => Ok(Ok(one.bad().first().copied())),
+        Err(e) => Ok(Err((e.number(), e.place()))),
+    }
 }
 
 #[test]
 fn one_bad_literal_alone(rt: HostRuntime) -> Result<(), Fail> {
-    let model = Model::from_parts(rt.alloc(), parts_of(rt.alloc(), &TOGGLE)?)?;
-    let second = model.for_bad(rt.alloc(), 1)?;
-    assert_eq!(rt; second.bad(), [Lit(5)].as_slice());
-    assert_eq!(rt; second.gates(), model.gates());
-    match model.for_bad(rt.alloc(), 2) {
-        Ok(_) => assert!(rt; false, "there are two bad literals"),
-        Err(e) => assert_eq!(rt; (e.number(), e.place()), (30, 2)),
-    }
+    assert_eq!(rt; alone(rt.alloc(), 1)?, Ok(Some(Lit(5))));
+    assert_eq!(rt; alone(rt.alloc(), 2)?, Err((30, 2)));
     Ok(())
 }
 
+/// The toggle's valuation for a value of its latch and one of its input.
+fn valuation(alloc: Global, latch: bool, input: bool) -> Result<Vec<bool>, Fail> {
+    let model = model_of(alloc, &TOGGLE)?;
+    let state = vec![in alloc; latch; model.latches().len()]?;
+    let inputs = vec![in alloc; input; model.inputs().len()]?;
+    let mut out = vec![in alloc; true; model.max_var() as usize + 1]?;
+    model.eval(&state, &inputs, &mut out);
+    Ok(out)
+}
+
+/// The values of the toggle's variables 0 to 5 for each value of its latch and its input.
+static VALUATIONS: [(bool, bool, [bool; 6]); 4] = [
+    (false, false, [false, false, false, false, true, false]),
+    (false, true, [false, true, false, false, false, true]),
+    (true, false, [false, false, true, false, false, true]),
+    (true, true, [false, true, true, true, false, false]),
+];
+
 #[test]
 fn the_one_agreeing_valuation(rt: HostRuntime) -> Result<(), Fail> {
-    let model = Model::from_parts(rt.alloc(), parts_of(rt.alloc(), &TOGGLE)?)?;
-    assert_eq!(rt;
-        (model.max_var(), model.inputs().len(), model.latches().len()),
-        (5, 1, 1)
-    );
-    for (latch, input) in [(false, false), (false, true), (true, false), (true, true)] {
-        let mut out = [false; 6];
-        model.eval(&[latch], &[input], &mut out);
-        let both = latch && input;
-        let neither = !latch && !input;
-        assert_eq!(rt;
-            out.as_slice(),
-            [false, input, latch, both, neither, !both && !neither].as_slice()
-        );
+    for (latch, input, values) in &VALUATIONS {
+        let found = valuation(rt.alloc(), *latch, *input)?;
+        assert_eq!(rt; found.as_slice(), values.as_slice());
     }
     Ok(())
 }
@@ -156,7 +190,7 @@ static NUMBERED: [(Plain<'static>, bool); 3] = [
 #[test]
 fn the_binary_numbering(rt: HostRuntime) -> Result<(), Fail> {
     for (plain, wanted) in &NUMBERED {
-        let model = Model::from_parts(rt.alloc(), parts_of(rt.alloc(), plain)?)?;
+        let model = model_of(rt.alloc(), plain)?;
         assert_eq!(rt; model.is_ordered(), *wanted);
     }
     Ok(())
@@ -345,24 +379,23 @@ static REFUSED: [(Plain<'static>, u8, u64); 16] = [
 #[test]
 fn refusals_with_number_and_place(rt: HostRuntime) -> Result<(), Fail> {
     for (plain, number, place) in &REFUSED {
-        match Model::build(rt.alloc(), &parts_of(rt.alloc(), plain)?) {
-            Ok(_) => assert!(rt; false, "refused by {number}"),
-            Err(e) => assert_eq!(rt; (e.number(), e.place()), (*number, *place)),
-        }
+        assert_eq!(rt; refusal(rt.alloc(), plain)?, Some((*number, *place)));
     }
     Ok(())
 }
 
+/// An input of the greatest variable that there may be.
+static WIDEST: Plain<'static> = Plain {
+    max_var: 4_194_303,
+    inputs: &[8_388_606],
+    latches: &[],
+    bad: &[8_388_607],
+    gates: &[],
+};
+
 #[test]
 fn the_greatest_variable(rt: HostRuntime) -> Result<(), Fail> {
-    let widest = Plain {
-        max_var: 4_194_303,
-        inputs: &[8_388_606],
-        latches: &[],
-        bad: &[8_388_607],
-        gates: &[],
-    };
-    let model = Model::from_parts(rt.alloc(), parts_of(rt.alloc(), &widest)?)?;
+    let model = model_of(rt.alloc(), &WIDEST)?;
     assert_eq!(rt; model.max_var(), 4_194_303);
     Ok(())
 }
@@ -394,17 +427,19 @@ fn chain(alloc: Global) -> Result<Parts, AllocError> {
     })
 }
 
+/// What stands first in the order of the deep chain's gates, and the value of its last gate.
+fn deep(alloc: Global) -> Result<(Option<u32>, Option<bool>), Fail> {
+    let model = Model::from_parts(alloc, chain(alloc)?)?;
+    let inputs = vec![in alloc; true; model.inputs().len()]?;
+    let state = vec![in alloc; true; model.latches().len()]?;
+    let mut out = vec![in alloc; true; model.max_var() as usize + 1]?;
+    model.eval(&state, &inputs, &mut out);
+    Ok((model.order().first().copied(), out.last().copied()))
+}
+
 #[test]
 fn a_deep_chain_given_last_first(rt: HostRuntime) -> Result<(), Fail> {
-    let model = Model::from_parts(rt.alloc(), chain(rt.alloc())?)?;
-    let inputs = vec![in rt.alloc(); true; model.inputs().len()]?;
-    let state = vec![in rt.alloc(); true; model.latches().len()]?;
-    let mut out = vec![in rt.alloc(); true; model.max_var() as usize + 1]?;
-    model.eval(&state, &inputs, &mut out);
-    assert_eq!(rt; model.order().first().copied(), Some(DEPTH - 1));
-    assert_eq!(rt; out.first().copied(), Some(false));
-    assert_eq!(rt; out.get(1).copied(), Some(true));
-    assert_eq!(rt; out.last().copied(), Some(false));
+    assert_eq!(rt; deep(rt.alloc())?, (Some(DEPTH - 1), Some(false)));
     Ok(())
 }
 
@@ -422,74 +457,101 @@ fn symbol(
     })
 }
 
+/// The toggle's file with a name of its input, one more symbol, and a comment; or the number and place of
+/// the refusal.
+fn file_with(
+    alloc: Global,
+    kind: SymbolKind,
+    position: u32,
+    name: &[u8],
+) -> Result<Result<AigerFile, (u8, u64)>, Fail> {
+    let model = model_of(alloc, &TOGGLE)?;
+    let mut symbols = Seq::new(alloc);
+    symbols.push(symbol(alloc, SymbolKind::Input, 0, b"enable")?)?;
+    symbols.push(symbol(alloc, kind, position, name)?)?;
+    let comment = Seq::from_slice(alloc, b"free")?;
+    match AigerFile::new(alloc, model, symbols, Some(comment)) {
+        Ok(file) => Ok(Ok(file)),
+        Err(e) => Ok(Err((e.number(), e.place()))),
+    }
+}
+
+/// How many symbols there are, how long the comment is, and the greatest variable.
+fn sizes(file: &AigerFile) -> (usize, Option<usize>, u32) {
+    (
+        file.symbols().len(),
+        file.comment().map(|bytes| bytes.len()),
+        file.model().max_var(),
+    )
+}
+
 #[test]
 fn a_file_of_a_circuit_and_names(rt: HostRuntime) -> Result<(), Fail> {
-    let model = Model::from_parts(rt.alloc(), parts_of(rt.alloc(), &TOGGLE)?)?;
-    let mut symbols = Seq::new(rt.alloc());
-    symbols.push(symbol(rt.alloc(), SymbolKind::Input, 0, b"enable")?)?;
-    symbols.push(symbol(rt.alloc(), SymbolKind::Bad, 1, b"b 1")?)?;
-    let comment = Seq::from_slice(rt.alloc(), b"free")?;
-    let file = AigerFile::new(rt.alloc(), model, symbols, Some(comment))?;
-    assert_eq!(rt; file.symbols().len(), 2);
-    assert_eq!(rt; file.comment().map(|bytes| bytes.len()), Some(4));
-    assert_eq!(rt; file.model().max_var(), 5);
-    assert_eq!(rt; file.into_model().max_var(), 5);
+    match file_with(rt.alloc(), SymbolKind::Bad, 1, b"b 1")? {
+        Ok(file) => assert_eq!(rt; sizes(&file), (2, Some(4), 5)),
+        Err(refused) => assert_eq!(rt; refused, (0, 0)),
+    }
     Ok(())
 }
 
 /// Which second symbol after an input's is refused: the kind, the position and the name.
-static SECOND: [(SymbolKind, u32, &[u8], bool); 5] = [
-    (SymbolKind::Latch, 0, b"l", false),
-    (SymbolKind::Input, 0, b"again", true),
-    (SymbolKind::Input, 1, b"beyond", true),
-    (SymbolKind::Output, 0, b"none", true),
-    (SymbolKind::Bad, 0, b"two\nlines", true),
+static SECOND: [(SymbolKind, u32, &[u8]); 4] = [
+    (SymbolKind::Input, 0, b"again"),
+    (SymbolKind::Input, 1, b"beyond"),
+    (SymbolKind::Output, 0, b"none"),
+    (SymbolKind::Bad, 0, b"two\nlines"),
 ];
 
 #[test]
 fn symbols_that_name_nothing(rt: HostRuntime) -> Result<(), Fail> {
-    for (kind, position, name, refused) in &SECOND {
-        let model = Model::from_parts(rt.alloc(), parts_of(rt.alloc(), &TOGGLE)?)?;
-        let mut symbols = Seq::new(rt.alloc());
-        symbols.push(symbol(rt.alloc(), SymbolKind::Input, 0, b"first")?)?;
-        symbols.push(symbol(rt.alloc(), *kind, *position, name)?)?;
-        match AigerFile::new(rt.alloc(), model, symbols, None) {
-            Ok(_) => assert!(rt; !*refused),
-            Err(e) => assert_eq!(rt; (e.number(), e.place(), *refused), (14, 1, true)),
-        }
+    for (kind, position, name) in &SECOND {
+        let refused = file_with(rt.alloc(), *kind, *position, name)?.err();
+        assert_eq!(rt; refused, Some((14, 1)));
     }
     Ok(())
+}
+
+/// Whether a symbol of the latch is added to the toggle's.
+fn added(symbols: &mut Symbols, symbol: Symbol) -> Result<Option<bool>, AllocError> {
+    if !is_name(symbol.name.as_slice()) {
+        return Ok(None);
+    }
+    let added = symbols.add(symbol)?;
+    Ok(Some(added))
 }
 
 #[test]
 fn symbols_are_added_once(rt: HostRuntime) -> Result<(), Fail> {
     let parts = parts_of(rt.alloc(), &TOGGLE)?;
     let mut symbols = Symbols::new(rt.alloc(), &parts)?;
-    assert!(rt; is_name(b"a b") && !is_name(b"") && !is_name(b"a\nb"));
     let first = symbol(rt.alloc(), SymbolKind::Latch, 0, b"q")?;
-    assert!(rt; is_name(first.name.as_slice()));
-    assert!(rt; symbols.add(first)?);
     let second = symbol(rt.alloc(), SymbolKind::Latch, 0, b"r")?;
-    assert!(rt; is_name(second.name.as_slice()));
-    assert!(rt; !symbols.add(second)?);
+    assert_eq!(rt; added(&mut symbols, first)?, Some(true));
+    assert_eq!(rt; added(&mut symbols, second)?, Some(false));
     assert_eq!(rt; symbols.into_list().len(), 1);
     Ok(())
+}
+
+/// Bytes, and whether they are a name.
+static NAMES: [(&[u8], bool); 3] = [(b"a b", true), (b"", false), (b"a\nb", false)];
+
+#[test]
+fn names_are_lines(rt: HostRuntime) {
+    for (bytes, wanted) in &NAMES {
+        assert_eq!(rt; is_name(bytes), *wanted);
+    }
+}
+
+/// A refusal's number and place.
+fn told(error: ReadError) -> (u8, u64) {
+    (error.number(), error.place())
 }
 
 #[test]
 fn errors_have_words(rt: HostRuntime) -> Result<(), Fail> {
     let text = format!(in rt.alloc(); "{}", ReadError::Cyclic(7))?;
     assert_eq!(rt; text.as_str(), "variable 7 leads into a cycle");
-    assert_eq!(rt;
-        (ReadError::TooLong.number(), ReadError::TooLong.place()),
-        (1, 67_108_864)
-    );
-    assert_eq!(rt;
-        (
-            ReadError::OutOfMemory.number(),
-            ReadError::OutOfMemory.place()
-        ),
-        (20, 0)
-    );
+    assert_eq!(rt; told(ReadError::TooLong), (1, 67_108_864));
+    assert_eq!(rt; told(ReadError::OutOfMemory), (20, 0));
     Ok(())
 }
