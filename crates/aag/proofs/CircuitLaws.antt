@@ -102,7 +102,7 @@ uses_reads h le = reads_as (IsUses h)
 
 -- ---- all lists
 
-abbrev uses_of : Parts → Uses
+abbrev pub uses_of : Parts → Uses
 uses_of c = record { outputs = c.outputs; bad = c.bad; constraints = c.constraints; justice = c.justice; fairness = c.fairness }
 
 -- the lines of the parts, as many as the header states
@@ -195,7 +195,7 @@ abbrev is_crowded : Header → Bool
 is_crowded h = ltb h.max_var (h.inputs + h.latches + h.gates)
 
 abbrev OfCircuit : List ℕ → Parts → Type 0
-OfCircuit = Then IsHeader (λ h t c. (is_crowded h ≡ false) × IsLists h t c)
+OfCircuit = Then (IsHeader (codes "aag ")) (λ h t c. (is_crowded h ≡ false) × IsLists h t c)
 
 regroup : (w m h a b o d e s j f g : List ℕ) → (w ++ m ++ h) ++ (a ++ b ++ (o ++ d ++ e ++ (s ++ j) ++ f) ++ g) ≡ w ++ m ++ h ++ a ++ b ++ o ++ d ++ e ++ s ++ j ++ f ++ g
 regroup w m h a b o d e s j f g = simp append_assoc
@@ -205,7 +205,7 @@ stated_are h t c l =
     let u = l.each_use in
     rw (l.each_input.0, l.each_latch.0, l.each_gate.0, u.each_output.0, u.each_bad.0, u.each_constraint.0, u.each_justice.count, u.each_fairness.0) refl
 
-circuit_of : (t a b : List ℕ) (h : Header) (c : Parts) → IsHeader a h → is_crowded h ≡ false → IsLists h b c → t ≡ a ++ b → SpellsCircuit t c
+circuit_of : (t a b : List ℕ) (h : Header) (c : Parts) → IsHeader (codes "aag ") a h → is_crowded h ≡ false → IsLists h b c → t ≡ a ++ b → SpellsCircuit t c
 circuit_of t a b h c headed good l p =
     let u = l.each_use in
     let j = u.each_justice in
@@ -242,7 +242,7 @@ circuit_to : (t : List ℕ) (c : Parts) → OfCircuit t c → SpellsCircuit t c
 circuit_to t c (h, a, b, headed, (good, lists), p) = circuit_of t a b h c headed good lists p
 
 -- the header of these parts
-abbrev header_for : Parts → Header
+abbrev pub header_for : Parts → Header
 header_for c = record {
   max_var = c.max_var;
   inputs = length c.inputs;
@@ -302,5 +302,5 @@ circuit_from t c s = (
 pub circuit_reads : Reads circuit_at SpellsCircuit
 unfolding circuit_at
 circuit_reads = reads_as SpellsCircuit
-    (reads_given header_reads (λ h t headed. reads_unless (is_crowded h) (lists_reads h headed.max_var)))
+    (reads_given (header_reads (codes "aag ")) (λ h t headed. reads_unless (is_crowded h) (lists_reads h headed.max_var)))
     circuit_to circuit_from

@@ -1,6 +1,6 @@
 -- A header is read as it is spelled.
 use Rattle.std.proofs.Common.{◌≡◌, ℕ, ◌-◌, ◌≤◌, List, [], ◌∷◌, ◌++◌, length, replicate, refl, sym, ap, ◌∙◌, arith, append_assoc}
-use Rattle.std.specs.Prelude.{decimal, codes}
+use Rattle.std.specs.Prelude.{decimal}
 use Rattle.std.specs.List.{flat_map}
 use Rattle.std.proofs.lemmas.List.{append-nil, length-append, length-replicate}
 use Rattle.scan.specs.Words.{any, IsField}
@@ -17,15 +17,15 @@ use Rattle.aag.specs.Sections.{header_of, header_at}
 abbrev pub stated : Header → List ℕ
 stated h = h.inputs ∷ h.latches ∷ h.outputs ∷ h.gates ∷ h.bad ∷ h.constraints ∷ h.justice ∷ h.fairness ∷ []
 
--- a text is a header
-pub record IsHeader (t : List ℕ) (h : Header) : Type 0 where
+-- a text is a header that begins with this word
+pub record IsHeader (word t : List ℕ) (h : Header) : Type 0 where
   pub head : List ℕ
-  pub spells : t ≡ codes "aag " ++ decimal h.max_var ++ head
+  pub spells : t ≡ word ++ decimal h.max_var ++ head
   pub max_var : h.max_var ≤ greatest
   pub counts : IsCounts greatest head (stated h)
 
-abbrev OfHeader : List ℕ → Header → Type 0
-OfHeader = After (codes "aag ") (Then (IsField greatest any 32) (λ max. Then (λ t ns. IsCounts greatest (32 ∷ t) ns) (λ ns. Nothing (header_of max ns))))
+abbrev OfHeader : List ℕ → List ℕ → Header → Type 0
+OfHeader word = After word (Then (IsField greatest any 32) (λ max. Then (λ t ns. IsCounts greatest (32 ∷ t) ns) (λ ns. Nothing (header_of max ns))))
 
 eight : (ns : List ℕ) (max : ℕ) → length ns ≡ 8 → ns ≡ stated (header_of max ns)
 eight (a ∷ b ∷ c ∷ d ∷ e ∷ f ∷ g ∷ h ∷ []) max len = refl
@@ -47,11 +47,11 @@ counts_long c =
 regroup : (w m c : List ℕ) → w ++ ((m ++ 32 ∷ []) ++ (c ++ [])) ≡ w ++ m ++ 32 ∷ c
 regroup w m c = simp (append_assoc, append-nil)
 
-header_to : (t : List ℕ) (h : Header) → OfHeader t h → IsHeader t h
-header_to t h (rest, (max, a, b, field, (ns, c, d, counted, last, p2), p1), p0) =
+header_to : (word t : List ℕ) (h : Header) → OfHeader word t h → IsHeader word t h
+header_to word t h (rest, (max, a, b, field, (ns, c, d, counted, last, p2), p1), p0) =
     rw last.1 (record {
       head = 32 ∷ c;
-      spells = rw (p0, p1, field.spells, p2, last.0) (regroup (codes "aag ") (decimal max) c);
+      spells = rw (p0, p1, field.spells, p2, last.0) (regroup word (decimal max) c);
       max_var = field.within;
       counts = rw (← eight ns max (counts_long counted)) counted;
     })
@@ -63,8 +63,8 @@ starts (n ∷ ns) long = (decimal n ++ (flat_map spaced ns ++ 10 ∷ []), simp a
 begins : (w m c : List ℕ) → m ++ 32 ∷ c ≡ (m ++ 32 ∷ []) ++ c
 begins w m c = simp append_assoc
 
-header_from : (t : List ℕ) (h : Header) → IsHeader t h → OfHeader t h
-header_from t h r =
+header_from : (word t : List ℕ) (h : Header) → IsHeader word t h → OfHeader word t h
+header_from word t h r =
     let s = starts r.counts.written r.counts.enough in
     let head : r.head ≡ 32 ∷ s.0 = r.counts.spells ∙ s.1 in (
       decimal h.max_var ++ r.head,
@@ -76,13 +76,13 @@ header_from t h r =
         (stated h, s.0, [], rw (← head) r.counts, (refl, refl), sym (append-nil s.0)),
         rw head (begins [] (decimal h.max_var) s.0),
       ),
-      r.spells,
+      r.spells ∙ append_assoc word (decimal h.max_var) r.head,
     )
 
-pub header_reads : Reads header_at IsHeader
+pub header_reads : (word : List ℕ) → Reads (header_at word) (IsHeader word)
 unfolding header_at
-header_reads = reads_as IsHeader
-    (reads_after (skips_tag (codes "aag "))
+header_reads word = reads_as (IsHeader word)
+    (reads_after (skips_tag word)
     (reads_then (field_reads greatest any 32 (omega arith) refl) (λ max.
     reads_then (counts_reads greatest (omega arith)) (λ ns. reads_nothing (header_of max ns)))))
-    header_to header_from
+    (header_to word) (header_from word)

@@ -105,7 +105,7 @@ gate_reads max le = reads_as (IsGateLine max)
 
 -- ---- latches
 
-both : {b : Bool} → b ≡ false → b ≡ true → ⊥
+pub both : {b : Bool} → b ≡ false → b ≡ true → ⊥
 both f t = absurd cc
 
 end_next : (c : ℕ) → either 32 10 c ≡ true → is_ascii_digit c ≡ false
@@ -115,10 +115,10 @@ end_next c e = elim (or_cases (eqb c 32) (eqb c 10) e) [
 ]
 
 -- a next literal and the byte behind it
-abbrev IsNext : ℕ → List ℕ → Lit × ℕ → Type 0
+abbrev pub IsNext : ℕ → List ℕ → Lit × ℕ → Type 0
 IsNext max t x = IsWord (most max) any (either 32 10) t (x.0.0, x.1)
 
-next_reads : (max : ℕ) → max ≤ greatest → Reads (next_at max) (IsNext max)
+pub next_reads : (max : ℕ) → max ≤ greatest → Reads (next_at max) (IsNext max)
 unfolding next_at
 next_reads max le = reads_as (IsNext max)
     (reads_then (word_reads (most max) any (either 32 10) (small_most max le) end_next) (λ w. reads_nothing {A = Lit × ℕ} (lit w.0, w.1)))
@@ -126,10 +126,10 @@ next_reads max le = reads_as (IsNext max)
     (λ t x r. ((x.0.0, x.1), t, [], r, (refl, refl), sym (append-nil t)))
 
 -- a reset and the line end
-record IsResetOf (own : Lit) (t : List ℕ) (reset : Lit) : Type 0 where
-  spells : t ≡ decimal reset.0 ++ 10 ∷ []
-  within : reset.0 ≤ 2 ^ 32 - 1
-  fits : (reset.0 ≡ 0) ⊎ (reset.0 ≡ 1) ⊎ (reset.0 ≡ own.0)
+pub record IsResetOf (own : Lit) (t : List ℕ) (reset : Lit) : Type 0 where
+  pub spells : t ≡ decimal reset.0 ++ 10 ∷ []
+  pub within : reset.0 ≤ 2 ^ 32 - 1
+  pub fits : (reset.0 ≡ 0) ⊎ (reset.0 ≡ 1) ⊎ (reset.0 ≡ own.0)
 
 small_reset : (own reset : ℕ) → reset ≤ 1 → (reset ≡ 0) ⊎ (reset ≡ 1) ⊎ (reset ≡ own)
 small_reset own zero le = inl refl
@@ -147,7 +147,7 @@ reset_from own reset (inl z) = rw z refl
 reset_from own reset (inr (inl o)) = rw o refl
 reset_from own reset (inr (inr e)) = or_right (leb reset 1) (eqb reset own) (eq-eqb reset own e)
 
-reset_small : (own reset : ℕ) → own ≤ 2 ^ 31 → (reset ≡ 0) ⊎ (reset ≡ 1) ⊎ (reset ≡ own) → reset ≤ 2 ^ 32 - 1
+pub reset_small : (own reset : ℕ) → own ≤ 2 ^ 31 → (reset ≡ 0) ⊎ (reset ≡ 1) ⊎ (reset ≡ own) → reset ≤ 2 ^ 32 - 1
 reset_small own reset le (inl z) = omega arith
 reset_small own reset le (inr (inl o)) = omega arith
 reset_small own reset le (inr (inr e)) = omega arith
@@ -159,12 +159,12 @@ reset_reads own = reads_as (IsResetOf own)
     (λ t a (n, b, c, field, last, p). rw (p, last.0, last.1, append-nil b) (record { spells = field.spells; within = field.within; fits = reset_to own.0 n field.is_good }))
     (λ t a r. (a.0, t, [], record { spells = r.spells; within = r.within; is_good = reset_from own.0 a.0 r.fits }, (refl, refl), sym (append-nil t)))
 
-abbrev OfEnd : Lit → Lit → ℕ → List ℕ → Latch → Type 0
+abbrev pub OfEnd : Lit → Lit → ℕ → List ℕ → Latch → Type 0
 OfEnd own next end t l =
     cond (eqb end 10) (Nothing {A = Latch} (record { lit = own; next = next; reset = lit 0 }) t l)
     (Then (IsResetOf own) (λ reset. Nothing {A = Latch} (record { lit = own; next = next; reset = reset })) t l)
 
-end_reads : (own next : Lit) (end : ℕ) → Reads (latch_end_at own next end) (OfEnd own next end)
+pub end_reads : (own next : Lit) (end : ℕ) → Reads (latch_end_at own next end) (OfEnd own next end)
 unfolding latch_end_at
 end_reads own next end = reads_if (eqb end 10) (reads_nothing {A = Latch} (record { lit = own; next = next; reset = lit 0 }))
     (reads_then (reset_reads own) (λ reset. reads_nothing {A = Latch} (record { lit = own; next = next; reset = reset })))
@@ -201,7 +201,7 @@ latch_to max t l (own, a, b, fa, (w, c, d, fc, rest, p2), p1) =
           latch_long max own w t a b c d l fa fc space p2 p1 (rw e at rest)
     ]
 
-no_reset : (l : Latch) → l.reset.0 ≡ 0 → l ≡ record { lit = l.lit; next = l.next; reset = lit 0 }
+pub no_reset : (l : Latch) → l.reset.0 ≡ 0 → l ≡ record { lit = l.lit; next = l.next; reset = lit 0 }
 no_reset l e = rw (← e) refl
 
 latch_from : (max : ℕ) (t : List ℕ) (l : Latch) → max ≤ greatest → IsLatchLine max t l → OfLatch max t l

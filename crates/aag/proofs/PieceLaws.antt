@@ -64,10 +64,10 @@ other_counts m = length m.bad ∷ length m.constraints ∷ length m.justice ∷ 
 regroup : (a d f t : List ℕ) → a ++ ((d ++ []) ++ (f ++ (t ++ 10 ∷ []))) ≡ a ++ d ++ (f ++ t) ++ 10 ∷ []
 regroup a d f t = simp (append_assoc, append-nil)
 
-pub header_is : (m : Parts) → codes "aag " ++ ((decimal m.max_var ++ []) ++ (flat_map spaced (four_counts m) ++ (flat_map spaced (trimmed (other_counts m)) ++ 10 ∷ []))) ≡ header_line m
-header_is m =
-    regroup (codes "aag ") (decimal m.max_var) (flat_map spaced (four_counts m)) (flat_map spaced (trimmed (other_counts m)))
-    ∙ sym (ap (λ (w : List ℕ). codes "aag " ++ decimal m.max_var ++ w ++ 10 ∷ []) (flat_map-append spaced (four_counts m) (trimmed (other_counts m))))
+pub header_is : (word : List ℕ) (m : Parts) → word ++ ((decimal m.max_var ++ []) ++ (flat_map spaced (four_counts m) ++ (flat_map spaced (trimmed (other_counts m)) ++ 10 ∷ []))) ≡ header_line word m
+header_is word m =
+    regroup word (decimal m.max_var) (flat_map spaced (four_counts m)) (flat_map spaced (trimmed (other_counts m)))
+    ∙ sym (ap (λ (w : List ℕ). word ++ decimal m.max_var ++ w ++ 10 ∷ []) (flat_map-append spaced (four_counts m) (trimmed (other_counts m))))
 
 -- ---- the lines
 
@@ -94,9 +94,9 @@ uses_is m =
 regroup_circuit : (h i l a b c d e f g : List ℕ) → h ++ (i ++ (l ++ ((a ++ b ++ c ++ d ++ e ++ f) ++ g))) ≡ h ++ i ++ l ++ a ++ b ++ c ++ d ++ e ++ f ++ g
 regroup_circuit h i l a b c d e f g = simp append_assoc
 
-pub circuit_is : (m : Parts) → header_line m ++ (flat_map literal_line m.inputs ++ (flat_map latch_line m.latches ++ (use_lines m ++ flat_map gate_line m.gates))) ≡ circuit_text m
+pub circuit_is : (m : Parts) → header_line (codes "aag ") m ++ (flat_map literal_line m.inputs ++ (flat_map latch_line m.latches ++ (use_lines m ++ flat_map gate_line m.gates))) ≡ circuit_text m
 circuit_is m =
-    regroup_circuit (header_line m) (flat_map literal_line m.inputs) (flat_map latch_line m.latches) (flat_map literal_line m.outputs) (flat_map literal_line m.bad) (flat_map literal_line m.constraints)
+    regroup_circuit (header_line (codes "aag ") m) (flat_map literal_line m.inputs) (flat_map latch_line m.latches) (flat_map literal_line m.outputs) (flat_map literal_line m.bad) (flat_map literal_line m.constraints)
     (flat_map size_line m.justice) (flat_map literal_line (justice_literals m.justice)) (flat_map literal_line m.fairness) (flat_map gate_line m.gates)
 
 pub file_is : (m : Parts) (symbols : List Symbol) (comment : Option (List ℕ)) → circuit_text m ++ (flat_map symbol_line symbols ++ comment_lines comment) ≡ written_text (file_of m symbols comment)

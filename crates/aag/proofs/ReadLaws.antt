@@ -15,6 +15,7 @@ use Rattle.graph.specs.Symbols.{symbol_counts, AreSymbols}
 use Rattle.graph.specs.WellFormed.{IsWellFormed}
 use Rattle.aag.specs.declared.refusal.Refusal.{Refusal}
 use Rattle.aag.specs.declared.refusal.Refusal.TheVariants as refusal
+use Rattle.aag.specs.declared.lines.NotDefining.{NotDefining}
 use Rattle.aag.specs.Ascii.{SpellsAscii, file_of}
 use Rattle.aag.specs.Refusals.{at_byte, error_of, refusal_numbers}
 use Rattle.aag.specs.Whole.{Refuses, text_at}
@@ -34,24 +35,24 @@ is_only text f g m parts xs o whole same read spells =
 
 -- ---- a fault of the text
 
-pub only_memory : (length : ℕ) (text : List ℕ) (fault : Fault Refusal) → Refuses (λ f. AreSymbols (symbol_counts f.model) f.symbols) fault (text_at text)
-    → (f : File) → SpellsAscii text f → error_of length fault ≡ OutOfMemory
-only_memory length text Memory refuses f spells = refl
-only_memory length text (Text kind left) refuses f spells = absurd (refuses f (text_again text f spells) spells.are_symbols)
+pub only_memory : {L : Type 0} → (own : L → ℕ → ReadError) (length : ℕ) (text : List ℕ) (fault : Fault (Refusal L)) → Refuses (λ f. AreSymbols (symbol_counts f.model) f.symbols) fault (text_at text)
+    → (f : File) → SpellsAscii text f → error_of own length fault ≡ OutOfMemory
+only_memory own length text Memory refuses f spells = refl
+only_memory own length text (Text kind left) refuses f spells = absurd (refuses f (text_again text f spells) spells.are_symbols)
 
-byte_number : (kind : Refusal) (p : ℕ) → Contains refusal_numbers (number_of (at_byte kind p))
+byte_number : (kind : Refusal NotDefining) (p : ℕ) → Contains refusal_numbers (number_of (at_byte (λ _ place. Defining place) kind p))
 byte_number refusal.Header p = (1, omega arith, refl)
 byte_number refusal.Number p = (2, omega arith, refl)
 byte_number refusal.Limit p = (3, omega arith, refl)
 byte_number refusal.Byte p = (4, omega arith, refl)
 byte_number refusal.Truncated p = (5, omega arith, refl)
 byte_number refusal.LiteralRange p = (6, omega arith, refl)
-byte_number refusal.Defining p = (7, omega arith, refl)
 byte_number refusal.Reset p = (11, omega arith, refl)
 byte_number refusal.Counts p = (13, omega arith, refl)
 byte_number refusal.Symbol p = (12, omega arith, refl)
+byte_number (refusal.Layout own) p = (7, omega arith, refl)
 
-pub fault_number : (length : ℕ) (fault : Fault Refusal) → Contains refusal_numbers (number_of (error_of length fault))
+pub fault_number : (length : ℕ) (fault : Fault (Refusal NotDefining)) → Contains refusal_numbers (number_of (error_of (λ _ place. Defining place) length fault))
 fault_number length Memory = (14, omega arith, refl)
 fault_number length (Text kind left) = byte_number kind (length - left)
 
@@ -77,7 +78,7 @@ cause_number m (Counts p) cause = absurd cause
 cause_number m (NoProperty n) cause = absurd cause
 
 -- a circuit that is well formed is refused only for want of memory
-memory_or_cause : (m : Parts) (e : ReadError) → HasCause m e → (e ≢ OutOfMemory → ⊥) → e ≡ OutOfMemory
+pub memory_or_cause : (m : Parts) (e : ReadError) → HasCause m e → (e ≢ OutOfMemory → ⊥) → e ≡ OutOfMemory
 memory_or_cause m OutOfMemory cause h = refl
 memory_or_cause m (Limit k) cause h = absurd (h (λ q. absurd cc))
 memory_or_cause m (LiteralRange k) cause h = absurd (h (λ q. absurd cc))

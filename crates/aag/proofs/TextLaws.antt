@@ -24,7 +24,7 @@ use Rattle.aag.proofs.SymbolLaws.{IsSymbolText, symbols_sound, symbols_complete,
 
 -- ---- lines of symbols that name something
 
-each_line : (t : List ℕ) (xs : List Symbol) → Each IsSymbolText t xs → Each IsSymbolLine t xs
+pub each_line : (t : List ℕ) (xs : List Symbol) → Each IsSymbolText t xs → Each IsSymbolLine t xs
 each_line t [] e = e
 each_line t (x ∷ xs) (a, b, one, others, p) = (a, b, one.spells, each_line b xs others, p)
 
@@ -40,13 +40,13 @@ few_of m l Fairness = l.fairness
 symbol_text : (m : Parts) (t : List ℕ) (s : Symbol) → IsInLimits m → IsSymbol (symbol_counts m) s → IsSymbolLine t s → IsSymbolText t s
 symbol_text m t s l named line = record { spells = line; named = named.named; small = omega (arith, named.inside, few_of m l s.kind) }
 
-each_text : (m : Parts) (t : List ℕ) (xs : List Symbol) → IsInLimits m → All (IsSymbol (symbol_counts m)) xs → Each IsSymbolLine t xs → Each IsSymbolText t xs
+pub each_text : (m : Parts) (t : List ℕ) (xs : List Symbol) → IsInLimits m → All (IsSymbol (symbol_counts m)) xs → Each IsSymbolLine t xs → Each IsSymbolText t xs
 each_text m t [] l named e = e
 each_text m t (x ∷ xs) l named (a, b, one, others, p) =
     (a, b, symbol_text m a x l (All-head (IsSymbol (symbol_counts m)) x xs named) one, each_text m b xs l (All-tail (IsSymbol (symbol_counts m)) x xs named) others, p)
 
 -- a symbol's line has a byte
-each_long : (t : List ℕ) (xs : List Symbol) → Each IsSymbolLine t xs → length xs ≤ length t
+pub each_long : (t : List ℕ) (xs : List Symbol) → Each IsSymbolLine t xs → length xs ≤ length t
 each_long t [] e = omega arith
 each_long t (x ∷ xs) (a, b, one, others, p) =
     omega (arith, ap length one, each_long b xs others, ap length p, length-append a b)

@@ -159,7 +159,7 @@ few_below (suc n) xs d below =
 
 -- ---- the whole
 
-defined_is : (m : Parts) → defined m ≡ map variable (defining m)
+pub defined_is : (m : Parts) → defined m ≡ map variable (defining m)
 defined_is m = simp (map-append, map-map)
 
 variable_low : (max : ℕ) (a : Lit) → a.0 ≤ 2 * max + 1 → variable a < suc max
@@ -210,43 +210,43 @@ counts_written m l =
 input_written : (max : ℕ) (a : Lit) → IsDefining max a → IsInputLine max (literal_line a) a
 input_written max a fine = record { spells = refl; input = fine }
 
-literal_written : (max : ℕ) (a : Lit) → IsLiteral max a → IsLiteralLine max (literal_line a) a
+pub literal_written : (max : ℕ) (a : Lit) → IsLiteral max a → IsLiteralLine max (literal_line a) a
 literal_written max a within = record { spells = refl; literal = within }
 
 -- what a line of a latch, and of a gate, has to keep
-record IsFineLatch (max : ℕ) (l : Latch) : Type 0 where
-  own : IsDefining max l.lit
-  next : IsLiteral max l.next
-  reset : HasReset l
+pub record IsFineLatch (max : ℕ) (l : Latch) : Type 0 where
+  pub own : IsDefining max l.lit
+  pub next : IsLiteral max l.next
+  pub reset : HasReset l
 
-record IsFineGate (max : ℕ) (g : Gate) : Type 0 where
-  own : IsDefining max g.lhs
-  left : IsLiteral max g.rhs0
-  right : IsLiteral max g.rhs1
+pub record IsFineGate (max : ℕ) (g : Gate) : Type 0 where
+  pub own : IsDefining max g.lhs
+  pub left : IsLiteral max g.rhs0
+  pub right : IsLiteral max g.rhs1
 
 gate_written : (max : ℕ) (g : Gate) → IsFineGate max g → IsGateLine max (gate_line g) g
 gate_written max g fine = record { spells = refl; gate = fine.own; left = fine.left; right = fine.right }
 
-sizes_written : (js : List (List Lit)) → Each IsSizeLine (flat_map size_line js) (map length js)
+pub sizes_written : (js : List (List Lit)) → Each IsSizeLine (flat_map size_line js) (map length js)
 sizes_written [] = refl
 sizes_written (j ∷ js) = (size_line j, flat_map size_line js, refl, sizes_written js, flat_map-cons size_line j js)
 
-symbols_written : (xs : List Symbol) → Each IsSymbolLine (flat_map symbol_line xs) xs
+pub symbols_written : (xs : List Symbol) → Each IsSymbolLine (flat_map symbol_line xs) xs
 symbols_written [] = refl
 symbols_written (x ∷ xs) = (symbol_line x, flat_map symbol_line xs, refl, symbols_written xs, flat_map-cons symbol_line x xs)
 
 -- the lists of a well-formed circuit, each fine
-record FineLists (m : Parts) : Type 0 where
-  inputs : All (IsDefining m.max_var) m.inputs
-  latches : All (IsFineLatch m.max_var) m.latches
-  outputs : All (IsLiteral m.max_var) m.outputs
-  bad : All (IsLiteral m.max_var) m.bad
-  constraints : All (IsLiteral m.max_var) m.constraints
-  justice : All (IsLiteral m.max_var) (justice_literals m.justice)
-  fairness : All (IsLiteral m.max_var) m.fairness
-  gates : All (IsFineGate m.max_var) m.gates
+pub record FineLists (m : Parts) : Type 0 where
+  pub inputs : All (IsDefining m.max_var) m.inputs
+  pub latches : All (IsFineLatch m.max_var) m.latches
+  pub outputs : All (IsLiteral m.max_var) m.outputs
+  pub bad : All (IsLiteral m.max_var) m.bad
+  pub constraints : All (IsLiteral m.max_var) m.constraints
+  pub justice : All (IsLiteral m.max_var) (justice_literals m.justice)
+  pub fairness : All (IsLiteral m.max_var) m.fairness
+  pub gates : All (IsFineGate m.max_var) m.gates
 
-fine_lists : (m : Parts) → IsWellFormed m → FineLists m
+pub fine_lists : (m : Parts) → IsWellFormed m → FineLists m
 fine_lists m w =
     let R = IsLiteral m.max_var in
     let D = IsDefining m.max_var in

@@ -5,25 +5,25 @@ use Rattle.scan.specs.declared.fault.Fault.TheVariants.{Memory, Text}
 use Rattle.graph.specs.declared.error.ReadError.{ReadError}
 use Rattle.graph.specs.declared.error.ReadError.TheVariants as error
 use Rattle.aag.specs.declared.refusal.Refusal.{Refusal}
-use Rattle.aag.specs.declared.refusal.Refusal.TheVariants.{Header, Number, Limit, Byte, Truncated, LiteralRange, Defining, Reset, Counts, Symbol}
+use Rattle.aag.specs.declared.refusal.Refusal.TheVariants.{Header, Number, Limit, Byte, Truncated, LiteralRange, Reset, Counts, Symbol, Layout}
 
--- a refusal at a byte
-abbrev pub at_byte : Refusal → ℕ → ReadError
-at_byte Header p = error.Header p
-at_byte Number p = error.Number p
-at_byte Limit p = error.Limit p
-at_byte Byte p = error.Byte p
-at_byte Truncated p = error.Truncated p
-at_byte LiteralRange p = error.LiteralRange p
-at_byte Defining p = error.Defining p
-at_byte Reset p = error.Reset p
-at_byte Counts p = error.Counts p
-at_byte Symbol p = error.Symbol p
+-- a refusal at a byte, where this is what the layout alone refuses
+abbrev pub at_byte : {L : Type 0} → (L → ℕ → ReadError) → Refusal L → ℕ → ReadError
+at_byte own Header p = error.Header p
+at_byte own Number p = error.Number p
+at_byte own Limit p = error.Limit p
+at_byte own Byte p = error.Byte p
+at_byte own Truncated p = error.Truncated p
+at_byte own LiteralRange p = error.LiteralRange p
+at_byte own Reset p = error.Reset p
+at_byte own Counts p = error.Counts p
+at_byte own Symbol p = error.Symbol p
+at_byte own (Layout refusal) p = own refusal p
 
 -- the error that a fault is in a text of this length
-abbrev pub error_of : ℕ → Fault Refusal → ReadError
-error_of length Memory = error.OutOfMemory
-error_of length (Text kind left) = at_byte kind (length - left)
+abbrev pub error_of : {L : Type 0} → (L → ℕ → ReadError) → ℕ → Fault (Refusal L) → ReadError
+error_of own length Memory = error.OutOfMemory
+error_of own length (Text kind left) = at_byte own kind (length - left)
 
 -- the numbers of the refusals of a text
 abbrev pub refusal_numbers : List ℕ

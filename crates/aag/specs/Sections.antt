@@ -28,9 +28,10 @@ header_of max ns = record {
   fairness = slice_index ns 7;
 }
 
-unfoldable pub header_at : List ℕ → Read Header
-header_at bytes = do
-  rest ← tag_at (codes "aag ") bytes
+-- a header that begins with this word
+unfoldable pub header_at : List ℕ → List ℕ → Read Header
+header_at word bytes = do
+  rest ← tag_at word bytes
   max ← field_at greatest any 32 rest
   counts ← counts_at greatest 8 max.1
   Some (header_of max.0 counts.0, counts.1)
@@ -69,5 +70,5 @@ lists_at h bytes = do
 
 unfoldable pub circuit_at : List ℕ → Read Parts
 circuit_at bytes = do
-  h ← header_at bytes
+  h ← header_at (codes "aag ") bytes
   if nat_lt h.0.max_var (h.0.inputs + h.0.latches + h.0.gates) then None else (lists_at h.0 h.1)

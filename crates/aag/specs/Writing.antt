@@ -15,10 +15,10 @@ unfoldable pub trimmed : List ℕ → List ℕ
 trimmed [] = []
 trimmed (n ∷ ns) = if (n == 0) && (length (trimmed ns) == 0) then [] else n ∷ trimmed ns
 
--- the shortest header
-abbrev pub header_line : Parts → List ℕ
-header_line m =
-    codes "aag " ++ decimal m.max_var
+-- the shortest header that begins with this word
+abbrev pub header_line : List ℕ → Parts → List ℕ
+header_line word m =
+    word ++ decimal m.max_var
     ++ flat_map spaced (length m.inputs ∷ length m.latches ∷ length m.outputs ∷ length m.gates
     ∷ trimmed (length m.bad ∷ length m.constraints ∷ length m.justice ∷ length m.fairness ∷ []))
     ++ 10 ∷ []
@@ -53,7 +53,7 @@ use_lines m =
 
 abbrev pub circuit_text : Parts → List ℕ
 circuit_text m =
-    header_line m
+    header_line (codes "aag ") m
     ++ flat_map literal_line m.inputs
     ++ flat_map latch_line m.latches
     ++ flat_map literal_line m.outputs

@@ -5,7 +5,7 @@ ghost use Rattle.scan.specs.Reading.{Gives};
 ghost use Rattle.aag.specs.Sections.{header_at};
 
 use crate::lines::GREATEST;
-use crate::refusal::{IN_HEADER, Refusal};
+use crate::refusal::Refusal;
 use scan::{Fault, counts, field, tag};
 
 /// What a header states: the greatest variable, and how many there are of each kind.
@@ -22,15 +22,19 @@ pub struct Header {
     pub fairness: u32,
 }
 
-/// The header, and what follows its line.
+/// The header that begins with this word, and what follows its line.
 #[tactic(auto, unfolding(crate::specs::Sections::header_at))]
-pub fn read_header(text: &[u8]) -> Result<(Header, &[u8]), Fault<Refusal>>
-    ensures value { Gives (λ x. (x.0, x.1.now)) result (header_at text.now) }
+pub fn read_header<'a, L: Copy>(
+    text: &'a [u8],
+    word: &[u8],
+) -> Result<(Header, &'a [u8]), Fault<Refusal<L>>>
+    ensures value { Gives (λ x. (x.0, x.1.now)) result (header_at word.now text.now) }
     ensures within { IfOk result (λ x. x.0.max_var ≤ GREATEST) }
 {
-    let rest = tag(text, b"aag ", IN_HEADER)?;
-    let (max_var, rest) = field(rest, GREATEST, b' ', IN_HEADER)?;
-    let (counts, rest) = counts(rest, GREATEST, IN_HEADER)?;
+    let kinds = Refusal::<L>::IN_HEADER;
+    let rest = tag(text, word, kinds)?;
+    let (max_var, rest) = field(rest, GREATEST, b' ', kinds)?;
+    let (counts, rest) = counts(rest, GREATEST, kinds)?;
     let header = Header {
         max_var,
         inputs: counts[0],

@@ -4,22 +4,26 @@ ghost use Rattle.std.specs.Prelude.{◌≡◌, ◌≤◌};
 ghost use Rattle.scan.specs.Reading.{Gives};
 ghost use Rattle.aag.specs.Justice.{sizes_at, properties_at, justice_at};
 
-use crate::lines::{GREATEST, LiteralLine};
-use crate::refusal::{IN_SIZE, Refusal};
+use crate::lines::{GREATEST, UseLine};
+use crate::refusal::Refusal;
 use graph::{Lit, Seq};
 use scan::{Fault, field, lines};
 use std::alloc::Global;
 
 /// The sizes of as many properties as `count` says, and what follows their lines. A size with
 /// which there would be too many literals is refused.
-fn sizes(alloc: Global, count: u32, text: &[u8]) -> Result<(Vec<u32>, &[u8]), Fault<Refusal>>
+fn sizes<L: Copy>(
+    alloc: Global,
+    count: u32,
+    text: &[u8],
+) -> Result<(Vec<u32>, &[u8]), Fault<Refusal<L>>>
     ensures { Gives (λ x. (x.0.items, x.1.now)) result (sizes_at GREATEST count text.now) }
 {
     let mut sizes = Vec::new(alloc);
     let mut room = GREATEST;
     let mut rest = text;
     for _ in 0..count {
-        let (size, after) = field(rest, room, b'\n', IN_SIZE)?;
+        let (size, after) = field(rest, room, b'\n', Refusal::<L>::IN_SIZE)?;
         sizes.push(size)?;
         room -= size;
         rest = after;
@@ -28,19 +32,19 @@ fn sizes(alloc: Global, count: u32, text: &[u8]) -> Result<(Vec<u32>, &[u8]), Fa
 }
 
 /// The literals of properties of these sizes, and what follows their lines.
-fn properties<'a>(
+fn properties<'a, K: Copy>(
     alloc: Global,
-    max_var: u32,
+    line: UseLine<K>,
     sizes: &[u32],
     text: &'a [u8],
-) -> Result<(Vec<Seq<Lit>>, &'a [u8]), Fault<Refusal>>
-    requires { max_var ≤ GREATEST }
-    ensures { Gives (λ x. (x.0.items, x.1.now)) result (properties_at max_var sizes.now text.now) }
+) -> Result<(Vec<Seq<Lit>>, &'a [u8]), Fault<K>>
+    requires { line.max_var ≤ GREATEST }
+    ensures { Gives (λ x. (x.0.items, x.1.now)) result (properties_at line.max_var sizes.now text.now) }
 {
     let mut properties = Vec::new(alloc);
     let mut rest = text;
     for size in sizes {
-        let (literals, after) = lines::<LiteralLine>(alloc, *size, rest, max_var)?;
+        let (literals, after) = lines::<UseLine<K>>(alloc, *size, rest, line)?;
         properties.push(Seq::from_vec(literals))?;
         rest = after;
     }
@@ -49,16 +53,16 @@ fn properties<'a>(
 
 /// As many justice properties as `count` says, and what follows their lines.
 #[tactic(auto, unfolding(crate::specs::Justice::justice_at))]
-pub fn justice(
+pub fn justice<L: Copy>(
     alloc: Global,
-    max_var: u32,
+    line: UseLine<Refusal<L>>,
     count: u32,
     text: &[u8],
-) -> Result<(Seq<Seq<Lit>>, &[u8]), Fault<Refusal>>
-    requires { max_var ≤ GREATEST }
-    ensures { Gives (λ x. (x.0, x.1.now)) result (justice_at max_var count text.now) }
+) -> Result<(Seq<Seq<Lit>>, &[u8]), Fault<Refusal<L>>>
+    requires { line.max_var ≤ GREATEST }
+    ensures { Gives (λ x. (x.0, x.1.now)) result (justice_at line.max_var count text.now) }
 {
-    let (sizes, rest) = sizes(alloc, count, text)?;
-    let (properties, rest) = properties(alloc, max_var, sizes.as_slice(), rest)?;
+    let (sizes, rest) = sizes::<L>(alloc, count, text)?;
+    let (properties, rest) = properties(alloc, line, sizes.as_slice(), rest)?;
     Ok((Seq::from_vec(properties), rest))
 }

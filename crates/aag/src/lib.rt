@@ -17,11 +17,14 @@
 //! `write` puts the shortest text of a file to a `Sink` (`written_text` in `specs/Writing.antt`),
 //! without memory. That text spells the file where it is no longer than a text may be, so `read`
 //! gives the file again.
+//!
+//! The binary layout has the same header, lists of used literals, symbols and comment. What reads
+//! and writes those is public for its crate, and leaves the refusals' names to the caller.
 #![tactic(auto)]
 
 mod aag_write_error;
 mod circuit;
-mod comment;
+mod comments;
 mod header;
 mod justice;
 mod lines;
@@ -34,8 +37,15 @@ mod uses;
 mod writing;
 
 pub use aag_write_error::AagWriteError;
-pub use reading::read;
-pub use writing::write;
+pub use comments::comment;
+pub use header::{Header, read_header};
+pub use lines::{LiteralLine, next, reset};
+pub use pieces::{Piece, SymbolLine, put_each, put_number};
+pub use reading::{LONGEST, read};
+pub use refusal::{LayoutRefusal, Refusal, told};
+pub use symbol::symbols;
+pub use uses::{Uses, read_uses};
+pub use writing::{put_comment, put_header, put_uses, write};
 
 #[cfg(test)]
 mod tests;

@@ -3,66 +3,91 @@
 ghost use Rattle.std.specs.Prelude.{◌≡◌, ◌≤◌};
 ghost use Rattle.scan.specs.Reading.{Gives};
 ghost use Rattle.scan.specs.Words.{any};
+ghost use Rattle.graph.specs.declared.error.ReadError.TheVariants.{Defining};
 ghost use Rattle.aag.specs.Lines.{greatest, literal_at, defines, next_at, reset_at, latch_at, gate_at};
 
-use crate::refusal::{IN_LITERAL, IN_RESET, Refusal};
-use graph::{Gate, Latch, Lit};
-use scan::{Fault, LineKind, byte, field, number, word};
+use crate::refusal::{LayoutRefusal, Refusal};
+use graph::{Gate, Latch, Lit, ReadError};
+use scan::{Fault, Kinds, LineKind, byte, field, number, word};
 use std::alloc::Global;
 
 /// The greatest variable and the greatest count.
 pub const GREATEST: u32 = 4_194_303;
 
+/// A literal that defines nothing.
+#[derive(Clone, Copy, Debug, PartialEq, Eq)]
+pub struct NotDefining;
+
+impl LayoutRefusal for NotDefining {
+    ghost at_byte = { λ _. Defining };
+
+    fn at(self, place: u64) -> ReadError {
+        ReadError::Defining(place)
+    }
+}
+
 /// A literal, and what follows the byte behind it.
 #[tactic(auto, unfolding(crate::specs::Lines::literal_at))]
-fn literal(text: &[u8], max_var: u32, end: u8) -> Result<(Lit, &[u8]), Fault<Refusal>>
+fn literal<K: Copy>(
+    text: &[u8],
+    max_var: u32,
+    end: u8,
+    kinds: Kinds<K>,
+) -> Result<(Lit, &[u8]), Fault<K>>
     requires { max_var ≤ GREATEST }
     ensures { Gives (λ x. (x.0, x.1.now)) result (literal_at max_var any end text.now) }
 {
-    let (lit, rest) = field(text, 2 * max_var + 1, end, IN_LITERAL)?;
+    let (lit, rest) = field(text, 2 * max_var + 1, end, kinds)?;
     Ok((Lit(lit), rest))
 }
 
 /// A literal that defines its variable, and what follows the byte behind it.
 #[tactic(auto, unfolding(crate::specs::Lines::literal_at, scan::specs::Words::field_at))]
-fn defining(text: &[u8], max_var: u32, end: u8) -> Result<(Lit, &[u8]), Fault<Refusal>>
+fn defining(text: &[u8], max_var: u32, end: u8) -> Result<(Lit, &[u8]), Fault<Refusal<NotDefining>>>
     requires { max_var ≤ GREATEST }
     ensures { Gives (λ x. (x.0, x.1.now)) result (literal_at max_var defines end text.now) }
 {
-    let (lit, rest) = number(text, 2 * max_var + 1, IN_LITERAL)?;
+    let kinds = Refusal::<NotDefining>::IN_LITERAL;
+    let (lit, rest) = number(text, 2 * max_var + 1, kinds)?;
     if lit % 2 == 1 || lit < 2 {
         return Err(Fault::Text {
-            kind: Refusal::Defining,
+            kind: Refusal::Layout(NotDefining),
             left: text.len(),
         });
     }
-    let rest = byte(rest, end, IN_LITERAL)?;
+    let rest = byte(rest, end, kinds)?;
     Ok((Lit(lit), rest))
 }
 
 /// A latch's next literal, the byte that ends it, and what follows that.
 #[tactic(auto, unfolding(crate::specs::Lines::next_at))]
-fn next(text: &[u8], max_var: u32) -> Result<(Lit, u8, &[u8]), Fault<Refusal>>
+pub fn next<L: Copy>(text: &[u8], max_var: u32) -> Result<(Lit, u8, &[u8]), Fault<Refusal<L>>>
     requires { max_var ≤ GREATEST }
     ensures { Gives (λ x. ((x.0, x.1), x.2.now)) result (next_at max_var text.now) }
 {
-    let (lit, end, rest) = word(text, 2 * max_var + 1, (b' ', b'\n'), IN_LITERAL)?;
+    let (lit, end, rest) = word(
+        text,
+        2 * max_var + 1,
+        (b' ', b'\n'),
+        Refusal::<L>::IN_LITERAL,
+    )?;
     Ok((Lit(lit), end, rest))
 }
 
 /// The reset of the latch with this literal, and what follows its line.
 #[tactic(auto, unfolding(crate::specs::Lines::reset_at, scan::specs::Words::field_at))]
-fn reset(text: &[u8], lit: Lit) -> Result<(Lit, &[u8]), Fault<Refusal>>
+pub fn reset<L: Copy>(text: &[u8], lit: Lit) -> Result<(Lit, &[u8]), Fault<Refusal<L>>>
     ensures { Gives (λ x. (x.0, x.1.now)) result (reset_at lit text.now) }
 {
-    let (reset, rest) = number(text, u32::MAX, IN_RESET)?;
+    let kinds = Refusal::<L>::IN_RESET;
+    let (reset, rest) = number(text, u32::MAX, kinds)?;
     if reset > 1 && reset != lit.0 {
         return Err(Fault::Text {
             kind: Refusal::Reset,
             left: text.len(),
         });
     }
-    let rest = byte(rest, b'\n', IN_RESET)?;
+    let rest = byte(rest, b'\n', kinds)?;
     Ok((Lit(reset), rest))
 }
 
@@ -74,13 +99,17 @@ impl LineKind for InputLine {
 
     type Context = u32;
 
-    type Refusal = Refusal;
+    type Refusal = Refusal<NotDefining>;
 
     ghost allows = { λ max_var. max_var ≤ greatest };
 
     ghost at = { λ max_var. literal_at max_var defines 10 };
 
-    fn line(_alloc: Global, text: &[u8], max_var: u32) -> Result<(Lit, &[u8]), Fault<Refusal>> {
+    fn line(
+        _alloc: Global,
+        text: &[u8],
+        max_var: u32,
+    ) -> Result<(Lit, &[u8]), Fault<Refusal<NotDefining>>> {
         defining(text, max_var, b'\n')
     }
 }
@@ -88,19 +117,27 @@ impl LineKind for InputLine {
 /// A line of a literal that is only used.
 pub struct LiteralLine;
 
-impl LineKind for LiteralLine {
+/// How a line of a literal that is only used is read: the greatest variable, and what the reader
+/// calls the faults.
+#[derive(Clone, Copy, Debug, PartialEq, Eq)]
+pub struct UseLine<K> {
+    pub max_var: u32,
+    pub kinds: Kinds<K>,
+}
+
+impl<K: Copy> LineKind for UseLine<K> {
     type Item = Lit;
 
-    type Context = u32;
+    type Context = UseLine<K>;
 
-    type Refusal = Refusal;
+    type Refusal = K;
 
-    ghost allows = { λ max_var. max_var ≤ greatest };
+    ghost allows = { λ line. line.max_var ≤ greatest };
 
-    ghost at = { λ max_var. literal_at max_var any 10 };
+    ghost at = { λ line. literal_at line.max_var any 10 };
 
-    fn line(_alloc: Global, text: &[u8], max_var: u32) -> Result<(Lit, &[u8]), Fault<Refusal>> {
-        literal(text, max_var, b'\n')
+    fn line(_alloc: Global, text: &[u8], line: UseLine<K>) -> Result<(Lit, &[u8]), Fault<K>> {
+        literal(text, line.max_var, b'\n', line.kinds)
     }
 }
 
@@ -112,21 +149,25 @@ impl LineKind for LatchLine {
 
     type Context = u32;
 
-    type Refusal = Refusal;
+    type Refusal = Refusal<NotDefining>;
 
     ghost allows = { λ max_var. max_var ≤ greatest };
 
     ghost at = { latch_at };
 
     #[tactic(auto, unfolding(crate::specs::Lines::latch_at, crate::specs::Lines::latch_end_at))]
-    fn line(_alloc: Global, text: &[u8], max_var: u32) -> Result<(Latch, &[u8]), Fault<Refusal>> {
+    fn line(
+        _alloc: Global,
+        text: &[u8],
+        max_var: u32,
+    ) -> Result<(Latch, &[u8]), Fault<Refusal<NotDefining>>> {
         let (lit, rest) = defining(text, max_var, b' ')?;
-        let (next, end, rest) = next(rest, max_var)?;
+        let (next, end, rest) = next::<NotDefining>(rest, max_var)?;
         if end == b'\n' {
             let reset = Lit(0);
             return Ok((Latch { lit, next, reset }, rest));
         }
-        let (reset, rest) = reset(rest, lit)?;
+        let (reset, rest) = reset::<NotDefining>(rest, lit)?;
         Ok((Latch { lit, next, reset }, rest))
     }
 }
@@ -139,17 +180,22 @@ impl LineKind for GateLine {
 
     type Context = u32;
 
-    type Refusal = Refusal;
+    type Refusal = Refusal<NotDefining>;
 
     ghost allows = { λ max_var. max_var ≤ greatest };
 
     ghost at = { gate_at };
 
     #[tactic(auto, unfolding(crate::specs::Lines::gate_at))]
-    fn line(_alloc: Global, text: &[u8], max_var: u32) -> Result<(Gate, &[u8]), Fault<Refusal>> {
+    fn line(
+        _alloc: Global,
+        text: &[u8],
+        max_var: u32,
+    ) -> Result<(Gate, &[u8]), Fault<Refusal<NotDefining>>> {
         let (lhs, rest) = defining(text, max_var, b' ')?;
-        let (rhs0, rest) = literal(rest, max_var, b' ')?;
-        let (rhs1, rest) = literal(rest, max_var, b'\n')?;
+        let kinds = Refusal::<NotDefining>::IN_LITERAL;
+        let (rhs0, rest) = literal(rest, max_var, b' ', kinds)?;
+        let (rhs1, rest) = literal(rest, max_var, b'\n', kinds)?;
         Ok((Gate { lhs, rhs0, rhs1 }, rest))
     }
 }

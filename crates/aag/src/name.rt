@@ -12,7 +12,7 @@ use scan::Fault;
 use std::alloc::Global;
 
 /// The name up to the line end, and what follows that. It takes one byte or more.
-pub fn name(alloc: Global, text: &[u8]) -> Result<(Seq<u8>, &[u8]), Fault<Refusal>>
+pub fn name<L>(alloc: Global, text: &[u8]) -> Result<(Seq<u8>, &[u8]), Fault<Refusal<L>>>
     ensures value { Gives (λ x. (x.0, x.1.now)) result (named_at text.now) }
     ensures named { IfOk result (λ x. IsName x.0) }
 {

@@ -6,51 +6,33 @@ ghost use Rattle.graph.specs.File.{File};
 ghost use Rattle.graph.specs.Refusals.{number_of};
 ghost use Rattle.graph.specs.Symbols.{symbol_counts, AreSymbols};
 ghost use Rattle.aag.specs.Whole.{GivesOnly, text_at};
-ghost use Rattle.aag.specs.Refusals.{error_of, refusal_numbers};
+ghost use Rattle.aag.specs.Refusals.{refusal_numbers};
 ghost use Rattle.aag.specs.Ascii.{SpellsAscii, IsRead, file_of};
 
 use crate::circuit::circuit;
-use crate::comment::comment;
-use crate::refusal::Refusal;
+use crate::comments::comment;
+use crate::lines::NotDefining;
+use crate::refusal::{Refusal, told};
 use crate::symbol::symbols;
 use graph::{AigerFile, Model, Parts, ReadError, Seq, Symbols};
-use scan::{Fault, place};
+use scan::Fault;
 use std::alloc::Global;
 
-/// How many bytes a text may have.
-const LONGEST: usize = 67_108_864;
-
-/// The error that a fault is in a text of this length.
-fn told(fault: Fault<Refusal>, length: usize) -> ReadError
-    ensures { result ≡ error_of length fault }
-{
-    let (kind, place) = match fault {
-        Fault::Memory => return ReadError::OutOfMemory,
-        Fault::Text { kind, left } => (kind, place(length, left)),
-    };
-    match kind {
-        Refusal::Header => ReadError::Header(place),
-        Refusal::Number => ReadError::Number(place),
-        Refusal::Limit => ReadError::Limit(place),
-        Refusal::Byte => ReadError::Byte(place),
-        Refusal::Truncated => ReadError::Truncated(place),
-        Refusal::LiteralRange => ReadError::LiteralRange(place),
-        Refusal::Defining => ReadError::Defining(place),
-        Refusal::Reset => ReadError::Reset(place),
-        Refusal::Counts => ReadError::Counts(place),
-        Refusal::Symbol => ReadError::Symbol(place),
-    }
-}
+/// How many bytes a text may have, in either layout.
+pub const LONGEST: usize = 67_108_864;
 
 /// The parts, the symbols and the comment that a text spells. The symbols are those of the parts,
 /// of which nothing else is asked yet.
 #[tactic(auto, unfolding(crate::specs::Whole::text_at))]
-fn parse(alloc: Global, text: &[u8]) -> Result<(Parts, Symbols, Option<Seq<u8>>), Fault<Refusal>>
+fn parse(
+    alloc: Global,
+    text: &[u8],
+) -> Result<(Parts, Symbols, Option<Seq<u8>>), Fault<Refusal<NotDefining>>>
     ensures value { GivesOnly (λ f. AreSymbols (symbol_counts f.model) f.symbols) (λ x. file_of x.0 x.1.symbols x.2) result (text_at text.now) }
     ensures counts { IfOk result (λ x. x.1.counts ≡ symbol_counts x.0) }
 {
     let (parts, rest) = circuit(alloc, text)?;
-    let (symbols, rest) = symbols(alloc, &parts, rest)?;
+    let (symbols, rest) = symbols::<NotDefining>(alloc, &parts, rest)?;
     let comment = comment(alloc, rest)?;
     Ok((parts, symbols, comment))
 }

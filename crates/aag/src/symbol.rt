@@ -6,9 +6,9 @@ ghost use Rattle.graph.specs.Symbols.{symbol_counts, AreSymbols, IsName, IsFree}
 ghost use Rattle.aag.specs.Symbols.{kind_of, kind_at, label_at, symbol_at, symbols_at};
 ghost use Rattle.aag.specs.Whole.{Refuses, GivesOnly, Adds};
 
-use crate::comment::ends_symbols;
+use crate::comments::ends_symbols;
 use crate::name::name;
-use crate::refusal::{IN_SYMBOL, Refusal};
+use crate::refusal::Refusal;
 use graph::{Parts, Seq, Symbol, SymbolKind, Symbols};
 use scan::{Fault, byte, number};
 use std::alloc::Global;
@@ -31,7 +31,7 @@ fn kind_of(letter: u8) -> Option<SymbolKind>
 
 /// The kind that the next letter stands for, and what follows the letter.
 #[tactic(auto, unfolding(crate::specs::Symbols::kind_at))]
-fn kind(text: &[u8]) -> Result<(SymbolKind, &[u8]), Fault<Refusal>>
+fn kind<L>(text: &[u8]) -> Result<(SymbolKind, &[u8]), Fault<Refusal<L>>>
     ensures { Gives (λ x. (x.0, x.1.now)) result (kind_at text.now) }
 {
     let [letter, rest @ ..] = text else {
@@ -50,31 +50,31 @@ fn kind(text: &[u8]) -> Result<(SymbolKind, &[u8]), Fault<Refusal>>
 }
 
 /// The name behind a symbol's position, and what follows its line.
-fn label(alloc: Global, text: &[u8]) -> Result<(Seq<u8>, &[u8]), Fault<Refusal>>
+fn label<L: Copy>(alloc: Global, text: &[u8]) -> Result<(Seq<u8>, &[u8]), Fault<Refusal<L>>>
     ensures value { Gives (λ x. (x.0, x.1.now)) result (label_at text.now) }
     ensures named { IfOk result (λ x. IsName x.0) }
 {
-    let rest = byte(text, b' ', IN_SYMBOL)?;
+    let rest = byte(text, b' ', Refusal::<L>::IN_SYMBOL)?;
     name(alloc, rest)
 }
 
 /// Adds the next symbol, and answers what follows its line. What is wrong with its position goes
 /// before what is wrong behind it. After a refusal the symbols are of no use.
-fn add_symbol<'a>(
+fn add_symbol<'a, L: Copy>(
     alloc: Global,
     symbols: &mut Symbols,
     text: &'a [u8],
-) -> Result<&'a [u8], Fault<Refusal>>
+) -> Result<&'a [u8], Fault<Refusal<L>>>
     ensures added { IfOk result (λ rest. Adds symbols.old symbols.new (symbol_at text.now) rest.now) }
     ensures refused { IfErr result (λ e. Refuses (λ s. IsFree symbols.old.counts symbols.old.symbols s.0) e (symbol_at text.now)) }
 {
-    let (kind, digits) = kind(text)?;
-    let (position, behind) = number(digits, u32::MAX, IN_SYMBOL)?;
+    let (kind, digits) = kind::<L>(text)?;
+    let (position, behind) = number(digits, u32::MAX, Refusal::<L>::IN_SYMBOL)?;
     let not_free = Fault::Text {
         kind: Refusal::Symbol,
         left: digits.len(),
     };
-    match label(alloc, behind) {
+    match label::<L>(alloc, behind) {
         Ok((name, rest)) => {
             let symbol = Symbol {
                 kind,
@@ -102,12 +102,13 @@ fn add_symbol<'a>(
     }
 }
 
-/// The symbols of these parts that the text begins with, and what follows the last one's line.
-pub fn symbols<'a>(
+/// The symbols of these parts that the text begins with, and what follows the last one's line. A
+/// symbol that names nothing, or a second of the same, is refused.
+pub fn symbols<'a, L: Copy>(
     alloc: Global,
     parts: &Parts,
     text: &'a [u8],
-) -> Result<(Symbols, &'a [u8]), Fault<Refusal>>
+) -> Result<(Symbols, &'a [u8]), Fault<Refusal<L>>>
     ensures value { GivesOnly (λ x. AreSymbols (symbol_counts parts.now) x.0) (λ x. (x.0.symbols, x.1.now)) result (symbols_at text.now) }
     ensures counts { IfOk result (λ x. x.0.counts ≡ symbol_counts parts.now) }
 {
@@ -117,7 +118,7 @@ pub fn symbols<'a>(
         if ends_symbols(rest) {
             return Ok((symbols, rest));
         }
-        rest = add_symbol(alloc, &mut symbols, rest)?;
+        rest = add_symbol::<L>(alloc, &mut symbols, rest)?;
     }
     Err(Fault::Text {
         kind: Refusal::Truncated,

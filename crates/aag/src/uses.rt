@@ -6,7 +6,7 @@ ghost use Rattle.aag.specs.Sections.{uses_at};
 
 use crate::header::Header;
 use crate::justice::justice;
-use crate::lines::{GREATEST, LiteralLine};
+use crate::lines::{GREATEST, UseLine};
 use crate::refusal::Refusal;
 use graph::{Lit, Seq};
 use scan::{Fault, lines};
@@ -25,20 +25,23 @@ pub struct Uses {
 /// As many outputs, bad literals, constraints, justice properties and fairness literals as the
 /// header states, and what follows their lines.
 #[tactic(auto, unfolding(crate::specs::Sections::uses_at))]
-pub fn read_uses(
+pub fn read_uses<L: Copy>(
     alloc: Global,
     header: Header,
     text: &[u8],
-) -> Result<(Uses, &[u8]), Fault<Refusal>>
+) -> Result<(Uses, &[u8]), Fault<Refusal<L>>>
     requires { header.max_var ≤ GREATEST }
     ensures { Gives (λ x. (x.0, x.1.now)) result (uses_at header text.now) }
 {
-    let max_var = header.max_var;
-    let (outputs, rest) = lines::<LiteralLine>(alloc, header.outputs, text, max_var)?;
-    let (bad, rest) = lines::<LiteralLine>(alloc, header.bad, rest, max_var)?;
-    let (constraints, rest) = lines::<LiteralLine>(alloc, header.constraints, rest, max_var)?;
-    let (justice, rest) = justice(alloc, max_var, header.justice, rest)?;
-    let (fairness, rest) = lines::<LiteralLine>(alloc, header.fairness, rest, max_var)?;
+    let line = UseLine {
+        max_var: header.max_var,
+        kinds: Refusal::<L>::IN_LITERAL,
+    };
+    let (outputs, rest) = lines::<UseLine<Refusal<L>>>(alloc, header.outputs, text, line)?;
+    let (bad, rest) = lines::<UseLine<Refusal<L>>>(alloc, header.bad, rest, line)?;
+    let (constraints, rest) = lines::<UseLine<Refusal<L>>>(alloc, header.constraints, rest, line)?;
+    let (justice, rest) = justice(alloc, line, header.justice, rest)?;
+    let (fairness, rest) = lines::<UseLine<Refusal<L>>>(alloc, header.fairness, rest, line)?;
     let uses = Uses {
         outputs: Seq::from_vec(outputs),
         bad: Seq::from_vec(bad),

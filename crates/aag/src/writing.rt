@@ -25,10 +25,11 @@ fn trimmed(counts: &[usize]) -> &[usize]
     kept
 }
 
-/// Puts the shortest header: of the last four counts none behind the last that is not 0.
-fn put_header<W: Sink>(out: &mut W, parts: &Parts) -> Result<(), Failed>
+/// Puts the shortest header that begins with this word: of the last four counts none behind the last
+/// that is not 0.
+pub fn put_header<W: Sink>(out: &mut W, word: &[u8], parts: &Parts) -> Result<(), Failed>
     requires { W.failed out.old < 2 ^ 64 - 1 }
-    ensures puts { Puts result (W.contents out.old) (W.contents out.new) (header_line parts.now) }
+    ensures puts { Puts result (W.contents out.old) (W.contents out.new) (header_line word.now parts.now) }
     ensures counts { CountsFailure (W.failed out.old) (W.failed out.new) result }
 {
     let counts = [
@@ -43,7 +44,7 @@ fn put_header<W: Sink>(out: &mut W, parts: &Parts) -> Result<(), Failed>
         parts.justice.len(),
         parts.fairness.len(),
     ];
-    put_all(out, b"aag ")?;
+    put_all(out, word)?;
     put_number(out, parts.max_var, b"")?;
     put_each::<Count, W>(out, &counts)?;
     put_each::<Count, W>(out, trimmed(&others))?;
@@ -52,7 +53,7 @@ fn put_header<W: Sink>(out: &mut W, parts: &Parts) -> Result<(), Failed>
 
 /// Puts what stands between the latches and the gates: outputs, bad literals, constraints, justice
 /// properties as all their sizes and then all their literals, and fairness literals.
-fn put_uses<W: Sink>(out: &mut W, parts: &Parts) -> Result<(), Failed>
+pub fn put_uses<W: Sink>(out: &mut W, parts: &Parts) -> Result<(), Failed>
     requires { W.failed out.old < 2 ^ 64 - 1 }
     ensures puts { Puts result (W.contents out.old) (W.contents out.new) (use_lines parts.now) }
     ensures counts { CountsFailure (W.failed out.old) (W.failed out.new) result }
@@ -71,7 +72,7 @@ fn put_circuit<W: Sink>(out: &mut W, parts: &Parts) -> Result<(), Failed>
     ensures puts { Puts result (W.contents out.old) (W.contents out.new) (circuit_text parts.now) }
     ensures counts { CountsFailure (W.failed out.old) (W.failed out.new) result }
 {
-    put_header(out, parts)?;
+    put_header(out, b"aag ", parts)?;
     put_each::<LiteralLine, W>(out, parts.inputs.as_slice())?;
     put_each::<LatchLine, W>(out, parts.latches.as_slice())?;
     put_uses(out, parts)?;
@@ -79,7 +80,7 @@ fn put_circuit<W: Sink>(out: &mut W, parts: &Parts) -> Result<(), Failed>
 }
 
 /// Puts the comment, where there is one: a `c`, a line end and its bytes.
-fn put_comment<W: Sink>(out: &mut W, comment: Option<&[u8]>) -> Result<(), Failed>
+pub fn put_comment<W: Sink>(out: &mut W, comment: Option<&[u8]>) -> Result<(), Failed>
     requires { W.failed out.old < 2 ^ 64 - 1 }
     ensures puts { Puts result (W.contents out.old) (W.contents out.new) (comment_lines (option_map (λ bytes. bytes.now) comment.entry)) }
     ensures counts { CountsFailure (W.failed out.old) (W.failed out.new) result }

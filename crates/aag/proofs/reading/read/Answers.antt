@@ -25,7 +25,7 @@ returns-in_ok-model-in-Ok-clause-only c =
 
 pub returns-in-Err-clause-only : goal.returns-in-Err-clause-only
 returns-in-Err-clause-only c =
-    rw c.told.ensures (only_memory _ c.args.text.now c.in-Err.fault c.in-Err.ensures.value)
+    rw c.told.ensures (only_memory _ _ c.args.text.now c.in-Err.fault c.in-Err.ensures.value)
 
 pub returns-in-Err-clause-refusals : goal.returns-in-Err-clause-refusals
 returns-in-Err-clause-refusals c = rw c.told.ensures (fault_number _ c.in-Err.fault)

@@ -2,4 +2,4 @@ use Rattle.aag.proofs.SymbolSteps.{SoFar}
 use Rattle.aag.proofs.symbol.symbols.Given as goal
 
 abbrev pub invariant-loop : goal.invariant-loop
-invariant-loop l = SoFar l.parts l.text l.symbols l.counter l.rest
+invariant-loop g l = SoFar l.parts l.text l.symbols l.counter l.rest

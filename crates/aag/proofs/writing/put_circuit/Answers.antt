@@ -1,5 +1,5 @@
 use Rattle.std.proofs.Common.{subst}
-use Rattle.std.specs.Prelude.{flat_map}
+use Rattle.std.specs.Prelude.{codes, flat_map}
 use Rattle.base.specs.Devices.{Puts}
 use Rattle.base.proofs.Putting.{puts_then}
 use Rattle.aag.specs.Writing.{header_line, latch_line, literal_line, use_lines}
@@ -11,14 +11,14 @@ returns-in_err-put_header-clause-puts g c =
     let m = c.args.parts.now in
     let r = c.from_residual in
     subst (Puts r.result _ _) (circuit_is m)
-    (first_fails r.result _ _ (header_line m) _ r.ensures.0 c.in_err-put_header.ensures.puts)
+    (first_fails r.result _ _ (header_line (codes "aag ") m) _ r.ensures.0 c.in_err-put_header.ensures.puts)
 
 pub returns-in_err-put_each-clause-puts : goal.returns-in_err-put_each-clause-puts
 returns-in_err-put_each-clause-puts g c =
     let m = c.args.parts.now in
     let r = c.from_residual-in_err-put_each in
     subst (Puts r.result _ _) (circuit_is m)
-    (puts_then r.result _ (g.W.Sink.contents c.put_header.new.out) _ (header_line m) _ c.in_ok-put_header.ensures.puts
+    (puts_then r.result _ (g.W.Sink.contents c.put_header.new.out) _ (header_line (codes "aag ") m) _ c.in_ok-put_header.ensures.puts
     (first_fails r.result _ _ (flat_map literal_line m.inputs) _ r.ensures.0 (rw c.as_slice.ensures at c.in_err-put_each.ensures.puts)))
 
 pub returns-in_err-put_each-2-clause-puts : goal.returns-in_err-put_each-2-clause-puts
@@ -26,7 +26,7 @@ returns-in_err-put_each-2-clause-puts g c =
     let m = c.args.parts.now in
     let r = c.from_residual-in_err-put_each-2 in
     subst (Puts r.result _ _) (circuit_is m)
-    (puts_then r.result _ (g.W.Sink.contents c.put_header.new.out) _ (header_line m) _ c.in_ok-put_header.ensures.puts
+    (puts_then r.result _ (g.W.Sink.contents c.put_header.new.out) _ (header_line (codes "aag ") m) _ c.in_ok-put_header.ensures.puts
     (puts_then r.result _ (g.W.Sink.contents c.put_each.new.out) _ (flat_map literal_line m.inputs) _ (rw c.as_slice.ensures at c.in_ok-put_each.ensures.puts)
     (first_fails r.result _ _ (flat_map latch_line m.latches) _ r.ensures.0 (rw c.as_slice-2.ensures at c.in_err-put_each-2.ensures.puts))))
 
@@ -35,7 +35,7 @@ returns-in_err-put_uses-clause-puts g c =
     let m = c.args.parts.now in
     let r = c.from_residual-in_err-put_uses in
     subst (Puts r.result _ _) (circuit_is m)
-    (puts_then r.result _ (g.W.Sink.contents c.put_header.new.out) _ (header_line m) _ c.in_ok-put_header.ensures.puts
+    (puts_then r.result _ (g.W.Sink.contents c.put_header.new.out) _ (header_line (codes "aag ") m) _ c.in_ok-put_header.ensures.puts
     (puts_then r.result _ (g.W.Sink.contents c.put_each.new.out) _ (flat_map literal_line m.inputs) _ (rw c.as_slice.ensures at c.in_ok-put_each.ensures.puts)
     (puts_then r.result _ (g.W.Sink.contents c.put_each-2.new.out) _ (flat_map latch_line m.latches) _ (rw c.as_slice-2.ensures at c.in_ok-put_each-2.ensures.puts)
     (first_fails r.result _ _ (use_lines m) _ r.ensures.0 c.in_err-put_uses.ensures.puts))))
@@ -45,7 +45,7 @@ returns-clause-puts g c =
     let m = c.args.parts.now in
     let r = c.put_each-3 in
     subst (Puts r.result _ _) (circuit_is m)
-    (puts_then r.result _ (g.W.Sink.contents c.put_header.new.out) _ (header_line m) _ c.in_ok-put_header.ensures.puts
+    (puts_then r.result _ (g.W.Sink.contents c.put_header.new.out) _ (header_line (codes "aag ") m) _ c.in_ok-put_header.ensures.puts
     (puts_then r.result _ (g.W.Sink.contents c.put_each.new.out) _ (flat_map literal_line m.inputs) _ (rw c.as_slice.ensures at c.in_ok-put_each.ensures.puts)
     (puts_then r.result _ (g.W.Sink.contents c.put_each-2.new.out) _ (flat_map latch_line m.latches) _ (rw c.as_slice-2.ensures at c.in_ok-put_each-2.ensures.puts)
     (puts_then r.result _ (g.W.Sink.contents c.put_uses.new.out) _ (use_lines m) _ c.in_ok-put_uses.ensures.puts (rw c.as_slice-3.ensures at r.ensures.puts)))))
