@@ -1,0 +1,5 @@
+pub mod Made
+pub mod Carried
+pub mod Numbered
+pub mod Ordered
+pub mod Done

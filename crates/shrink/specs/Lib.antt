@@ -1,0 +1,4 @@
+pub mod Shrunk
+pub mod Making
+pub mod Hashed
+pub mod Carriable
