@@ -1,0 +1,11 @@
+pub mod Pieces
+pub mod TextLaws
+pub mod ReadLaws
+pub mod WriteLaws
+pub mod CourseLaws
+pub mod PlayLaws
+pub mod PlaySteps
+pub mod ExactLaws
+pub mod LassoLaws
+pub mod Ranges
+pub mod RowLaws

@@ -1,0 +1,9 @@
+pub mod Texts
+pub mod Reading
+pub mod Refusals
+pub mod Numbers
+pub mod Shown
+pub mod Causes
+pub mod Courses
+pub mod Tables
+pub mod Rows

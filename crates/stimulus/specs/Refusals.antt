@@ -1,0 +1,26 @@
+-- What is told of a text that is refused.
+use Rattle.std.specs.Prelude.{◌≡◌, ℕ, ◌-◌, Result, MatchResult}
+use Rattle.scan.specs.declared.fault.Fault.{Fault}
+use Rattle.scan.specs.declared.fault.Fault.TheVariants.{Memory, Text}
+use Rattle.stimulus.specs.declared.stim_error.StimError.{StimError}
+use Rattle.stimulus.specs.declared.stim_error.StimError.TheVariants.{Status, PropertyLine, Character, Truncated, AfterEnd, OutOfMemory}
+use Rattle.stimulus.specs.declared.reading.Refusal.{Refusal}
+use Rattle.stimulus.specs.declared.reading.Refusal.TheVariants as refusal
+use Rattle.stimulus.specs.declared.value.Stimulus.{Stimulus}
+
+-- this stimulus is read, unless memory runs out
+abbrev pub IsRead : Result Stimulus StimError → Stimulus → Type 0
+IsRead result s = MatchResult result (λ v. v ≡ s) (λ e. e ≡ OutOfMemory)
+
+-- a refusal at a byte
+abbrev pub at_byte : Refusal → ℕ → StimError
+at_byte refusal.Status p = Status p
+at_byte refusal.PropertyLine p = PropertyLine p
+at_byte refusal.Character p = Character p
+at_byte refusal.Truncated p = Truncated p
+at_byte refusal.AfterEnd p = AfterEnd p
+
+-- the error for a fault in a text of so many bytes
+abbrev pub error_of : ℕ → Fault Refusal → StimError
+error_of length Memory = OutOfMemory
+error_of length (Text kind left) = at_byte kind (length - left)

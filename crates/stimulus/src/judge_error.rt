@@ -1,0 +1,102 @@
+//! Why stimuli show no violation.
+
+ghost use Rattle.std.specs.Prelude.{◌≡◌};
+ghost use Rattle.stimulus.specs.Numbers.{judge_number_of, judge_place_of};
+
+use simulate::ReplayError;
+use std::alloc::AllocError;
+use thiserror::Error;
+
+/// Why a stimulus does not show that its property is violated.
+#[derive(Clone, Copy, Debug, PartialEq, Eq, Error)]
+pub enum JudgeError {
+    /// it does not tell of a violation
+    #[error("no violation is told of")]
+    NotViolated,
+    /// the circuit has no property of this position
+    #[error("there is no property {0}")]
+    NoProperty(u32),
+    /// a line has not one value for each latch or each input: 0 for the latch line, the time and
+    /// one more for an input line
+    #[error("line {line} has another length")]
+    LineLength { line: u64 },
+    /// no time passes
+    #[error("there is no input line")]
+    NoInputLine,
+    /// the first latch whose initial value is not that of its reset, by its position
+    #[error("latch {latch} is against its reset")]
+    InitialReset { latch: u32 },
+    /// the first time at which a constraint is false
+    #[error("a constraint is broken at time {time}")]
+    ConstraintBroken { time: u64 },
+    /// the bad literal is not set at the last input line
+    #[error("the bad literal is not set at the last line")]
+    BadNotSet,
+    /// no time has the state after the last line and then each wanted literal
+    #[error("there is no lasso")]
+    NoLasso,
+    /// want of memory
+    #[error("out of memory")]
+    OutOfMemory,
+}
+
+impl From<AllocError> for JudgeError {
+    ghost use Rattle.std.specs.Prelude.{◌≡◌};
+    ghost use Rattle.stimulus.specs.declared.judge_error.JudgeError.TheVariants.{OutOfMemory};
+
+    ghost from_gives = { λ _ e. e ≡ OutOfMemory };
+
+    fn from(_e: AllocError) -> JudgeError {
+        JudgeError::OutOfMemory
+    }
+}
+
+impl From<ReplayError> for JudgeError {
+    ghost use Rattle.std.specs.Prelude.{◌≡◌};
+    ghost use Rattle.stimulus.specs.Numbers.{judged};
+
+    ghost from_gives = { λ e f. f ≡ judged e };
+
+    fn from(e: ReplayError) -> JudgeError {
+        match e {
+            ReplayError::InitialReset { latch } => JudgeError::InitialReset { latch },
+            ReplayError::OutOfMemory => JudgeError::OutOfMemory,
+        }
+    }
+}
+
+impl JudgeError {
+    /// The refusal's number.
+    pub fn number(self) -> u8
+        ensures { result ≡ judge_number_of self }
+    {
+        match self {
+            JudgeError::NotViolated => 65,
+            JudgeError::NoProperty(_) => 30,
+            JudgeError::LineLength { .. } => 66,
+            JudgeError::NoInputLine => 64,
+            JudgeError::InitialReset { .. } => 60,
+            JudgeError::ConstraintBroken { .. } => 61,
+            JudgeError::BadNotSet => 62,
+            JudgeError::NoLasso => 63,
+            JudgeError::OutOfMemory => 20,
+        }
+    }
+
+    /// The refusal's place: the property, the line, the latch or the time, and otherwise 0.
+    pub fn place(self) -> u64
+        ensures { result ≡ judge_place_of self }
+    {
+        match self {
+            JudgeError::NoProperty(position) => u64::from(position),
+            JudgeError::LineLength { line } => line,
+            JudgeError::InitialReset { latch } => u64::from(latch),
+            JudgeError::ConstraintBroken { time } => time,
+            JudgeError::NotViolated
+            | JudgeError::NoInputLine
+            | JudgeError::BadNotSet
+            | JudgeError::NoLasso
+            | JudgeError::OutOfMemory => 0,
+        }
+    }
+}

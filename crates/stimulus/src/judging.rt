@@ -1,0 +1,105 @@
+//! Judging stimuli.
+
+ghost use Rattle.std.specs.Prelude.{◌≡◌, ◌≢◌, IfErr, OnOk};
+ghost use Rattle.graph.specs.declared.circuit.Property.TheVariants.{Bad, Justice};
+ghost use Rattle.stimulus.specs.Causes.{HasCause, HasCauseIn, IsFit};
+ghost use Rattle.stimulus.specs.Courses.{HasRun};
+ghost use Rattle.stimulus.specs.Shown.{Shows};
+ghost use Rattle.stimulus.specs.declared.value.Stimulus.TheVariants.{Violated};
+
+use crate::judge_error::JudgeError;
+use crate::lasso::{has_lasso, wanted};
+use crate::lines::check_fit;
+use crate::playing::run;
+use crate::value::Stimulus;
+use graph::{Model, Property, Seq};
+use simulate::Replay;
+use std::alloc::Global;
+
+/// Whether the run sets the bad literal at its last time.
+fn judge_bad(
+    model: &Model,
+    replay: &Replay<'_>,
+    n: u32,
+    initial: &[bool],
+    inputs: &[Seq<bool>],
+) -> Result<(), JudgeError>
+    requires fit { IsFit model.now (Bad n) initial.now inputs.now }
+    requires runs { HasRun model.now initial.now inputs.now replay.now }
+    ensures shown { OnOk result (Shows model.now (Violated (Bad n) initial.now inputs.now)) }
+    ensures refused { IfErr result (HasCauseIn model.now (Bad n) initial.now inputs.now) }
+{
+    let bad = model.parts().bad.as_slice()[n as usize];
+    if replay.value(bad) {
+        Ok(())
+    } else {
+        Err(JudgeError::BadNotSet)
+    }
+}
+
+/// Whether the run closes a lasso.
+fn judge_justice(
+    alloc: Global,
+    model: &Model,
+    replay: &Replay<'_>,
+    j: u32,
+    initial: &[bool],
+    inputs: &[Seq<bool>],
+) -> Result<(), JudgeError>
+    requires fit { IsFit model.now (Justice j) initial.now inputs.now }
+    requires runs { HasRun model.now initial.now inputs.now replay.now }
+    ensures shown { OnOk result (Shows model.now (Violated (Justice j) initial.now inputs.now)) }
+    ensures refused { IfErr result (HasCauseIn model.now (Justice j) initial.now inputs.now) }
+{
+    let wanted = wanted(alloc, model.parts(), j)?;
+    if has_lasso(alloc, model, &wanted, replay.state(), initial, inputs)? {
+        Ok(())
+    } else {
+        Err(JudgeError::NoLasso)
+    }
+}
+
+/// Whether the replay of these lines shows that the property is violated.
+fn judge_violated(
+    alloc: Global,
+    model: &Model,
+    property: Property,
+    initial: &[bool],
+    inputs: &[Seq<bool>],
+) -> Result<(), JudgeError>
+    ensures shown { OnOk result (Shows model.now (Violated property initial.now inputs.now)) }
+    ensures refused { IfErr result (HasCauseIn model.now property initial.now inputs.now) }
+{
+    check_fit(model.parts(), property, initial, inputs)?;
+    let replay = run(alloc, model, initial, inputs)?;
+    match property {
+        Property::Bad(n) => judge_bad(model, &replay, n, initial, inputs),
+        Property::Justice(j) => judge_justice(alloc, model, &replay, j, initial, inputs),
+    }
+}
+
+/// Whether the replay of a stimulus shows the violation that it tells of (AIGER 1.9): it begins in
+/// a state that the resets allow, keeps the constraints, and sets the bad literal at its last time
+/// or, for a justice property, closes a lasso at the state after its last time. Replaying costs the
+/// gates for each input line, and for a lasso twice that; the memory is a state and a valuation,
+/// for a lasso two of each, and a mark for each wanted literal.
+pub fn judge(alloc: Global, model: &Model, stimulus: &Stimulus) -> Result<(), JudgeError>
+    ensures shown { OnOk result (Shows model.now stimulus.now) }
+    ensures refused { IfErr result (HasCause model.now stimulus.now) }
+    ensures exact { IfErr result (λ e. e ≢ JudgeError.OutOfMemory → Shows model.now stimulus.now → ⊥) }
+{
+    match stimulus {
+        Stimulus::Violated {
+            property,
+            initial,
+            inputs,
+        } => judge_violated(
+            alloc,
+            model,
+            *property,
+            initial.as_slice(),
+            inputs.as_slice(),
+        ),
+        _ => Err(JudgeError::NotViolated),
+    }
+}

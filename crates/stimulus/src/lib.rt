@@ -1,0 +1,38 @@
+//! Stimuli: violations of a circuit's properties, as texts and as what they show.
+//!
+//! - `read` answers the `Stimulus` that a text spells, and `Ok` exactly on the texts that spell
+//!   one (`SpellsStimulus`); `write` puts that one text. No other text spells it.
+//! - `judge` answers `Ok` exactly where the replay of the stimulus shows the violation: it keeps
+//!   the constraints and sets the bad literal at its last time (`ShowsBad`), or closes a lasso in
+//!   which each wanted literal is set (`ShowsLasso`). Otherwise the first cause is told.
+//! - `put_table` puts the values at each time of the replay (`table_text`), row by row.
+//!
+//! Replaying costs the gates times the input lines, and for a lasso twice that. The memory is a state
+//! and a valuation, for a lasso two of each.
+#![tactic(auto)]
+
+mod judge_error;
+mod judging;
+mod lasso;
+mod lines;
+mod playing;
+mod reading;
+mod sim_error;
+mod stim_error;
+mod stim_write_error;
+mod table;
+mod value;
+mod writing;
+
+pub use judge_error::JudgeError;
+pub use judging::judge;
+pub use reading::read;
+pub use sim_error::SimError;
+pub use stim_error::StimError;
+pub use stim_write_error::StimWriteError;
+pub use table::put_table;
+pub use value::Stimulus;
+pub use writing::write;
+
+#[cfg(test)]
+mod tests;
