@@ -1,0 +1,10 @@
+pub mod NumberedLoop
+pub mod DeltaLaws
+pub mod LatchLaws
+pub mod NumberedLaws
+pub mod CircuitLaws
+pub mod WellFormedLaws
+pub mod TextLaws
+pub mod ReadLaws
+pub mod PieceLaws
+pub mod WritingLaws
