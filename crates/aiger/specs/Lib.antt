@@ -1,0 +1,3 @@
+pub mod Layouts
+pub mod Loading
+pub mod Numbers

@@ -1,0 +1,34 @@
+//! Reading all the bytes of a source.
+
+ghost use Rattle.std.specs.Prelude.{◌≡◌, ◌+◌, ◌-◌, ◌<◌, ◌^◌, ℕ, List, Some, MatchResult, IsErrOf};
+ghost use Rattle.aiger.specs.Loading.{IsFileOf, IsRefusal};
+ghost use Rattle.aiger.specs.declared.load_error.LoadError.TheVariants.{Device};
+
+use crate::load_error::LoadError;
+use crate::reading::read;
+use graph::{AigerFile, ReadAllError, ReadError, Source, read_all};
+use std::alloc::Global;
+
+/// The most bytes that the text of a circuit may have (AIGER 1.9 sets no limit; this one is the
+/// project's).
+const LONGEST: usize = 67_108_864;
+
+/// The file that the bytes of a source spell (AIGER 1.9), binary where the second byte is `i`, and
+/// else ASCII. Of a text that is longer than a circuit's may be, no more is read than shows it.
+pub fn load<S: Source>(alloc: Global, source: &mut S) -> Result<AigerFile, LoadError>
+    requires { S.failed source.old < 2 ^ 64 - 1 }
+    // The one file that the bytes spell; and where it is refused, they spell none, or memory was wanting.
+    ensures says { (xs : List ℕ) → S.remaining source.old ≡ Some xs → MatchResult result (IsFileOf xs) (IsRefusal xs) }
+    // The source failed once where it is told so, and else not.
+    ensures failed { IsErrOf result Device → S.failed source.new ≡ S.failed source.old + 1 }
+    ensures kept { (IsErrOf result Device → ⊥) → S.failed source.new ≡ S.failed source.old }
+{
+    let text = match read_all(alloc, source, LONGEST) {
+        Ok(text) => text,
+        Err(ReadAllError::OutOfMemory) => return Err(LoadError::Refused(ReadError::OutOfMemory)),
+        Err(ReadAllError::TooLong) => return Err(LoadError::Refused(ReadError::TooLong)),
+        Err(ReadAllError::Device) => return Err(LoadError::Device),
+    };
+    let file = read(alloc, text.as_slice())?;
+    Ok(file)
+}
