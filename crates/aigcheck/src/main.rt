@@ -2,13 +2,15 @@
 //!
 //! `aigcheck safe FILE CERT` puts `yes safe P` where the certificate CERT shows that no run of the
 //! circuit FILE which keeps the constraints sets the bad literal P at any time, and else `no` with
-//! the number of the refusal. The status is 0 for yes, 1 for no, and 3 where there is no answer.
+//! the number of the refusal. `aigcheck run FILE STIM` puts `yes run P` where the replay of the stimulus
+//! STIM shows that the property P of the circuit is violated, and else `no` with the number. The status
+//! is 0 for yes, 1 for no, and 3 where there is no answer.
 //!
-//! Nothing is decided here: the answer is that of `checker::run_safe`, whose contract says what it
-//! means. That the files hold what was read is the premise.
+//! Nothing is decided here: the answers are those of `checker::run_safe` and `checker::run_stimulus`,
+//! whose contracts say what they mean. That the files hold what was read is the premise.
 #![tactic(auto)]
 
-use checker::{RunError, run_safe};
+use checker::{RunError, run_safe, run_stimulus};
 use clap::error::ErrorKind;
 use clap::{Arg, ArgAction, ArgMatches, Command, Error};
 use graph::{FromRead, ToWrite};
@@ -36,12 +38,17 @@ fn file<'a>(alloc: Global, name: &'a str, about: &'a str) -> Arg<'a> {
 fn command<'a>(alloc: Global) -> Result<Command<'a>, AllocError> {
     let safe = Command::new(alloc, "safe")
         .about("Whether a certificate shows that a circuit is safe")
-        .arg(file(alloc, "FILE", "The circuit (AIGER 1.9, ASCII)"))?
+        .arg(file(alloc, "FILE", "The circuit (AIGER 1.9, ASCII or binary)"))?
         .arg(file(alloc, "CERT", "The certificate"))?;
+    let run = Command::new(alloc, "run")
+        .about("Whether a stimulus shows that a property is violated")
+        .arg(file(alloc, "FILE", "The circuit (AIGER 1.9, ASCII or binary)"))?
+        .arg(file(alloc, "STIM", "The stimulus"))?;
     Command::new(alloc, "aigcheck")
         .about("Checks evidence about AIGER circuits")
         .subcommand_required(true)
-        .subcommand(safe)
+        .subcommand(safe)?
+        .subcommand(run)
 }
 
 /// Tells a fault, and the status of one.
@@ -58,12 +65,15 @@ fn unopened(error: &io::Error) -> RunError {
     }
 }
 
+/// Opens the file that a word names.
+fn open(rt: &HostRuntime, words: &ArgMatches<'_>, word: &str) -> Result<File, RunError> {
+    File::open(rt, words.get_str(word).unwrap_or("")).map_err(|e| unopened(&e))
+}
+
 /// Opens both files, and then says whether the second shows that the first is safe.
 fn safe(rt: &HostRuntime, words: &ArgMatches<'_>) -> Result<bool, RunError> {
-    let circuit = words.get_str("FILE").unwrap_or("");
-    let certificate = words.get_str("CERT").unwrap_or("");
-    let circuit = File::open(rt, circuit).map_err(|e| unopened(&e))?;
-    let certificate = File::open(rt, certificate).map_err(|e| unopened(&e))?;
+    let circuit = open(rt, words, "FILE")?;
+    let certificate = open(rt, words, "CERT")?;
     run_safe(
         rt.alloc(),
         &mut FromRead::new(circuit),
@@ -72,10 +82,23 @@ fn safe(rt: &HostRuntime, words: &ArgMatches<'_>) -> Result<bool, RunError> {
     )
 }
 
+/// Opens both files, and then says whether the second shows a violation in the first.
+fn run(rt: &HostRuntime, words: &ArgMatches<'_>) -> Result<bool, RunError> {
+    let circuit = open(rt, words, "FILE")?;
+    let stimulus = open(rt, words, "STIM")?;
+    run_stimulus(
+        rt.alloc(),
+        &mut FromRead::new(circuit),
+        &mut FromRead::new(stimulus),
+        &mut ToWrite::new(io::writer(rt)),
+    )
+}
+
 /// What the words ask for.
 fn answer(rt: &HostRuntime, matches: &ArgMatches<'_>) -> ExitCode {
     let answer = match matches.subcommand() {
         Some(("safe", words)) => safe(rt, words),
+        Some(("run", words)) => run(rt, words),
         _ => return ExitCode::from(FAULT),
     };
     match answer {

@@ -3,3 +3,5 @@ pub mod Shared
 pub mod InOrder
 pub mod Accepted
 pub mod Said
+pub mod CertificateLaws
+pub mod StimulusLaws

@@ -1,5 +1,7 @@
 pub mod Accepted
 pub mod Causes
+pub mod Lines
 pub mod Numbers
-pub mod Verdicts
+pub mod Replayed
 pub mod Stops
+pub mod Verdicts

@@ -8,23 +8,29 @@
 //!   the second, to their end, a certificate that is accepted for it; and then that circuit is
 //!   safe.
 //!
-//! Nothing is assumed of whoever wrote the certificate. It costs its own length and one circuit:
-//! all sections of a kind are checked over one formula, and what a section adds is forgotten after
-//! it.
+//! - `run_stimulus` does the same for a circuit and a stimulus: `yes run b0` exactly where the
+//!   stimulus's replay shows the violation of its property.
+//!
+//! Nothing is assumed of whoever wrote the evidence. A certificate costs its own length and one
+//! circuit: all sections of a kind are checked over one formula, and what a section adds is forgotten
+//! after it.
 #![tactic(auto)]
 
 mod acceptance;
+mod certified;
 mod check_error;
 mod invariant;
 mod line;
-mod run;
+mod replayed;
 mod run_error;
 mod sections;
 mod stop;
+mod whole;
 
 pub use acceptance::check;
+pub use certified::run_safe;
 pub use check_error::CheckError;
-pub use run::run_safe;
+pub use replayed::run_stimulus;
 pub use run_error::RunError;
 
 #[cfg(test)]

@@ -1,12 +1,25 @@
 //! The lines that tell an answer.
 
-ghost use Rattle.std.specs.Prelude.{◌≡◌, ◌++◌, IfOk, OnOk, decimal};
+ghost use Rattle.std.specs.Prelude.{◌≡◌, ◌+◌, ◌-◌, ◌<◌, ◌^◌, ◌++◌, Err, IfOk, OnOk, OnErr, IsErrOf, decimal};
 ghost use Rattle.graph.specs.Properties.{property_text};
-ghost use Rattle.checker.specs.Verdicts.{yes_line as yes_text, no_line as no_text};
+ghost use Rattle.checker.specs.Lines.{BeginsToTell, Tells, yes_line as yes_text, no_line as no_text};
+ghost use Rattle.checker.specs.declared.stop.Stop.TheVariants.{OutOfMemory as NoMemory, Device as Failure};
+ghost use Rattle.checker.specs.declared.run_error.RunError.TheVariants.{OutOfMemory, Device};
 
-use graph::Property;
+use crate::run_error::RunError;
+use crate::stop::Stop;
+use graph::{Property, Sink, put_all};
 use itoa::Buffer;
 use std::alloc::{AllocError, Global};
+
+/// What is asked of two texts.
+#[derive(Clone, Copy, Debug, PartialEq, Eq)]
+pub enum Question {
+    /// Whether the second is a certificate that is accepted for the first.
+    Safe,
+    /// Whether the second is a stimulus that shows its violation in the first.
+    Run,
+}
 
 /// Adds a number in decimal.
 fn push_number(line: &mut Vec<u8>, number: u32) -> Result<(), AllocError>
@@ -31,18 +44,21 @@ fn push_property(line: &mut Vec<u8>, property: Property) -> Result<(), AllocErro
 }
 
 /// The line that says yes to a property.
-pub fn yes_line(alloc: Global, property: Property) -> Result<Vec<u8>, AllocError>
-    ensures { IfOk result (λ v. v.items ≡ yes_text property) }
+fn yes_line(alloc: Global, question: Question, property: Property) -> Result<Vec<u8>, AllocError>
+    ensures { IfOk result (λ v. v.items ≡ yes_text question property) }
 {
     let mut line = Vec::new(alloc);
-    line.extend_from_slice(b"yes safe ")?;
+    match question {
+        Question::Safe => line.extend_from_slice(b"yes safe ")?,
+        Question::Run => line.extend_from_slice(b"yes run ")?,
+    }
     push_property(&mut line, property)?;
     line.push(b'\n')?;
     Ok(line)
 }
 
 /// The line that says no, with the number of the refusal.
-pub fn no_line(alloc: Global, number: u8) -> Result<Vec<u8>, AllocError>
+fn no_line(alloc: Global, number: u8) -> Result<Vec<u8>, AllocError>
     ensures { IfOk result (λ v. v.items ≡ no_text number) }
 {
     let mut line = Vec::new(alloc);
@@ -50,4 +66,30 @@ pub fn no_line(alloc: Global, number: u8) -> Result<Vec<u8>, AllocError>
     push_number(&mut line, u32::from(number))?;
     line.push(b'\n')?;
     Ok(line)
+}
+
+/// Puts the line of an answer at once: `yes`, what was asked and the property, or `no` and a number.
+/// Where there is no answer, nothing is put.
+pub fn tell<W: Sink>(
+    alloc: Global,
+    question: Question,
+    answer: Result<Property, Stop>,
+    out: &mut W,
+) -> Result<bool, RunError>
+    requires { W.failed out.old < 2 ^ 64 - 1 }
+    ensures tells { IfOk result (λ yes. Tells question answer yes (W.contents out.old) (W.contents out.new)) }
+    ensures device { answer ≡ Err Failure → (result ≡ Err Device) × (out.new ≡ out.old) }
+    ensures failed { (answer ≡ Err Failure → ⊥) → IsErrOf result Device → W.failed out.new ≡ W.failed out.old + 1 }
+    ensures kept { (IsErrOf result Device → ⊥) → W.failed out.new ≡ W.failed out.old }
+    ensures nothing { OnErr result (W.failed out.new ≡ W.failed out.old → out.new ≡ out.old) }
+    ensures beginning { OnErr result (W.failed out.new ≡ W.failed out.old + 1 → BeginsToTell question answer (W.contents out.old) (W.contents out.new)) }
+{
+    let (yes, line) = match answer {
+        Ok(property) => (true, yes_line(alloc, question, property)?),
+        Err(Stop::No(number)) => (false, no_line(alloc, number)?),
+        Err(Stop::OutOfMemory) => return Err(RunError::OutOfMemory),
+        Err(Stop::Device) => return Err(RunError::Device),
+    };
+    put_all(out, line.as_slice())?;
+    Ok(yes)
 }

@@ -2,15 +2,16 @@
 
 ghost use Rattle.std.specs.Prelude.{◌≡◌};
 ghost use Rattle.certificate.specs.Numbers.{number_of as certificate_number};
-ghost use Rattle.graph.specs.Refusals.{number_of as read_number};
+ghost use Rattle.stimulus.specs.Numbers.{stim_number_of, judge_number_of};
 ghost use Rattle.checker.specs.Numbers.{number_of};
-ghost use Rattle.checker.specs.Stops.{stop_of};
+ghost use Rattle.checker.specs.Stops.{stop_of, stop_of_load};
 ghost use Rattle.checker.specs.declared.stop.Stop.TheVariants.{OutOfMemory};
 
 use crate::check_error::CheckError;
+use aiger::LoadError;
 use certificate::CertError;
-use graph::ReadError;
 use std::alloc::AllocError;
+use stimulus::{JudgeError, StimError};
 
 /// Why there is no yes.
 #[derive(Clone, Copy, Debug, PartialEq, Eq)]
@@ -47,11 +48,14 @@ impl From<AllocError> for Stop {
     }
 }
 
-impl From<ReadError> for Stop {
-    ghost from_gives = { λ e s. s ≡ stop_of (read_number e) };
+impl From<LoadError> for Stop {
+    ghost from_gives = { λ e s. s ≡ stop_of_load e };
 
-    fn from(e: ReadError) -> Stop {
-        Stop::of_refusal(e.number())
+    fn from(e: LoadError) -> Stop {
+        match e {
+            LoadError::Refused(e) => Stop::of_refusal(e.number()),
+            LoadError::Device => Stop::Device,
+        }
     }
 }
 
@@ -67,6 +71,22 @@ impl From<CheckError> for Stop {
     ghost from_gives = { λ e s. s ≡ stop_of (number_of e) };
 
     fn from(e: CheckError) -> Stop {
+        Stop::of_refusal(e.number())
+    }
+}
+
+impl From<StimError> for Stop {
+    ghost from_gives = { λ e s. s ≡ stop_of (stim_number_of e) };
+
+    fn from(e: StimError) -> Stop {
+        Stop::of_refusal(e.number())
+    }
+}
+
+impl From<JudgeError> for Stop {
+    ghost from_gives = { λ e s. s ≡ stop_of (judge_number_of e) };
+
+    fn from(e: JudgeError) -> Stop {
         Stop::of_refusal(e.number())
     }
 }

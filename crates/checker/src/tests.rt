@@ -1,6 +1,6 @@
 //! Texts with their answers, and refusals of certificates with their places.
 
-use crate::{CheckError, RunError, check, run_safe};
+use crate::{CheckError, RunError, check, run_safe, run_stimulus};
 use certificate::Certificate;
 use graph::{AigerFile, FromBytes, Lit, Property, Seq, ToVec};
 use lrat::Proof;
@@ -82,10 +82,55 @@ fn lines_that_are_put(rt: HostRuntime) -> Result<(), RunError> {
     Ok(())
 }
 
+/// Circuits, one of them binary, stimuli, and the lines that are put: a latch that toggles, one that
+/// begins with any value, a constraint, and constants.
+static REPLAYED: [(&[u8], &[u8], &[u8]); 8] = [
+    (
+        b"aag 1 0 1 0 0 1\n2 3\n2\n",
+        b"1\nb0\n0\n\n\n.\n",
+        b"yes run b0\n",
+    ),
+    (
+        b"aig 1 0 1 0 0 0 0 1\n3\n1\n2\n",
+        b"1\nj0\n0\n\n\n.\n",
+        b"yes run j0\n",
+    ),
+    (
+        b"aag 1 0 1 0 0 1\n2 2 2\n2\n",
+        b"1\nb0\n0\n\n.\n",
+        b"no 62\n",
+    ),
+    (
+        b"aag 1 1 0 0 0 1 1\n2\n2\n3\n",
+        b"1\nb0\n\n1\n.\n",
+        b"no 61\n",
+    ),
+    (b"aag 0 0 0 0 0 1\n1\n", b"0\nb0\n.\n", b"no 65\n"),
+    (b"aag 0 0 0 0 0 1\n1\n", b"1\nb0\n\n.\n", b"no 64\n"),
+    (b"aag 0 0 0 0 0 1\n1\n", b"1\nb0\n\n", b"no 84\n"),
+    (b"aag 0 0 0 0 0 1\n", b"", b"no 6\n"),
+];
+
+#[test]
+fn stimuli_that_are_replayed(rt: HostRuntime) -> Result<(), RunError> {
+    for (circuit, stimulus, line) in &REPLAYED {
+        let mut out = ToVec::new(rt.alloc());
+        let yes = run_stimulus(
+            rt.alloc(),
+            &mut FromBytes::new(circuit),
+            &mut FromBytes::new(stimulus),
+            &mut out,
+        )?;
+        assert_eq!(rt; out.as_slice(), *line);
+        assert_eq!(rt; yes, line.starts_with(b"yes"));
+    }
+    Ok(())
+}
+
 /// What `check` says of a certificate for the latch that keeps its value, by number, place and
 /// section.
 fn refusal(alloc: Global, certificate: &[u8]) -> Option<(u8, u64, u64)> {
-    let file: AigerFile = aag::read(alloc, HOLD).ok()?;
+    let file: AigerFile = aiger::read(alloc, HOLD).ok()?;
     let certificate = certificate::read(alloc, certificate).ok()?;
     match check(alloc, file.model(), &certificate) {
         Ok(()) => None,
@@ -142,7 +187,7 @@ fn without_a_section(alloc: Global) -> Result<Certificate, AllocError> {
 
 #[test]
 fn sections_are_counted(rt: HostRuntime) -> Result<(), Fail> {
-    let file = aag::read(rt.alloc(), HOLD)?;
+    let file = aiger::read(rt.alloc(), HOLD)?;
     let certificate = without_a_section(rt.alloc())?;
     let answer = check(rt.alloc(), file.model(), &certificate);
     assert_eq!(rt; answer, Err(CheckError::Sections { found: 2 }));

@@ -1,0 +1,92 @@
+//! From the bytes of a circuit and a certificate to an answer.
+
+ghost use Rattle.std.specs.Prelude.{◌≡◌, ◌+◌, ◌-◌, ◌<◌, ◌^◌, ℕ, List, Some, IfOk, IsTrue, MatchResult, OnErr, false};
+ghost use Rattle.std.specs.Io.KnownBytes.{Appends};
+ghost use Rattle.aiger.specs.Layouts.{SpellsFile};
+ghost use Rattle.graph.specs.declared.circuit.Property.{Property as AProperty};
+ghost use Rattle.graph.specs.File.{File};
+ghost use Rattle.checker.specs.Lines.{yes_line, no_line};
+ghost use Rattle.checker.specs.Verdicts.{Accepts, BeginsLine, IsCertificateOf, IsRefusal, IsSafeText, SpellsNoCertificate};
+ghost use Rattle.checker.specs.Stops.{IsStop, Fails, FailsOne};
+ghost use Rattle.checker.specs.declared.line.Question.TheVariants.{Safe};
+ghost use Rattle.checker.specs.declared.stop.Stop.TheVariants.{Device as Failure};
+ghost use Rattle.checker.specs.declared.run_error.RunError.TheVariants.{Device};
+
+use crate::acceptance::check;
+use crate::line::{Question, tell};
+use crate::run_error::RunError;
+use crate::stop::Stop;
+use crate::whole::read_whole;
+use aiger::load;
+use certificate::Certificate;
+use graph::{Property, Sink, Source};
+use std::alloc::Global;
+
+/// The certificate that the bytes of a source spell.
+fn read_certificate<C: Source>(alloc: Global, certificate: &mut C) -> Result<Certificate, Stop>
+    requires { C.failed certificate.old < 2 ^ 64 - 1 }
+    ensures says { (ys : List ℕ) → C.remaining certificate.old ≡ Some ys → MatchResult result (λ c. IsCertificateOf ys c) (IsStop (SpellsNoCertificate ys)) }
+    ensures fails { Fails result (C.failed certificate.old) (C.failed certificate.new) }
+{
+    let text = read_whole(alloc, certificate)?;
+    let certificate = certificate::read(alloc, text.as_slice())?;
+    Ok(certificate)
+}
+
+/// The property that is shown safe, by the bytes of two sources. Where the first spells no circuit,
+/// the second is not read.
+fn safe_property<M: Source, C: Source>(
+    alloc: Global,
+    circuit: &mut M,
+    certificate: &mut C,
+) -> Result<Property, Stop>
+    requires circuit { M.failed circuit.old < 2 ^ 64 - 1 }
+    requires certificate { C.failed certificate.old < 2 ^ 64 - 1 }
+    ensures says { (xs ys : List ℕ) → M.remaining circuit.old ≡ Some xs → C.remaining certificate.old ≡ Some ys → MatchResult result (λ p. Accepts xs ys p) (IsStop (IsRefusal xs ys)) }
+    ensures unread { (xs : List ℕ) → M.remaining circuit.old ≡ Some xs → ((f : File) → SpellsFile xs f → ⊥) → certificate.new ≡ certificate.old }
+    ensures fails { FailsOne result Failure (record { circuit = M.failed circuit.old; evidence = C.failed certificate.old; out = 0 }) (record { circuit = M.failed circuit.new; evidence = C.failed certificate.new; out = 0 }) }
+{
+    let file = load(alloc, circuit)?;
+    let certificate = read_certificate(alloc, certificate)?;
+    check(alloc, file.model(), &certificate)?;
+    Ok(certificate.property)
+}
+
+/// Says whether the certificate that the second source's bytes spell is accepted for the circuit
+/// that the first's spell (AIGER 1.9, binary where the second byte is `i`, else ASCII): it puts
+/// `yes safe P` with the property that the certificate names, or `no NUMBER`, and a line end.
+///
+/// A yes means that no run of the circuit that keeps the constraints sets that bad literal at any
+/// time. A fault of the first text is told without reading the second, and a fault of the second,
+/// anywhere in it, before every fault of the certificate. Where memory is wanting or a source
+/// fails, nothing is put.
+///
+/// It takes no memory beyond the file, the certificate, the clauses that the cases share, and
+/// those of one section. While a text is read, its bytes are held too.
+pub fn run_safe<M: Source, C: Source, W: Sink>(
+    alloc: Global,
+    circuit: &mut M,
+    certificate: &mut C,
+    out: &mut W,
+) -> Result<bool, RunError>
+    requires circuit { M.failed circuit.old < 2 ^ 64 - 1 }
+    requires certificate { C.failed certificate.old < 2 ^ 64 - 1 }
+    requires out { W.failed out.old < 2 ^ 64 - 1 }
+    // Yes: the certificate is accepted, the circuit is safe, and the line says so.
+    ensures yes { (xs ys : List ℕ) → M.remaining circuit.old ≡ Some xs → C.remaining certificate.old ≡ Some ys → IfOk result (λ yes. IsTrue yes → (p : AProperty) × Accepts xs ys p × IsSafeText xs p × Appends (W.contents out.old) (W.contents out.new) (yes_line Safe p)) }
+    // No: there is a reason, and the line has its number.
+    ensures no { (xs ys : List ℕ) → M.remaining circuit.old ≡ Some xs → C.remaining certificate.old ≡ Some ys → IfOk result (λ yes. yes ≡ false → (n : ℕ) × IsRefusal xs ys n × Appends (W.contents out.old) (W.contents out.new) (no_line n)) }
+    // Whatever is accepted gets a yes, unless memory runs out or a device fails.
+    ensures exact { (xs ys : List ℕ) (p : AProperty) → M.remaining circuit.old ≡ Some xs → C.remaining certificate.old ≡ Some ys → Accepts xs ys p → IfOk result (λ yes. IsTrue yes) }
+    // A circuit that is none is told without reading the second source.
+    ensures unread { (xs : List ℕ) → M.remaining circuit.old ≡ Some xs → ((f : File) → SpellsFile xs f → ⊥) → certificate.new ≡ certificate.old }
+    // A device's fault is answered exactly where one of them failed.
+    ensures fails { FailsOne result Device (record { circuit = M.failed circuit.old; evidence = C.failed certificate.old; out = W.failed out.old }) (record { circuit = M.failed circuit.new; evidence = C.failed certificate.new; out = W.failed out.new }) }
+    // Without an answer, and without a failure of the sink, nothing was put.
+    ensures nothing { OnErr result (W.failed out.new ≡ W.failed out.old → out.new ≡ out.old) }
+    // After a failure of the sink a beginning of the line was put.
+    ensures beginning { (xs ys : List ℕ) → M.remaining circuit.old ≡ Some xs → C.remaining certificate.old ≡ Some ys → OnErr result (W.failed out.new ≡ W.failed out.old + 1 → BeginsLine xs ys (W.contents out.old) (W.contents out.new)) }
+{
+    let answer = safe_property(alloc, circuit, certificate);
+    tell(alloc, Question::Safe, answer, out)
+}

@@ -1,0 +1,91 @@
+//! From the bytes of a circuit and a stimulus to an answer.
+
+ghost use Rattle.std.specs.Prelude.{◌≡◌, ◌+◌, ◌-◌, ◌<◌, ◌^◌, ℕ, List, Some, IfOk, IsTrue, MatchResult, OnErr, false};
+ghost use Rattle.std.specs.Io.KnownBytes.{Appends};
+ghost use Rattle.aiger.specs.Layouts.{SpellsFile};
+ghost use Rattle.graph.specs.declared.circuit.Property.{Property as AProperty};
+ghost use Rattle.graph.specs.File.{File};
+ghost use Rattle.checker.specs.Lines.{yes_line, no_line};
+ghost use Rattle.checker.specs.Replayed.{BeginsRunLine, Confirms, IsRunRefusal, IsStimulusOf, SpellsNoStimulus};
+ghost use Rattle.checker.specs.Stops.{IsStop, Fails, FailsOne};
+ghost use Rattle.checker.specs.declared.line.Question.TheVariants.{Run};
+ghost use Rattle.checker.specs.declared.stop.Stop.TheVariants.{Device as Failure};
+ghost use Rattle.checker.specs.declared.run_error.RunError.TheVariants.{Device};
+
+use crate::line::{Question, tell};
+use crate::run_error::RunError;
+use crate::stop::Stop;
+use crate::whole::read_whole;
+use aiger::load;
+use graph::{Property, Sink, Source};
+use std::alloc::Global;
+use stimulus::{Stimulus, judge};
+
+/// The stimulus that the bytes of a source spell.
+fn read_stimulus<C: Source>(alloc: Global, stimulus: &mut C) -> Result<Stimulus, Stop>
+    requires { C.failed stimulus.old < 2 ^ 64 - 1 }
+    ensures says { (ys : List ℕ) → C.remaining stimulus.old ≡ Some ys → MatchResult result (λ s. IsStimulusOf ys s) (IsStop (SpellsNoStimulus ys)) }
+    ensures fails { Fails result (C.failed stimulus.old) (C.failed stimulus.new) }
+{
+    let text = read_whole(alloc, stimulus)?;
+    let stimulus = stimulus::read(alloc, text.as_slice())?;
+    Ok(stimulus)
+}
+
+/// The property whose violation is shown, by the bytes of two sources. Where the first spells no
+/// circuit, the second is not read.
+fn violated_property<M: Source, C: Source>(
+    alloc: Global,
+    circuit: &mut M,
+    stimulus: &mut C,
+) -> Result<Property, Stop>
+    requires circuit { M.failed circuit.old < 2 ^ 64 - 1 }
+    requires stimulus { C.failed stimulus.old < 2 ^ 64 - 1 }
+    ensures says { (xs ys : List ℕ) → M.remaining circuit.old ≡ Some xs → C.remaining stimulus.old ≡ Some ys → MatchResult result (λ p. Confirms xs ys p) (IsStop (IsRunRefusal xs ys)) }
+    ensures unread { (xs : List ℕ) → M.remaining circuit.old ≡ Some xs → ((f : File) → SpellsFile xs f → ⊥) → stimulus.new ≡ stimulus.old }
+    ensures fails { FailsOne result Failure (record { circuit = M.failed circuit.old; evidence = C.failed stimulus.old; out = 0 }) (record { circuit = M.failed circuit.new; evidence = C.failed stimulus.new; out = 0 }) }
+{
+    let file = load(alloc, circuit)?;
+    let stimulus = read_stimulus(alloc, stimulus)?;
+    judge(alloc, file.model(), &stimulus)?;
+    Ok(stimulus.property())
+}
+
+/// Says whether the stimulus that the second source's bytes spell shows its violation in the circuit
+/// that the first's spell (AIGER 1.9, binary where the second byte is `i`, else ASCII): it puts
+/// `yes run P` with the property that the stimulus names, or `no NUMBER`, and a line end.
+///
+/// A yes means that the one replay of the stimulus is a run that keeps the constraints, and sets the
+/// bad literal at its last time, or closes a lasso in which each wanted literal is set. A fault of
+/// the first text is told without reading the second, and a fault of the second, anywhere in it,
+/// before what its replay shows. Where memory is wanting or a source fails, nothing is put.
+///
+/// It takes no memory beyond the file, the stimulus, two states and a valuation. While a text is read,
+/// its bytes are held too.
+pub fn run_stimulus<M: Source, C: Source, W: Sink>(
+    alloc: Global,
+    circuit: &mut M,
+    stimulus: &mut C,
+    out: &mut W,
+) -> Result<bool, RunError>
+    requires circuit { M.failed circuit.old < 2 ^ 64 - 1 }
+    requires stimulus { C.failed stimulus.old < 2 ^ 64 - 1 }
+    requires out { W.failed out.old < 2 ^ 64 - 1 }
+    // Yes: the stimulus shows its violation, and the line says so.
+    ensures yes { (xs ys : List ℕ) → M.remaining circuit.old ≡ Some xs → C.remaining stimulus.old ≡ Some ys → IfOk result (λ yes. IsTrue yes → (p : AProperty) × Confirms xs ys p × Appends (W.contents out.old) (W.contents out.new) (yes_line Run p)) }
+    // No: there is a reason, and the line has its number.
+    ensures no { (xs ys : List ℕ) → M.remaining circuit.old ≡ Some xs → C.remaining stimulus.old ≡ Some ys → IfOk result (λ yes. yes ≡ false → (n : ℕ) × IsRunRefusal xs ys n × Appends (W.contents out.old) (W.contents out.new) (no_line n)) }
+    // Whatever shows its violation gets a yes, unless memory runs out or a device fails.
+    ensures exact { (xs ys : List ℕ) (p : AProperty) → M.remaining circuit.old ≡ Some xs → C.remaining stimulus.old ≡ Some ys → Confirms xs ys p → IfOk result (λ yes. IsTrue yes) }
+    // A circuit that is none is told without reading the second source.
+    ensures unread { (xs : List ℕ) → M.remaining circuit.old ≡ Some xs → ((f : File) → SpellsFile xs f → ⊥) → stimulus.new ≡ stimulus.old }
+    // A device's fault is answered exactly where one of them failed.
+    ensures fails { FailsOne result Device (record { circuit = M.failed circuit.old; evidence = C.failed stimulus.old; out = W.failed out.old }) (record { circuit = M.failed circuit.new; evidence = C.failed stimulus.new; out = W.failed out.new }) }
+    // Without an answer, and without a failure of the sink, nothing was put.
+    ensures nothing { OnErr result (W.failed out.new ≡ W.failed out.old → out.new ≡ out.old) }
+    // After a failure of the sink a beginning of the line was put.
+    ensures beginning { (xs ys : List ℕ) → M.remaining circuit.old ≡ Some xs → C.remaining stimulus.old ≡ Some ys → OnErr result (W.failed out.new ≡ W.failed out.old + 1 → BeginsRunLine xs ys (W.contents out.old) (W.contents out.new)) }
+{
+    let answer = violated_property(alloc, circuit, stimulus);
+    tell(alloc, Question::Run, answer, out)
+}
