@@ -1,0 +1,52 @@
+//! The layouts of circuits' files.
+
+ghost use Rattle.std.specs.Prelude.{◌≡◌, ◌+◌, ◌-◌, ◌<◌, ◌^◌, ◌↔◌, Err, OnOk, IsErrOf};
+ghost use Rattle.std.specs.Io.KnownBytes.{Appends};
+ghost use Rattle.base.specs.Devices.{PutsBeginning};
+ghost use Rattle.graph.specs.WellFormed.{IsOrdered};
+ghost use Rattle.cli.specs.Layouts.{text_in};
+ghost use Rattle.cli.specs.declared.cli_error.CliError.TheVariants.{Device, Unordered};
+ghost use Rattle.cli.specs.declared.layout.Layout.TheVariants.{Binary};
+
+use crate::cli_error::CliError;
+use graph::{AigerFile, Sink};
+
+/// A layout of a circuit's file (AIGER 1.9).
+#[derive(Clone, Copy, Debug, PartialEq, Eq)]
+pub enum Layout {
+    /// a line for each item
+    Ascii,
+    /// no lines for inputs, and differences of literals for gates
+    Binary,
+}
+
+impl Layout {
+    /// The layout that the ending of a file's name asks for: `.aag` or `.aig`.
+    pub fn of_name(name: &str) -> Option<Layout> {
+        if name.ends_with(".aag") {
+            return Some(Layout::Ascii);
+        }
+        if name.ends_with(".aig") {
+            return Some(Layout::Binary);
+        }
+        None
+    }
+}
+
+/// Puts the shortest text of a file in a layout. A file whose circuit is not ordered has none in the
+/// binary one, and then nothing is put.
+pub fn put_file<W: Sink>(file: &AigerFile, layout: Layout, out: &mut W) -> Result<(), CliError>
+    requires { W.failed out.old < 2 ^ 64 - 1 }
+    ensures written { OnOk result (Appends (W.contents out.old) (W.contents out.new) (text_in layout file.now)) }
+    ensures unordered { (result ≡ Err Unordered) ↔ ((layout ≡ Binary) × (IsOrdered file.now.model → ⊥)) }
+    ensures untouched { result ≡ Err Unordered → out.new ≡ out.old }
+    ensures beginning { result ≡ Err Device → PutsBeginning (W.contents out.old) (W.contents out.new) (text_in layout file.now) }
+    ensures failed { IsErrOf result Device → W.failed out.new ≡ W.failed out.old + 1 }
+    ensures kept { (IsErrOf result Device → ⊥) → W.failed out.new ≡ W.failed out.old }
+{
+    match layout {
+        Layout::Ascii => aag::write(file, out)?,
+        Layout::Binary => aig::write(file, out)?,
+    }
+    Ok(())
+}
