@@ -4,7 +4,7 @@ ghost use Rattle.std.specs.Prelude.{◌≡◌, ◌+◌, ◌-◌, ◌<◌, ◌^�
 ghost use Rattle.std.specs.Io.KnownBytes.{Appends};
 ghost use Rattle.base.specs.Devices.{PutsBeginning};
 ghost use Rattle.graph.specs.WellFormed.{IsOrdered};
-ghost use Rattle.cli.specs.Layouts.{text_in};
+ghost use Rattle.cli.specs.Layouts.{layout_of, text_in};
 ghost use Rattle.cli.specs.declared.cli_error.CliError.TheVariants.{Device, Unordered};
 ghost use Rattle.cli.specs.declared.layout.Layout.TheVariants.{Binary};
 
@@ -22,11 +22,14 @@ pub enum Layout {
 
 impl Layout {
     /// The layout that the ending of a file's name asks for: `.aag` or `.aig`.
-    pub fn of_name(name: &str) -> Option<Layout> {
-        if name.ends_with(".aag") {
+    pub fn of_name(name: &str) -> Option<Layout>
+        ensures { result ≡ layout_of name.now }
+    {
+        let name = name.as_bytes();
+        if name.ends_with(b".aag") {
             return Some(Layout::Ascii);
         }
-        if name.ends_with(".aig") {
+        if name.ends_with(b".aig") {
             return Some(Layout::Binary);
         }
         None
