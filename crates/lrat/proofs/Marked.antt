@@ -44,7 +44,7 @@ denies_negative t (negsuc n) ne says = (λ h. cc, λ h. absurd (says.0 h))
 -- what the mark at the literal's variable was read as
 pub read_mark : (n : ℕ) (marks : List Mark) (t : List ℤ) (l : ℤ) (i : ℕ) (x m : Mark) → AreMarked n marks t → IsLiteral n l → i ≡ unsigned_abs l → x ≡ get_or marks i x → x ≡ m → Says t (unsigned_abs l) m
 read_mark n marks t l i x m are lit at read is =
-    let lt : i < length marks = omega (arith, are.places, lit.1, at) in
+    let lt : i < length marks = omega (arith, are.marked l lit, at) in
     let e : get_or marks i Neither ≡ m = get_or_default marks i Neither x lt ∙ sym read ∙ is in
     subst (Says t (unsigned_abs l)) (subst (λ j. get_or marks j Neither ≡ m) at e) (are.say (unsigned_abs l))
 
@@ -77,14 +77,14 @@ by_eq {P = P} a b y n = elim (a == b) as (λ r. (a == b) ≡ r → P) [ true ↦
 pub marked_push : (n : ℕ) (marks : List Mark) (t : List ℤ) (l : ℤ) → AreMarked n marks t → IsLiteral n l → (Contains t l → ⊥) → (Contains t (neg_ℤ l) → ⊥) → AreMarked n (set marks (unsigned_abs l) (mark_of l)) (t ++ l ∷ [])
 marked_push n marks t l are lit not_held none = record {
   small = are.small;
-  places = length-set marks (unsigned_abs l) (mark_of l) ∙ are.places;
+  marked = λ k is. rw length-set (are.marked k is);
   are_literals = All-push (IsLiteral n) t l are.are_literals lit;
   apart = all_pairs_push (λ a b. (a ≢ b) × (a ≢ neg_ℤ b)) t l are.apart (λ k d lt. (
     λ e. not_held (subst (Contains t) e (Contains-get_or t k d lt)),
     λ e. none (subst (Contains t) e (Contains-get_or t k d lt)),
   ));
   say = λ v. by_eq v (unsigned_abs l)
-      (λ e. let lt : unsigned_abs l < length marks = omega (arith, are.places, lit.1) in rw (e, get_or-set_same marks (unsigned_abs l) (mark_of l) Neither lt) (says_same t l lit.0 none))
+      (λ e. let lt : unsigned_abs l < length marks = are.marked l lit in rw (e, get_or-set_same marks (unsigned_abs l) (mark_of l) Neither lt) (says_same t l lit.0 none))
       (λ ne. rw (get_or-set_other marks (unsigned_abs l) v (mark_of l) Neither ne) (says_other t v l _ (abs_pos l v ne) (abs_neg l v ne) (are.say v)));
 }
 
@@ -152,7 +152,7 @@ in_part t k l at = Contains-append_cases (take k t) (drop k t) l (subst (λ u. C
 pub marked_take : (n : ℕ) (marks new : List Mark) (t : List ℤ) (k : ℕ) → AreMarked n marks t → IsUnmarked marks new (drop k t) → AreMarked n new (take k t)
 marked_take n marks new t k are un = record {
   small = are.small;
-  places = un.places ∙ are.places;
+  marked = λ l lit. rw un.places (are.marked l lit);
   are_literals = All-take (IsLiteral n) k t are.are_literals;
   apart = λ i j d lt lt2.
       let jk : j < k = omega (arith, length-take k t) in

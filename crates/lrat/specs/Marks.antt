@@ -1,5 +1,5 @@
 -- One mark for each variable tells which literals are held.
-use Rattle.std.specs.Prelude.{◌≡◌, ℕ, ◌+◌, ◌^◌, ◌<◌, List, length, get_or, Contains, All, AllPairs, ◌≢◌, ℤ, pos, negsuc, neg_ℤ, unsigned_abs}
+use Rattle.std.specs.Prelude.{◌≡◌, ℕ, ◌^◌, ◌<◌, List, length, get_or, Contains, All, AllPairs, ◌≢◌, ℤ, pos, negsuc, neg_ℤ, unsigned_abs}
 use Rattle.lrat.specs.Literals.{IsLiteral}
 use Rattle.lrat.specs.declared.mark.Mark.{Mark}
 use Rattle.lrat.specs.declared.mark.Mark.TheVariants.{Neither, Positive, Negative}
@@ -19,9 +19,10 @@ Says t v Negative = (Contains t (pos v) → ⊥) × Contains t (neg_ℤ (pos v))
 abbrev pub AreApart : List ℤ → Type 0
 AreApart t = AllPairs (λ a b. (a ≢ b) × (a ≢ neg_ℤ b)) t
 
+-- each literal's variable has a mark, which says what is held of it
 pub record AreMarked (n : ℕ) (marks : List Mark) (t : List ℤ) : Type 0 where
   pub small : n < 2 ^ 31
-  pub places : length marks ≡ n + 1
+  pub marked : (l : ℤ) → IsLiteral n l → unsigned_abs l < length marks
   pub are_literals : All (IsLiteral n) t
   pub apart : AreApart t
   pub say : (v : ℕ) → Says t v (get_or marks v Neither)

@@ -49,6 +49,7 @@ pub use derivation::{derive, derive_with};
 pub use fault::Fault;
 pub use formula::Formula;
 pub use line::Line;
+pub use look::{Left, look as look_at};
 pub use lookup::Lookup;
 pub use lrat_error::LratError;
 pub use lrat_write_error::LratWriteError;

@@ -48,6 +48,17 @@ impl Trail {
         })
     }
 
+    /// A trail over no variables, which takes no memory.
+    pub fn empty(alloc: Global) -> Trail
+        ensures { result ≡ record { vars = 0; literals = [] } }
+    {
+        Trail {
+            vars: 0,
+            marks: Vec::new(alloc),
+            literals: Vec::new(alloc),
+        }
+    }
+
     /// The greatest variable.
     pub fn vars(&self) -> u32
         ensures value { result ≡ self.now.vars }

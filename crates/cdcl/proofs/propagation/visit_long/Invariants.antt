@@ -1,0 +1,12 @@
+use Rattle.std.proofs.Common.{◌≤◌, length}
+use Rattle.base.specs.Budget.{Spends}
+use Rattle.cdcl.specs.Keeping.{Keeps}
+use Rattle.cdcl.proofs.propagation.visit_long.Given as goal
+
+abbrev pub invariant-loop-at : goal.invariant-loop-at
+invariant-loop-at l = record {
+  few : l.kept ≤ l.at;
+  long : l.at-end ≤ length l.list.items;
+  keeps : Keeps l.initial.kernel l.kernel;
+  spends : Spends l.initial.budget l.budget;
+}

@@ -1,0 +1,4 @@
+pub mod Keeping
+pub mod Settled
+pub mod Refutations
+pub mod Logged

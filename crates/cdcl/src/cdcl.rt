@@ -1,0 +1,87 @@
+//! The conflict-driven solver.
+
+ghost use Rattle.std.specs.Prelude.{◌≡◌, []};
+
+use crate::guide::Guide;
+use crate::search::search;
+use base::Budget;
+use kernel::Kernel;
+use solver::{Answer, Sat, SatError};
+use std::alloc::Global;
+use std::marker::Model;
+
+/// A conflict-driven solver, to which clauses are added between the calls. What it learns follows
+/// from the clauses alone and serves the later calls; a call that ends in a core costs what it
+/// propagates, whatever the number of clauses and variables.
+#[derive(Drop)]
+pub struct Cdcl {
+    kernel: Kernel,
+    guide: Guide,
+}
+
+impl Model for Cdcl {
+    ghost use Rattle.lrat.specs.declared.formula.Formula.{Formula};
+    ghost use Rattle.kernel.specs.Kept.{added};
+
+    ghost Value = { Formula };
+
+    ghost view = { λ s. record { vars = s.kernel.vars; clauses = added s.kernel.kept } };
+}
+
+impl Cdcl {
+    /// A solver over no variables and without clauses, which takes no memory.
+    pub fn new(alloc: Global) -> Cdcl
+        ensures { result ≡ record { vars = 0; clauses = [] } }
+    {
+        Cdcl {
+            kernel: Kernel::new(alloc),
+            guide: Guide::new(alloc),
+        }
+    }
+
+    /// How many conflicts were met since the last `reset` or want of memory.
+    #[cfg(test)]
+    pub fn conflicts(&self) -> u64 {
+        self.guide.conflicts
+    }
+}
+
+impl Sat for Cdcl {
+    ghost vars = { λ s. s.vars };
+
+    ghost clauses = { λ s. s.clauses };
+
+    /// It costs the number of variables, and two bytes of memory for each.
+    fn reset(&mut self, alloc: Global, count: u32) -> Result<(), SatError> {
+        self.kernel.reset(alloc, count)?;
+        self.guide = Guide::new(alloc);
+        Ok(())
+    }
+
+    fn vars(&self) -> u32 {
+        self.kernel.vars()
+    }
+
+    /// It costs the clause's literals. The clause is looked at when `solve` is called.
+    fn add(&mut self, _alloc: Global, clause: &[i32]) -> Result<(), SatError> {
+        self.kernel.add(clause)?;
+        let _ids = self.kernel.clauses();
+        Ok(())
+    }
+
+    /// A step of the budget is a clause that is looked at in propagation, or a decision or a
+    /// conflict. After a refusal the clauses are watched anew.
+    fn solve(
+        &mut self,
+        alloc: Global,
+        assume: &[i32],
+        budget: &mut Budget,
+    ) -> Result<Answer, SatError> {
+        let answer = search(&mut self.kernel, &mut self.guide, assume, budget);
+        if answer.is_err() {
+            self.kernel.backtrack(0);
+            self.guide = Guide::new(alloc);
+        }
+        answer
+    }
+}

@@ -1,0 +1,128 @@
+//! Assumptions that the clauses deny.
+//!
+//! Where an assumption is false, the reasons behind it lead to assumptions decided before it;
+//! the clause that denies those and the assumption itself follows. Where a clause is false at
+//! level 0, the empty clause follows. The kernel checks the clause by its hints, as if it were to
+//! be learned, and that what it denies is assumed.
+
+ghost use Rattle.std.specs.Prelude.{All, IfOk, IfSome};
+ghost use Rattle.kernel.specs.Kept.{added};
+ghost use Rattle.cdcl.specs.Keeping.{Keeps};
+ghost use Rattle.lrat.specs.Literals.{IsLiteral};
+ghost use Rattle.solver.specs.Answers.{IsCore};
+
+use crate::analysis::{begin, finish, take_step};
+use crate::guide::Guide;
+use kernel::Kernel;
+use solver::SatError;
+use std::alloc::AllocError;
+
+/// The core where a clause is false at level 0, which has no assumption.
+pub fn empty_core(
+    kernel: &mut Kernel,
+    guide: &mut Guide,
+    conflict: u32,
+    assume: &[i32],
+) -> Result<Option<Vec<i32>>, SatError>
+    ensures keeps { Keeps kernel.old kernel.new }
+    ensures core { IfOk result (λ r. IfSome r (λ core. IsCore (added kernel.old.kept) assume.now core.items)) }
+{
+    begin(guide);
+    see_all(kernel, guide, conflict)?;
+    finish(guide, conflict)?;
+    checked_core(kernel, guide, assume)
+}
+
+/// The core where an assumption is false.
+pub fn core_of_denied(
+    kernel: &mut Kernel,
+    guide: &mut Guide,
+    literal: i32,
+    assume: &[i32],
+) -> Result<Option<Vec<i32>>, SatError>
+    requires { All (IsLiteral kernel.old.vars) assume.now }
+    ensures keeps { Keeps kernel.old kernel.new }
+    ensures core { IfOk result (λ r. IfSome r (λ core. IsCore (added kernel.old.kept) assume.now core.items)) }
+{
+    let place = guide.levels.place_of(literal);
+    let Some(reason) = kernel.reason(place) else {
+        return kernel.opposed_of(guide.alloc, assume);
+    };
+    begin(guide);
+    guide.see(literal)?;
+    guide.clause.push(literal.wrapping_neg())?;
+    if guide.levels.level_of(literal) == 0 {
+        finish(guide, guide.unit_of(literal))?;
+    } else {
+        analyse_denial(kernel, guide, place, reason)?;
+    }
+    checked_core(kernel, guide, assume)
+}
+
+/// The core that the clause in progress denies, where its hints show it.
+fn checked_core(
+    kernel: &mut Kernel,
+    guide: &Guide,
+    assume: &[i32],
+) -> Result<Option<Vec<i32>>, SatError>
+    ensures keeps { Keeps kernel.old kernel.new }
+    ensures core { IfOk result (λ r. IfSome r (λ core. IsCore (added kernel.old.kept) assume.now core.items)) }
+{
+    let core = kernel.core_of(
+        guide.alloc,
+        guide.clause.as_slice(),
+        guide.hints.as_slice(),
+        assume,
+    )?;
+    Ok(core)
+}
+
+/// Follows the reasons behind the literal at a place back to decisions, whose denials join the
+/// clause in progress.
+fn analyse_denial(
+    kernel: &Kernel,
+    guide: &mut Guide,
+    place: usize,
+    reason: u32,
+) -> Result<(), AllocError> {
+    see_all(kernel, guide, reason)?;
+    let mut before = place;
+    for _ in 0..place {
+        before = before.saturating_sub(1);
+        let Some(literal) = kernel.literal(before) else {
+            break;
+        };
+        if guide.levels.level_of(literal) == 0 {
+            break;
+        }
+        if !guide.is_seen(literal) {
+            continue;
+        }
+        match kernel.reason(before) {
+            None => guide.clause.push(literal.wrapping_neg())?,
+            Some(id) => {
+                take_step(guide, before, id)?;
+                see_all(kernel, guide, id)?;
+            }
+        }
+    }
+    finish(guide, reason)
+}
+
+/// Sees the clause's literals, and hints what holds without decisions.
+fn see_all(kernel: &Kernel, guide: &mut Guide, id: u32) -> Result<(), AllocError> {
+    let Some(clause) = kernel.clause(id) else {
+        return Ok(());
+    };
+    for literal in clause {
+        if guide.is_seen(*literal) {
+            continue;
+        }
+        guide.see(*literal)?;
+        if guide.levels.level_of(*literal) == 0 {
+            let unit = guide.unit_of(*literal);
+            guide.hints.push(unit)?;
+        }
+    }
+    Ok(())
+}

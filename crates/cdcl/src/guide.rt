@@ -1,0 +1,140 @@
+//! What steers the search. Nothing here can make an answer wrong.
+
+use crate::heap::Heap;
+use crate::levels::Levels;
+use crate::log::Log;
+use crate::restarts::Restarts;
+use crate::table::Table;
+use crate::watches::Watches;
+use std::alloc::{AllocError, Global};
+
+/// A reason that shows a part of the clause in progress, and its place on the trail.
+#[derive(Clone, Copy)]
+pub struct Step {
+    pub place: u32,
+    pub id: u32,
+}
+
+/// All that the search keeps beside the clauses and the trail. It grows with the clauses that
+/// are watched, and is right again after any of it is lost, for the price of watching them anew.
+#[derive(Drop)]
+pub struct Guide {
+    pub alloc: Global,
+    pub watches: Watches,
+    pub heap: Heap,
+    pub levels: Levels,
+    pub restarts: Restarts,
+    /// the last value of each variable
+    pub phases: Table<bool>,
+    /// of each variable the id of the clause that is its literal alone, or 0
+    pub units: Table<u32>,
+    /// which variables the analysis has seen
+    pub seen: Table<bool>,
+    /// literals of the variables that are seen
+    pub marked: Vec<i32>,
+    /// how many literals of the trail were propagated
+    pub head: usize,
+    /// a clause that is false, and was not learned from
+    pub waiting: Option<u32>,
+    /// the clause in progress
+    pub clause: Vec<i32>,
+    /// the reasons that show it
+    pub steps: Vec<Step>,
+    /// the ids of the clauses that show it, in order
+    pub hints: Vec<u32>,
+    /// the ids of the learned clauses of more than two literals
+    pub learned: Vec<u32>,
+    /// how many conflicts were met
+    pub conflicts: u64,
+    /// the proof so far
+    pub log: Log,
+}
+
+impl Guide {
+    /// No variables and no clauses, which take no memory.
+    pub fn new(alloc: Global) -> Guide {
+        Guide {
+            alloc,
+            watches: Watches::new(alloc),
+            heap: Heap::new(alloc),
+            levels: Levels::new(alloc),
+            restarts: Restarts::new(),
+            phases: Table::new(alloc),
+            units: Table::new(alloc),
+            seen: Table::new(alloc),
+            marked: Vec::new(alloc),
+            head: 0,
+            waiting: None,
+            clause: Vec::new(alloc),
+            steps: Vec::new(alloc),
+            hints: Vec::new(alloc),
+            learned: Vec::new(alloc),
+            conflicts: 0,
+            log: Log::unwanted(),
+        }
+    }
+
+    /// Makes room for the variables of the literals.
+    pub fn grow_to(&mut self, literals: &[i32]) -> Result<(), AllocError> {
+        for literal in literals {
+            let variable = literal.unsigned_abs();
+            for next in self.seen.len()..variable as usize + 1 {
+                self.grow(next)?;
+            }
+        }
+        Ok(())
+    }
+
+    /// Makes room for the next variable.
+    fn grow(&mut self, variable: usize) -> Result<(), AllocError> {
+        self.watches.grow()?;
+        self.heap.grow()?;
+        self.levels.grow()?;
+        self.phases.push(false)?;
+        self.units.push(0)?;
+        self.seen.push(false)?;
+        if variable > 0 && variable < 4_294_967_296 {
+            self.heap.insert(variable as u32)?;
+        }
+        Ok(())
+    }
+
+    /// The id of the clause that is the literal of this variable alone, or 0.
+    #[inline]
+    pub fn unit_of(&self, literal: i32) -> u32 {
+        self.units.at(literal.unsigned_abs() as usize, 0)
+    }
+
+    /// The literal of the variable that was true last, or else the negative one.
+    pub fn phased(&self, variable: i32) -> i32 {
+        if self.phases.at(variable.unsigned_abs() as usize, false) {
+            variable
+        } else {
+            variable.wrapping_neg()
+        }
+    }
+
+    /// Whether the literal's variable was seen.
+    #[inline]
+    pub fn is_seen(&self, literal: i32) -> bool {
+        self.seen.at(literal.unsigned_abs() as usize, true)
+    }
+
+    /// Marks the literal's variable as seen.
+    #[inline]
+    pub fn see(&mut self, literal: i32) -> Result<(), AllocError> {
+        self.marked.push(literal)?;
+        self.seen.put(literal.unsigned_abs() as usize, true);
+        Ok(())
+    }
+
+    /// Leaves only the first `len` of the variables that are seen.
+    pub fn forget_seen(&mut self, len: usize) {
+        for place in len..self.marked.len() {
+            if let Some(literal) = self.marked.get(place) {
+                self.seen.put(literal.unsigned_abs() as usize, false);
+            }
+        }
+        self.marked.truncate(len);
+    }
+}

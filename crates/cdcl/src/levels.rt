@@ -1,0 +1,115 @@
+//! The levels of the trail.
+//!
+//! A level is a decision with what follows from it; level 0 is what holds without decisions. The
+//! assumptions have the first levels, in order, and an assumption that is true already has a
+//! level without a decision, so that the level alone says which assumption is next.
+
+ghost use Rattle.cdcl.specs.Keeping.{Keeps};
+
+use crate::guide::Guide;
+use crate::table::Table;
+use kernel::Kernel;
+use solver::SatError;
+use std::alloc::{AllocError, Global};
+
+/// Where a variable's literal came on the trail.
+#[derive(Clone, Copy)]
+struct Entry {
+    level: u32,
+    place: u32,
+}
+
+/// A variable that was never on the trail.
+const NEVER: Entry = Entry { level: 0, place: 0 };
+
+/// Where each level begins, and the level and the place of each variable that is on the trail.
+#[derive(Drop)]
+pub struct Levels {
+    /// where each level but 0 begins on the trail
+    starts: Vec<usize>,
+    /// of each variable
+    entries: Table<Entry>,
+}
+
+impl Levels {
+    /// No level but 0, and no variables.
+    pub fn new(alloc: Global) -> Levels {
+        Levels {
+            starts: Vec::new(alloc),
+            entries: Table::new(alloc),
+        }
+    }
+
+    /// Makes room for the next variable, from 0 on.
+    pub fn grow(&mut self) -> Result<(), AllocError> {
+        self.entries.push(NEVER)
+    }
+
+    /// The level that is open.
+    #[inline]
+    pub fn current(&self) -> usize {
+        self.starts.len()
+    }
+
+    /// The level of a literal that is on the trail, or whose negation is.
+    #[inline]
+    pub fn level_of(&self, literal: i32) -> usize {
+        self.entries
+            .at(literal.unsigned_abs() as usize, NEVER)
+            .level as usize
+    }
+
+    /// The place on the trail of such a literal.
+    #[inline]
+    pub fn place_of(&self, literal: i32) -> usize {
+        self.entries
+            .at(literal.unsigned_abs() as usize, NEVER)
+            .place as usize
+    }
+
+    /// The literal came on the trail at this place.
+    #[inline]
+    pub fn note(&mut self, literal: i32, place: usize) {
+        let level = self.starts.len();
+        if place < 4_294_967_296 && level < 4_294_967_296 {
+            let entry = Entry {
+                level: level as u32,
+                place: place as u32,
+            };
+            self.entries.put(literal.unsigned_abs() as usize, entry);
+        }
+    }
+}
+
+/// Goes back to a level. What goes from the trail keeps its value as a phase.
+pub fn go_back(kernel: &mut Kernel, guide: &mut Guide, level: usize) -> Result<(), SatError>
+    ensures { Keeps kernel.old kernel.new }
+{
+    let Some(start) = guide.levels.starts.get(level) else {
+        return Ok(());
+    };
+    let start = *start;
+    for place in start..kernel.len() {
+        if let Some(literal) = kernel.literal(place) {
+            let variable = literal.unsigned_abs();
+            guide.phases.put(variable as usize, literal > 0);
+            guide.heap.insert(variable)?;
+        }
+    }
+    kernel.backtrack(start);
+    guide.levels.starts.truncate(level);
+    guide.head = start;
+    Ok(())
+}
+
+/// Opens a level and decides the literal, where it is open.
+pub fn open_level(kernel: &mut Kernel, guide: &mut Guide, literal: i32) -> Result<(), SatError>
+    ensures { Keeps kernel.old kernel.new }
+{
+    let place = kernel.len();
+    guide.levels.starts.push(place)?;
+    if kernel.decide(literal)? {
+        guide.levels.note(literal, place);
+    }
+    Ok(())
+}

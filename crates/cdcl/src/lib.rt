@@ -1,0 +1,40 @@
+//! A conflict-driven solver.
+//!
+//! `Cdcl` keeps to `solver`'s `Sat`: a model satisfies the clauses and the assumptions, a core is
+//! part of the assumptions that nothing satisfies with the clauses, and `Spent` is answered only
+//! where the budget has nothing left.
+//!
+//! `refute` gives a proof of a formula that nothing satisfies, which lrat's `refutes` accepts.
+//!
+//! All of that is `kernel`'s: it keeps the clauses and the trail, checks each clause before it is
+//! learned, looks through a model and derives a core before either is answered. The techniques
+//! here, one a file, only steer it, and no proof rests on them. What they get wrong costs time:
+//! a clause that the watches missed is found when a model is looked through, a clause that the
+//! analysis got wrong is refused and the denial of the decisions learned in its place.
+#![tactic(auto)]
+
+mod analysis;
+mod attaching;
+mod cdcl;
+mod cores;
+mod guide;
+mod heap;
+mod learning;
+mod levels;
+mod log;
+mod propagation;
+mod reduction;
+mod refutation;
+mod refuted;
+mod restarts;
+mod search;
+mod shortening;
+mod table;
+#[cfg(test)]
+mod tests;
+mod units;
+mod watches;
+
+pub use cdcl::Cdcl;
+pub use refutation::refute;
+pub use refuted::Refuted;

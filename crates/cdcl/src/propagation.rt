@@ -1,0 +1,189 @@
+//! What follows from the literals on the trail.
+//!
+//! For each literal that came on the trail the clauses that watch its negation are looked at. One
+//! with another literal to watch is watched there; of one with a single literal left, that
+//! literal comes on the trail; one that is false is a conflict. Clauses of two literals come
+//! first, since they are looked at without being fetched. Each clause looked at is a step of the
+//! budget; a clause whose blocker is true is not looked at.
+
+ghost use Rattle.base.specs.Budget.{Spends};
+ghost use Rattle.cdcl.specs.Keeping.{Keeps};
+
+use crate::guide::Guide;
+use crate::units::imply;
+use crate::watches::Watch;
+use base::Budget;
+use kernel::{Found, Kernel};
+use solver::SatError;
+
+/// How a propagation ended.
+#[derive(Clone, Copy)]
+pub enum Propagated {
+    /// nothing more follows
+    Quiet,
+    /// the clause is false
+    Conflict(u32),
+    /// the budget has nothing left
+    Spent,
+}
+
+/// What becomes of a watch.
+#[derive(Clone, Copy)]
+enum Visit {
+    /// the clause goes on watching the literal, beside this blocker
+    Stays(i32),
+    /// the clause watches another literal, or is gone
+    Goes,
+    /// the clause is false
+    Conflict,
+}
+
+/// Looks at the clauses of which a watched literal became false, until nothing more follows.
+pub fn propagate(
+    kernel: &mut Kernel,
+    guide: &mut Guide,
+    budget: &mut Budget,
+) -> Result<Propagated, SatError>
+    ensures keeps { Keeps kernel.old kernel.new }
+    ensures spends { Spends budget.old budget.new }
+{
+    for _ in 0..kernel.vars() as u64 + 1 {
+        let Some(literal) = kernel.literal(guide.head) else {
+            return Ok(Propagated::Quiet);
+        };
+        match propagate_literal(kernel, guide, budget, literal.wrapping_neg())? {
+            Propagated::Quiet => guide.head = guide.head.saturating_add(1),
+            Propagated::Conflict(id) => return Ok(Propagated::Conflict(id)),
+            Propagated::Spent => return Ok(Propagated::Spent),
+        }
+    }
+    Ok(Propagated::Quiet)
+}
+
+/// Looks at the clauses that watch a literal, which is false.
+fn propagate_literal(
+    kernel: &mut Kernel,
+    guide: &mut Guide,
+    budget: &mut Budget,
+    denied: i32,
+) -> Result<Propagated, SatError>
+    ensures keeps { Keeps kernel.old kernel.new }
+    ensures spends { Spends budget.old budget.new }
+{
+    match visit_binary(kernel, guide, budget, denied)? {
+        Propagated::Quiet => {}
+        outcome => return Ok(outcome),
+    }
+    let mut list = guide.watches.take(denied);
+    let outcome = visit_long(kernel, guide, budget, denied, &mut list);
+    guide.watches.put(denied, list);
+    outcome
+}
+
+/// Looks at the clauses of two literals that have this one.
+fn visit_binary(
+    kernel: &mut Kernel,
+    guide: &mut Guide,
+    budget: &mut Budget,
+    denied: i32,
+) -> Result<Propagated, SatError>
+    ensures keeps { Keeps kernel.old kernel.new }
+    ensures spends { Spends budget.old budget.new }
+{
+    for at in 0..guide.watches.binary(denied).len() {
+        let Some(watch) = guide.watches.binary(denied).get(at).copied() else {
+            break;
+        };
+        if kernel.is_true(watch.blocker) {
+            continue;
+        }
+        if !budget.tick() {
+            return Ok(Propagated::Spent);
+        }
+        if let Found::Conflict = imply(kernel, guide, watch.id)? {
+            return Ok(Propagated::Conflict(watch.id));
+        }
+    }
+    Ok(Propagated::Quiet)
+}
+
+/// Looks at the longer clauses that watch the literal. Those that go on watching it stay in the
+/// list, in order.
+fn visit_long(
+    kernel: &mut Kernel,
+    guide: &mut Guide,
+    budget: &mut Budget,
+    denied: i32,
+    list: &mut Vec<Watch>,
+) -> Result<Propagated, SatError>
+    ensures keeps { Keeps kernel.old kernel.new }
+    ensures spends { Spends budget.old budget.new }
+{
+    let mut kept = 0;
+    for at in 0..list.len() {
+        let watch = list[at];
+        if kernel.is_true(watch.blocker) {
+            list[kept] = watch;
+            kept += 1;
+            continue;
+        }
+        if !budget.tick() {
+            close_gap(list, kept, at);
+            return Ok(Propagated::Spent);
+        }
+        match look_at(kernel, guide, denied, watch.id)? {
+            Visit::Goes => {}
+            Visit::Stays(blocker) => {
+                list[kept] = Watch {
+                    id: watch.id,
+                    blocker,
+                };
+                kept += 1;
+            }
+            Visit::Conflict => {
+                close_gap(list, kept, at);
+                return Ok(Propagated::Conflict(watch.id));
+            }
+        }
+    }
+    list.truncate(kept);
+    Ok(Propagated::Quiet)
+}
+
+/// Moves the items from `from` on down to `to`.
+fn close_gap(list: &mut Vec<Watch>, to: usize, from: usize) {
+    if to == from {
+        return;
+    }
+    let mut kept = to;
+    for at in from..list.len() {
+        let watch = list[at];
+        if kept < list.len() {
+            list[kept] = watch;
+            kept += 1;
+        }
+    }
+    list.truncate(kept);
+}
+
+/// Looks at a clause that watches a literal which is false.
+fn look_at(kernel: &mut Kernel, guide: &mut Guide, denied: i32, id: u32) -> Result<Visit, SatError>
+    ensures { Keeps kernel.old kernel.new }
+{
+    let other = guide.watches.other(id, denied);
+    if kernel.is_true(other) {
+        return Ok(Visit::Stays(other));
+    }
+    if let Some(next) = kernel.replacement(id, other) {
+        if kernel.is_true(next) {
+            return Ok(Visit::Stays(next));
+        }
+        guide.watches.replace(id, other, next)?;
+        return Ok(Visit::Goes);
+    }
+    match imply(kernel, guide, id)? {
+        Found::Missing => Ok(Visit::Goes),
+        Found::Conflict => Ok(Visit::Conflict),
+        _ => Ok(Visit::Stays(other)),
+    }
+}

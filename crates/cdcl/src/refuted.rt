@@ -1,0 +1,14 @@
+//! What a refutation comes to.
+
+use lrat::Proof;
+
+/// What a refutation comes to.
+#[derive(Drop)]
+pub enum Refuted {
+    /// an accepted proof that nothing satisfies the formula
+    Proof(Proof),
+    /// values that satisfy the formula: place `v` is the variable `v`, and place 0 is false
+    Model(Vec<bool>),
+    /// the budget has nothing left
+    Spent,
+}

@@ -1,0 +1,187 @@
+//! The search: propagate, learn from a conflict, decide.
+
+ghost use Rattle.std.specs.Prelude.{All, IfOk, IfSome};
+ghost use Rattle.base.specs.Budget.{Spends};
+ghost use Rattle.kernel.specs.Kept.{added};
+ghost use Rattle.cdcl.specs.Keeping.{Keeps};
+ghost use Rattle.lrat.specs.Literals.{IsLiteral};
+ghost use Rattle.cdcl.specs.Settled.{IsSettled};
+ghost use Rattle.solver.specs.Answers.{IsLawful};
+
+use crate::analysis::top_level;
+use crate::attaching::{attach_new, recall};
+use crate::cores::{core_of_denied, empty_core};
+use crate::guide::Guide;
+use crate::learning::learn;
+use crate::levels::{go_back, open_level};
+use crate::propagation::{Propagated, propagate};
+use crate::reduction::{INTERVAL, reduce};
+use crate::units::imply;
+use base::Budget;
+use kernel::{Found, Kernel};
+use solver::{Answer, SatError};
+
+/// What to do where nothing more follows.
+enum Next {
+    /// open a level and decide the literal there, where it is open
+    Decide(i32),
+    /// the assumption is false
+    Denied(i32),
+    /// each variable of a clause has a value
+    Full,
+}
+
+/// Finds a model under the assumptions, or part of them that can't hold.
+pub fn search(
+    kernel: &mut Kernel,
+    guide: &mut Guide,
+    assume: &[i32],
+    budget: &mut Budget,
+) -> Result<Answer, SatError>
+    requires { All (IsLiteral kernel.old.vars) assume.now }
+    ensures keeps { Keeps kernel.old kernel.new }
+    ensures spends { Spends budget.old budget.new }
+    ensures lawful { IfOk result (IsLawful kernel.old.vars (added kernel.old.kept) assume.now budget.new) }
+{
+    go_back(kernel, guide, 0)?;
+    guide.grow_to(assume)?;
+    attach_new(kernel, guide)?;
+    recall(kernel, guide)?;
+    'searching: while budget.tick() {
+        if let Some(answer) = turn(kernel, guide, assume, budget)? {
+            return Ok(answer);
+        }
+    }
+    Ok(Answer::Spent)
+}
+
+/// Propagates, and then learns from a conflict, decides or answers.
+fn turn(
+    kernel: &mut Kernel,
+    guide: &mut Guide,
+    assume: &[i32],
+    budget: &mut Budget,
+) -> Result<Option<Answer>, SatError>
+    requires { All (IsLiteral kernel.old.vars) assume.now }
+    ensures keeps { Keeps kernel.old kernel.new }
+    ensures spends { Spends budget.old budget.new }
+    ensures lawful { IfOk result (λ r. IfSome r (IsSettled kernel.old assume.now)) }
+{
+    if let Some(conflict) = guide.waiting {
+        return meet(kernel, guide, conflict, assume);
+    }
+    match propagate(kernel, guide, budget)? {
+        Propagated::Spent => Ok(None),
+        Propagated::Conflict(conflict) => meet(kernel, guide, conflict, assume),
+        Propagated::Quiet => advance(kernel, guide, assume),
+    }
+}
+
+/// Learns from a clause that is false. At level 0 nothing satisfies the clauses.
+fn meet(
+    kernel: &mut Kernel,
+    guide: &mut Guide,
+    conflict: u32,
+    assume: &[i32],
+) -> Result<Option<Answer>, SatError>
+    ensures keeps { Keeps kernel.old kernel.new }
+    ensures lawful { IfOk result (λ r. IfSome r (IsSettled kernel.old assume.now)) }
+{
+    guide.conflicts = guide.conflicts.saturating_add(1);
+    let level = top_level(kernel, guide, conflict);
+    if level == 0 {
+        guide.waiting = Some(conflict);
+        let core = empty_core(kernel, guide, conflict, assume)?;
+        return Ok(core.map(Answer::Core));
+    }
+    guide.waiting = None;
+    learn(kernel, guide, conflict, level)?;
+    if guide.conflicts % INTERVAL == 0 {
+        reduce(kernel, guide)?;
+    }
+    if guide.restarts.is_due() {
+        let level = assume.len().min(guide.levels.current());
+        go_back(kernel, guide, level)?;
+    }
+    Ok(None)
+}
+
+/// Decides where nothing more follows, or answers.
+fn advance(
+    kernel: &mut Kernel,
+    guide: &mut Guide,
+    assume: &[i32],
+) -> Result<Option<Answer>, SatError>
+    requires { All (IsLiteral kernel.old.vars) assume.now }
+    ensures keeps { Keeps kernel.old kernel.new }
+    ensures lawful { IfOk result (λ r. IfSome r (IsSettled kernel.old assume.now)) }
+{
+    match choose(kernel, guide, assume) {
+        Next::Decide(literal) => {
+            open_level(kernel, guide, literal)?;
+            Ok(None)
+        }
+        Next::Denied(literal) => {
+            let core = core_of_denied(kernel, guide, literal, assume)?;
+            Ok(core.map(Answer::Core))
+        }
+        Next::Full => look_through(kernel, guide, assume),
+    }
+}
+
+/// Looks for the next assumption that is not true, or else for the most active open variable.
+fn choose(kernel: &Kernel, guide: &mut Guide, assume: &[i32]) -> Next {
+    if let Some(literal) = assume.get(guide.levels.current()) {
+        if kernel.is_false(*literal) {
+            return Next::Denied(*literal);
+        }
+        return Next::Decide(*literal);
+    }
+    for _ in 0..kernel.vars() as u64 + 1 {
+        let Some(variable) = guide.heap.pop() else {
+            return Next::Full;
+        };
+        if variable < 2_147_483_648 {
+            let literal = variable as i32;
+            if !kernel.is_true(literal) && !kernel.is_false(literal) {
+                return Next::Decide(guide.phased(literal));
+            }
+        }
+    }
+    Next::Full
+}
+
+/// Answers the values on the trail where they satisfy the clauses. Else a clause without a true
+/// literal is met as a conflict, or one of its open literals comes on the trail.
+fn look_through(
+    kernel: &mut Kernel,
+    guide: &mut Guide,
+    assume: &[i32],
+) -> Result<Option<Answer>, SatError>
+    requires { All (IsLiteral kernel.old.vars) assume.now }
+    ensures keeps { Keeps kernel.old kernel.new }
+    ensures lawful { IfOk result (λ r. IfSome r (IsSettled kernel.old assume.now)) }
+{
+    if let Some(id) = kernel.unsatisfied() {
+        repair(kernel, guide, id)?;
+        return Ok(None);
+    }
+    let values = kernel.model_of(guide.alloc, assume)?;
+    Ok(values.map(Answer::Model))
+}
+
+/// Goes on where a clause has no true literal although no variable seemed open.
+fn repair(kernel: &mut Kernel, guide: &mut Guide, id: u32) -> Result<(), SatError>
+    ensures { Keeps kernel.old kernel.new }
+{
+    match imply(kernel, guide, id)? {
+        Found::Conflict => guide.waiting = Some(id),
+        Found::Several => {
+            if let Some(literal) = kernel.replacement(id, 0) {
+                open_level(kernel, guide, literal)?;
+            }
+        }
+        _ => {}
+    }
+    Ok(())
+}

@@ -1,0 +1,51 @@
+//! Lists that may be read and written anywhere.
+//!
+//! What is kept by variables or by clauses only steers the search, so nothing is to be proved of
+//! its places: past the end a list gives a default, and a write there does nothing.
+
+use std::alloc::{AllocError, Global};
+
+/// A list that gives a default past its end.
+#[derive(Drop)]
+pub struct Table<T> {
+    items: Vec<T>,
+}
+
+impl<T: Copy> Table<T> {
+    /// No items, which take no memory.
+    pub fn new(alloc: Global) -> Table<T> {
+        Table {
+            items: Vec::new(alloc),
+        }
+    }
+
+    /// How many items there are.
+    #[inline]
+    pub fn len(&self) -> usize {
+        self.items.len()
+    }
+
+    /// The item at the index, or the default past the end.
+    #[inline]
+    pub fn at(&self, index: usize, default: T) -> T {
+        if index < self.items.len() {
+            self.items[index]
+        } else {
+            default
+        }
+    }
+
+    /// Writes the item at the index, where there is one.
+    #[inline]
+    pub fn put(&mut self, index: usize, item: T) {
+        if index < self.items.len() {
+            self.items[index] = item;
+        }
+    }
+
+    /// Adds an item at the end.
+    pub fn push(&mut self, item: T) -> Result<(), AllocError> {
+        self.items.push(item)?;
+        Ok(())
+    }
+}

@@ -1,0 +1,90 @@
+//! Literals that clauses leave, and those that hold without decisions.
+//!
+//! A literal that comes on the trail at level 0 holds for good. It is learned as a clause of its
+//! own at once, so that a later proof hints that clause in place of all the reasons behind it.
+
+ghost use Rattle.cdcl.specs.Keeping.{Keeps};
+
+use crate::guide::Guide;
+use kernel::{Found, Kernel};
+use solver::SatError;
+use std::alloc::AllocError;
+
+/// Puts the literal that a clause leaves on the trail.
+pub fn imply(kernel: &mut Kernel, guide: &mut Guide, id: u32) -> Result<Found, SatError>
+    ensures { Keeps kernel.old kernel.new }
+{
+    let place = kernel.len();
+    let found = kernel.imply(id)?;
+    if let Found::Implied(literal) = found {
+        guide.levels.note(literal, place);
+        if guide.levels.current() == 0 {
+            settle(kernel, guide, literal, id)?;
+        }
+    }
+    Ok(found)
+}
+
+/// Learns a literal that holds without decisions as a clause of its own.
+fn settle(kernel: &mut Kernel, guide: &mut Guide, literal: i32, id: u32) -> Result<(), SatError>
+    ensures { Keeps kernel.old kernel.new }
+{
+    let variable = literal.unsigned_abs() as usize;
+    let Some(clause) = kernel.clause(id) else {
+        return Ok(());
+    };
+    if clause.len() == 1 {
+        guide.units.put(variable, id);
+        return Ok(());
+    }
+    hint_units(guide, clause, literal)?;
+    guide.hints.push(id)?;
+    if kernel.learn(&[literal], guide.hints.as_slice())? {
+        let unit = last_id(kernel);
+        guide
+            .log
+            .add(guide.alloc, unit, &[literal], guide.hints.as_slice())?;
+        guide.watches.skip()?;
+        guide.units.put(variable, unit);
+    }
+    Ok(())
+}
+
+/// Hints the unit clauses of the other literals, each once.
+fn hint_units(guide: &mut Guide, clause: &[i32], literal: i32) -> Result<(), AllocError> {
+    guide.hints.clear();
+    for other in clause {
+        if *other != literal {
+            let unit = guide.unit_of(*other);
+            guide.hints.push(unit)?;
+        }
+    }
+    let hints = guide.hints.as_mut_slice();
+    hints.sort_unstable();
+    let kept = gather(hints);
+    guide.hints.truncate(kept);
+    Ok(())
+}
+
+/// Moves the first of each row of equal ids to the front, and answers how many there are.
+fn gather(ids: &mut [u32]) -> usize {
+    let mut kept = 0;
+    for at in 0..ids.len() {
+        let id = ids[at];
+        if kept == 0 || ids[kept - 1] != id {
+            ids[kept] = id;
+            kept += 1;
+        }
+    }
+    kept
+}
+
+/// The greatest id.
+pub fn last_id(kernel: &Kernel) -> u32 {
+    let count = kernel.clauses();
+    if count < 4_294_967_296 {
+        count as u32
+    } else {
+        0
+    }
+}

@@ -1,0 +1,183 @@
+//! Which clauses to look at when a literal becomes false.
+//!
+//! Of each clause two literals are watched, and only where one of them becomes false the clause
+//! is looked at (Moskewicz, Madigan, Zhao, Zhang, Malik 2001). Beside the clause's id a watch has
+//! its blocker, another literal of the clause: where that one is true the clause is left alone.
+//! The literals of a clause stay as they were added; which two are watched stands in a table by
+//! ids. Clauses of two literals have lists apart, since the blocker says all of them.
+//!
+//! No proof rests on what is watched: a clause that is missed is found when a model is looked
+//! through.
+
+use crate::table::Table;
+use kernel::Kernel;
+use std::alloc::{AllocError, Global};
+use std::mem;
+
+/// A clause that watches a literal, and another literal of the clause.
+#[derive(Clone, Copy)]
+pub struct Watch {
+    pub id: u32,
+    pub blocker: i32,
+}
+
+/// The two watched literals of a clause.
+#[derive(Clone, Copy)]
+struct Pair {
+    first: i32,
+    second: i32,
+}
+
+/// A clause that isn't watched.
+const NONE: Pair = Pair {
+    first: 0,
+    second: 0,
+};
+
+/// The watches of each literal.
+#[derive(Drop)]
+pub struct Watches {
+    alloc: Global,
+    /// the clauses of two literals, by literals
+    binary: Vec<Vec<Watch>>,
+    /// the longer clauses, by literals
+    long: Vec<Vec<Watch>>,
+    /// the watched literals of each clause, by ids from 1 on
+    pairs: Table<Pair>,
+}
+
+/// The place of a literal's lists.
+#[inline]
+fn index_of(literal: i32) -> usize {
+    literal.unsigned_abs() as usize * 2 + usize::from(literal < 0)
+}
+
+impl Watches {
+    /// No lists, which take no memory.
+    pub fn new(alloc: Global) -> Watches {
+        Watches {
+            alloc,
+            binary: Vec::new(alloc),
+            long: Vec::new(alloc),
+            pairs: Table::new(alloc),
+        }
+    }
+
+    /// Makes room for the literals of the next variable, from 0 on.
+    pub fn grow(&mut self) -> Result<(), AllocError> {
+        self.binary.push(Vec::new(self.alloc))?;
+        self.binary.push(Vec::new(self.alloc))?;
+        self.long.push(Vec::new(self.alloc))?;
+        self.long.push(Vec::new(self.alloc))?;
+        Ok(())
+    }
+
+    /// How many clauses were attached or passed over, which is the greatest id.
+    pub fn len(&self) -> usize {
+        self.pairs.len()
+    }
+
+    /// The clauses of two literals that have this one.
+    #[inline]
+    pub fn binary(&self, literal: i32) -> &[Watch] {
+        match self.binary.get(index_of(literal)) {
+            Some(list) => list.as_slice(),
+            None => &[],
+        }
+    }
+
+    /// Takes the list of the longer clauses that watch the literal out.
+    #[inline]
+    pub fn take(&mut self, literal: i32) -> Vec<Watch> {
+        let index = index_of(literal);
+        if index < self.long.len() {
+            mem::replace(&mut self.long[index], Vec::new(self.alloc))
+        } else {
+            Vec::new(self.alloc)
+        }
+    }
+
+    /// Puts the list of the longer clauses that watch the literal back.
+    #[inline]
+    pub fn put(&mut self, literal: i32, list: Vec<Watch>) {
+        let index = index_of(literal);
+        if index < self.long.len() {
+            self.long[index] = list;
+        }
+    }
+
+    #[inline]
+    fn watch(&mut self, literal: i32, watch: Watch) -> Result<(), AllocError> {
+        let index = index_of(literal);
+        if index < self.long.len() {
+            self.long[index].push(watch)?;
+        }
+        Ok(())
+    }
+
+    fn watch_binary(&mut self, literal: i32, watch: Watch) -> Result<(), AllocError> {
+        let index = index_of(literal);
+        if index < self.binary.len() {
+            self.binary[index].push(watch)?;
+        }
+        Ok(())
+    }
+
+    /// Watches two literals of the next clause, which has `len` literals.
+    pub fn attach(
+        &mut self,
+        id: u32,
+        first: i32,
+        second: i32,
+        len: usize,
+    ) -> Result<(), AllocError> {
+        let one = Watch {
+            id,
+            blocker: second,
+        };
+        let other = Watch { id, blocker: first };
+        if len == 2 {
+            self.watch_binary(first, one)?;
+            self.watch_binary(second, other)?;
+            self.pairs.push(NONE)
+        } else {
+            self.watch(first, one)?;
+            self.watch(second, other)?;
+            self.pairs.push(Pair { first, second })
+        }
+    }
+
+    /// Leaves the next clause without watches.
+    pub fn skip(&mut self) -> Result<(), AllocError> {
+        self.pairs.push(NONE)
+    }
+
+    /// The watched literal beside this one.
+    #[inline]
+    pub fn other(&self, id: u32, literal: i32) -> i32 {
+        let pair = self.pairs.at((id as usize).wrapping_sub(1), NONE);
+        if pair.first == literal {
+            pair.second
+        } else {
+            pair.first
+        }
+    }
+
+    /// Takes the watches of longer clauses out that are gone.
+    pub fn sweep(&mut self, kernel: &Kernel) {
+        for list in self.long.iter_mut() {
+            list.retain(|watch| kernel.clause(watch.id).is_some());
+        }
+    }
+
+    /// Watches another literal in place of the one beside `other`.
+    #[inline]
+    pub fn replace(&mut self, id: u32, other: i32, next: i32) -> Result<(), AllocError> {
+        let pair = Pair {
+            first: other,
+            second: next,
+        };
+        self.pairs.put((id as usize).wrapping_sub(1), pair);
+        self.watch(next, Watch { id, blocker: other })
+    }
+}

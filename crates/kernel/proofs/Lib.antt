@@ -1,0 +1,7 @@
+pub mod Denied
+pub mod Placed
+pub mod Follow
+pub mod Judged
+pub mod Among
+pub mod Forgetting
+pub mod Closing
