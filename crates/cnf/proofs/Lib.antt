@@ -9,3 +9,4 @@ pub mod Tabling
 pub mod Laid
 pub mod RunLaw
 pub mod Counted
+pub mod Extended

@@ -22,6 +22,11 @@ times_from m (suc k) o = time_clauses m o ++ flat_map (join_clauses m.max_var o)
 abbrev pub unroll_clauses : Parts → ℕ → List (List ℤ)
 unroll_clauses m k = flat_map (reset_clauses m.max_var 0) m.latches ++ times_from m k 0
 
+-- the clauses of the unrolling of k steps beyond those of one step less: of 0 steps, all
+abbrev pub IsExtension : Parts → ℕ → List (List ℤ) → Type 0
+IsExtension m zero s = unroll_clauses m zero ≡ s
+IsExtension m (suc k) s = unroll_clauses m (suc k) ≡ unroll_clauses m k ++ s
+
 abbrev pub unroll_formula : Parts → ℕ → Formula
 unroll_formula m k = record { vars = (k + 1) * (m.max_var + 1); clauses = unroll_clauses m k }
 

@@ -7,7 +7,8 @@
 //! - `start_base` and `shared_base` are what cases begin with, and `init_units`, `step_units` and
 //!   `bad_unit` the literals that follow, each as a clause of its own. So all cases can be checked
 //!   over two formulas.
-//! - `unroll` is satisfied exactly by the runs of a number of steps that keep the constraints.
+//! - `unroll` is satisfied exactly by the runs of a number of steps that keep the constraints, and
+//!   `extension` is what it has beyond that of one step less.
 //!
 //! Each formula is the list of clauses that `specs/` names, in its order. Variable `v` of the
 //! circuit is variable `v` of the clauses, and the one above the greatest is true. Each call costs
@@ -31,4 +32,4 @@ pub use error::CnfError;
 pub use next_table::NextTable;
 pub use time::Time;
 pub use units::{bad_unit, init_units, step_units};
-pub use unrolling::unroll;
+pub use unrolling::{extension, unroll};

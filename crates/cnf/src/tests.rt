@@ -6,8 +6,8 @@ ghost use Rattle.cnf.specs.Formulas.{IsClause, IsInvariant};
 ghost use Rattle.cnf.specs.Tables.{IsTableOf};
 
 use crate::{
-    CnfError, NextTable, bad_case, bad_unit, frame, init_case, init_units, shared_base, start_base,
-    step_case, step_units, unroll,
+    CnfError, NextTable, bad_case, bad_unit, extension, frame, init_case, init_units, shared_base,
+    start_base, step_case, step_units, unroll,
 };
 use graph::{Gate, Latch, Lit, Model, Parts, Seq};
 use lrat::{Clause, Formula, Line, Proof, refutes};
@@ -426,5 +426,24 @@ fn tells_refusals_by_number(rt: HostRuntime) -> Result<(), Fail> {
     assert_eq!(rt; (memory.number(), memory.place()), (20, 0));
     let text = format!(in rt.alloc(); "{limit}")?;
     assert_eq!(rt; text.as_str(), "more than 255 steps");
+    Ok(())
+}
+
+/// What so many steps add, over the variables of three times.
+fn extension_of(alloc: Global, model: &Model, steps: u32) -> Result<Formula, CnfError> {
+    let clauses = extension(alloc, model, steps)?;
+    Ok(Formula { vars: 6, clauses })
+}
+
+/// A latch that holds: what the first time has, and what the third adds to the first two.
+#[test]
+fn extends_an_unrolling(rt: HostRuntime) -> Result<(), Fail> {
+    let alloc = rt.alloc();
+    let hold = model(alloc, &HOLD)?;
+    let first: &[&[i32]] = &[&[-1], &[2]];
+    compare(&rt, &extension_of(alloc, &hold, 0)?, 6, first);
+    let third: &[&[i32]] = &[&[-5, 3], &[5, -3], &[6]];
+    compare(&rt, &extension_of(alloc, &hold, 2)?, 6, third);
+    assert!(rt; matches!(extension(alloc, &hold, 256), Err(CnfError::Limit)));
     Ok(())
 }

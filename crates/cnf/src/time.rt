@@ -1,6 +1,6 @@
 //! The variables of one time, and the literals of clauses over them.
 
-ghost use Rattle.std.specs.Prelude.{◌≡◌, ◌+◌, ◌<◌, ◌^◌, pos};
+ghost use Rattle.std.specs.Prelude.{◌≡◌, ◌+◌, ◌*◌, ◌<◌, ◌≤◌, ◌^◌, pos};
 ghost use Rattle.cnf.specs.Clauses.{signed as signed_of, literal as literal_of, denial as denial_of};
 ghost use Rattle.cnf.specs.Formulas.{IsInRange};
 
@@ -37,6 +37,20 @@ impl Time {
         Time {
             max_var: model.max_var(),
             offset: 0,
+        }
+    }
+
+    /// The variables of the time after so many steps, at most 255.
+    pub fn after(model: &Model, steps: u32) -> Time
+        requires { steps ≤ 255 }
+        ensures max_var { result.max_var ≡ model.now.max_var }
+        ensures offset { result.offset ≡ steps * (model.now.max_var + 1) }
+        ensures fits { result.offset + 2 * (model.now.max_var + 1) < 2 ^ 31 }
+    {
+        model.parts();
+        Time {
+            max_var: model.max_var(),
+            offset: steps * (model.max_var() + 1),
         }
     }
 

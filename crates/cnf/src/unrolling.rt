@@ -2,10 +2,11 @@
 
 ghost use Rattle.std.specs.Prelude.{◌≡◌, ◌<◌, ◌≤◌, ◌+◌, ◌*◌, ◌^◌, ◌++◌, ◌⊎◌, All, flat_map, IfOk, IfErr, OnOk};
 ghost use Rattle.lrat.specs.Limits.{IsFormula};
+ghost use Rattle.lrat.specs.Literals.{IsLiteral};
 ghost use Rattle.graph.specs.WellFormed.{IsWellFormed};
 ghost use Rattle.cnf.specs.Clauses.{time_clauses};
 ghost use Rattle.cnf.specs.Formulas.{IsInRange, IsOver};
-ghost use Rattle.cnf.specs.Unrolled.{join_clauses, times_from, unroll_clauses as unroll_list, unroll_formula, UnrollLaw};
+ghost use Rattle.cnf.specs.Unrolled.{join_clauses, times_from, unroll_clauses as unroll_list, unroll_formula, IsExtension, UnrollLaw};
 ghost use Rattle.cnf.specs.declared.error.CnfError.TheVariants.{Limit, OutOfMemory};
 
 use crate::error::CnfError;
@@ -130,4 +131,36 @@ pub fn unroll(alloc: Global, model: &Model, steps: u32) -> Result<Formula, CnfEr
         vars: (steps + 1) * (model.max_var() + 1),
         clauses,
     })
+}
+
+/// The joins with the time before, and that time.
+fn extension_clauses(alloc: Global, model: &Model, steps: u32) -> Result<Seq<Clause>, AllocError>
+    requires { steps ≤ 255 }
+    ensures { IfOk result (IsExtension model.now steps) }
+{
+    if steps == 0 {
+        return unroll_clauses(alloc, model, 0);
+    }
+    model.parts();
+    let before = Time::after(model, steps - 1);
+    let mut clauses = Seq::new(alloc);
+    push_joins(alloc, &mut clauses, before, model.latches())?;
+    push_time(alloc, &mut clauses, model, before.next())?;
+    Ok(clauses)
+}
+
+/// The clauses that the unrolling of so many steps has beyond that of one step less: of 0 steps,
+/// all. So an unrolling can grow step by step. It costs one circuit.
+pub fn extension(alloc: Global, model: &Model, steps: u32) -> Result<Seq<Clause>, CnfError>
+    ensures clauses { IfOk result (λ s. (steps ≤ 255) × IsExtension model.now steps s) }
+    ensures literals { IfOk result (λ s. All (All (IsLiteral ((steps + 1) * (model.now.max_var + 1)))) s) }
+    ensures variables { IfOk result (λ _. IsOver model.now (steps + 1) (unroll_list model.now steps)) }
+    ensures meaning { IfOk result (λ _. UnrollLaw model.now steps) }
+    ensures refused { IfErr result (λ e. (e ≡ OutOfMemory) ⊎ ((e ≡ Limit) × (255 < steps))) }
+{
+    if steps > GREATEST {
+        return Err(CnfError::Limit);
+    }
+    model.parts();
+    Ok(extension_clauses(alloc, model, steps)?)
 }

@@ -1,0 +1,52 @@
+-- What a bounded search finds (Biere, Cimatti, Clarke, Zhu 1999).
+use Rattle.std.specs.Prelude.{◌≡◌, ℕ, zero, suc, ◌+◌, ◌-◌, ◌≤◌, true, List, [], length, ℤ, Option, None, Some}
+use Rattle.base.specs.Budget.{Steps}
+use Rattle.graph.specs.declared.circuit.Property.TheVariants.{Bad}
+use Rattle.graph.specs.declared.parts.Parts.{Parts}
+use Rattle.graph.specs.Valuation.{Valuation, value_of}
+use Rattle.graph.specs.Runs.{IsRun, KeepsConstraints}
+use Rattle.stimulus.specs.declared.value.Stimulus.TheVariants.{Violated}
+use Rattle.stimulus.specs.Shown.{ShowsBad, last_of}
+use Rattle.cnf.specs.Formulas.{bad_literal}
+use Rattle.cnf.specs.Unrolled.{unroll_clauses}
+use Rattle.engine.specs.Bounds.{IsUnsetFor}
+use Rattle.engine.specs.declared.finding.Finding.{Finding}
+use Rattle.engine.specs.declared.finding.Finding.TheVariants.{Invariant, Run, Unknown}
+use Rattle.engine.specs.declared.finding.Reason.TheVariants.{Budget, Depth, NoEvidence}
+
+-- no run of fewer times than the one found that keeps the constraints sets the bad literal
+abbrev pub IsShortest : Parts → Finding → Type 0
+IsShortest m (Run initial inputs) = IsUnsetFor m 0 (length inputs - 1)
+IsShortest m (Invariant inv) = Unit {0}
+IsShortest m (Unknown reason) = Unit {0}
+
+-- a run of at most so many steps, nothing known beyond exactly so many, or a spent budget
+abbrev pub IsWithinDepth : ℕ → Finding → Type 0
+IsWithinDepth depth (Run initial inputs) = length inputs ≤ depth + 1
+IsWithinDepth depth (Invariant inv) = ⊥
+IsWithinDepth depth (Unknown Budget) = Unit {0}
+IsWithinDepth depth (Unknown (Depth steps)) = steps ≡ depth
+IsWithinDepth depth (Unknown NoEvidence) = ⊥
+
+-- no run of so many steps that keeps the constraints sets the bad literal at its last time
+abbrev pub IsUnsetAfter : Parts → ℕ → Type 0
+IsUnsetAfter m steps = (r : List Valuation) → IsRun m r → KeepsConstraints m r → length r ≡ steps + 1 →
+    value_of (last_of r) (bad_literal m 0) ≡ true → ⊥
+
+-- what ends a search at so many steps: a run of as many that shows the bad literal, or a spent budget
+abbrev pub EndsAt : Parts → ℕ → Steps → Finding → Type 0
+EndsAt m steps after (Run initial inputs) = ShowsBad m (Violated (Bad 0) initial inputs) × (length inputs ≡ steps + 1)
+EndsAt m steps after (Invariant inv) = ⊥
+EndsAt m steps after (Unknown Budget) = after.left ≡ 0
+EndsAt m steps after (Unknown (Depth depth)) = ⊥
+EndsAt m steps after (Unknown NoEvidence) = ⊥
+
+-- what was found of the runs of so many steps: what ends the search, or that none sets the bad literal
+abbrev pub IsOfSteps : Parts → ℕ → Steps → Option Finding → Type 0
+IsOfSteps m steps after (Some finding) = EndsAt m steps after finding
+IsOfSteps m steps after None = IsUnsetAfter m steps
+
+-- the clauses of the unrolling of one step less
+abbrev pub clauses_before : Parts → ℕ → List (List ℤ)
+clauses_before m zero = []
+clauses_before m (suc k) = unroll_clauses m k

@@ -1,0 +1,18 @@
+//! Bounded search (Biere, Cimatti, Clarke, Zhu 1999).
+//!
+//! `Bmc` asks a solver for runs of 0 steps, of 1 step, and so on up to a depth, that keep the
+//! constraints and set the bad literal at their last time. So the first run that it finds has the
+//! least number of times; where it finds none, no run of up to the depth sets the bad literal.
+//!
+//! The clauses of a circuit over several times only grow (`cnf::extension`): each time's are added
+//! to the solver once, and the bad literal is what is assumed. Any solver that keeps to `Sat` will
+//! do.
+#![tactic(auto)]
+
+mod reach;
+mod reading;
+mod search;
+#[cfg(test)]
+mod tests;
+
+pub use search::Bmc;

@@ -1,0 +1,69 @@
+//! Why an engine gave up.
+
+ghost use Rattle.std.specs.Prelude.{◌≡◌};
+ghost use Rattle.engine.specs.Numbers.{number_of, of_solver};
+
+use solver::SatError;
+use std::alloc::{AllocError, AllocFailed};
+use thiserror::Error;
+
+/// Why an engine gave up.
+#[derive(Clone, Copy, Debug, PartialEq, Eq, Error)]
+pub enum EngineError {
+    /// its solver has used up its ids
+    #[error("over a limit")]
+    Limit,
+    /// want of memory
+    #[error("out of memory")]
+    OutOfMemory,
+}
+
+impl From<SatError> for EngineError {
+    ghost from_gives = { λ e c. c ≡ of_solver e };
+
+    fn from(e: SatError) -> EngineError {
+        match e {
+            SatError::Limit => EngineError::Limit,
+            SatError::OutOfMemory => EngineError::OutOfMemory,
+        }
+    }
+}
+
+impl From<AllocError> for EngineError {
+    ghost use Rattle.engine.specs.declared.engine_error.EngineError.TheVariants.{OutOfMemory};
+
+    ghost from_gives = { λ _ e. e ≡ OutOfMemory };
+
+    fn from(_e: AllocError) -> EngineError {
+        EngineError::OutOfMemory
+    }
+}
+
+impl<T: Drop> From<AllocFailed<T>> for EngineError {
+    ghost use Rattle.engine.specs.declared.engine_error.EngineError.TheVariants.{OutOfMemory};
+
+    ghost from_gives = { λ _ e. e ≡ OutOfMemory };
+
+    fn from(_e: AllocFailed<T>) -> EngineError {
+        EngineError::OutOfMemory
+    }
+}
+
+impl EngineError {
+    /// The refusal's number.
+    pub fn number(self) -> u8
+        ensures { result ≡ number_of self }
+    {
+        match self {
+            EngineError::Limit => 4,
+            EngineError::OutOfMemory => 20,
+        }
+    }
+
+    /// The refusal's place, which is always 0: there is no text.
+    pub fn place(self) -> u64
+        ensures { result ≡ 0 }
+    {
+        0
+    }
+}

@@ -1,0 +1,92 @@
+//! Worked circuits: bounded search by either solver finds runs of the same length, or none, and the
+//! faster one wastes no budget.
+
+ghost use Rattle.std.specs.Prelude.{◌≤◌, IfOk};
+ghost use Rattle.engine.specs.Findings.{IsForBad};
+
+use aag::read;
+use bmc::Bmc;
+use cdcl::Cdcl;
+use engine::{Engine, EngineError, Finding, Reason};
+use graph::{Budget, Model};
+use solver::{Plain, Sat};
+use std::alloc::Global;
+use std::test::Fail;
+
+/// Circuits, how many steps a run may have, and how many times the shortest one has that sets the bad
+/// literal, 0 where there is none.
+static WORKED: [(&[u8], u8, usize); 7] = [
+    // a latch that toggles
+    (b"aag 1 0 1 0 0 1\n2 3\n2\n", 20, 2),
+    // a latch that holds
+    (b"aag 1 0 1 0 0 1\n2 2\n2\n", 20, 0),
+    // two latches that are never 1 at once
+    (
+        b"aag 5 0 2 0 3 1\n2 6\n4 8\n10\n6 3 5\n8 2 5\n10 2 4\n",
+        20,
+        0,
+    ),
+    // two bits that count
+    (
+        b"aag 6 0 2 0 4 1\n2 3\n4 11\n12\n6 2 5\n8 3 4\n10 7 9\n12 2 4\n",
+        3,
+        4,
+    ),
+    (
+        b"aag 6 0 2 0 4 1\n2 3\n4 11\n12\n6 2 5\n8 3 4\n10 7 9\n12 2 4\n",
+        2,
+        0,
+    ),
+    // a latch without a reset
+    (b"aag 1 0 1 0 0 1\n2 2 2\n2\n", 20, 1),
+    // bad is an input that the constraint forbids
+    (b"aag 1 1 0 0 0 1 1\n2\n2\n3\n", 20, 0),
+];
+
+/// The circuit of a text, with its first bad literal.
+fn circuit(alloc: Global, text: &[u8]) -> Result<Model, Fail>
+    ensures { IfOk result IsForBad }
+{
+    let file = read(alloc, text)?;
+    Ok(file.model().for_bad(alloc, 0)?)
+}
+
+/// How many times the run has that is found within so many steps of the budget, 0 where there is none.
+fn times<S: Sat>(
+    solver: S,
+    alloc: Global,
+    circuit: &Model,
+    depth: u8,
+    steps: u64,
+) -> Result<Option<usize>, EngineError>
+    requires { IsForBad circuit.now }
+{
+    let mut budget = Budget::new(steps);
+    match Bmc::new(solver, u32::from(depth)).find(alloc, circuit, &mut budget)? {
+        Finding::Run { inputs, .. } => Ok(Some(inputs.len())),
+        Finding::Unknown(Reason::Depth(_)) => Ok(Some(0)),
+        _ => Ok(None),
+    }
+}
+
+#[test]
+fn by_backtracking(rt: HostRuntime) -> Result<(), Fail> {
+    let alloc = rt.alloc();
+    for (text, depth, wanted) in &WORKED {
+        let circuit = circuit(alloc, text)?;
+        let found = times(Plain::new(alloc), alloc, &circuit, *depth, 10_000_000)?;
+        assert_eq!(rt; found, Some(*wanted));
+    }
+    Ok(())
+}
+
+#[test]
+fn by_learning_within_few_steps(rt: HostRuntime) -> Result<(), Fail> {
+    let alloc = rt.alloc();
+    for (text, depth, wanted) in &WORKED {
+        let circuit = circuit(alloc, text)?;
+        let found = times(Cdcl::new(alloc), alloc, &circuit, *depth, 10_000)?;
+        assert_eq!(rt; found, Some(*wanted));
+    }
+    Ok(())
+}
