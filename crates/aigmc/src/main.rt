@@ -9,13 +9,27 @@
 //! `TIME STATE INPUTS OUTPUTS BAD`, and `TIME STATE` for the state after the last; it looks at neither
 //! constraints nor the property.
 //!
-//! The status is 0, and 3 where the command failed.
+//! `aigmc check FILE -p P` looks for a run of the circuit FILE that violates its property P (`b0` for the
+//! first bad literal), and prints what it found as a stimulus: `1`, P and the run, or `2` and P where it
+//! found none. The engine is bounded search through runs of at most `--depth` steps, or with `--engine
+//! random` random simulation from `--seed`; `--budget` is how many steps the search may cost. What it
+//! says is `cli::decide`'s.
+//!
+//! The status of `check` is 1 for a violation and 2 where nothing is known. Else the status is 0, and 3 where
+//! the command failed.
 #![tactic(auto)]
 
+use bmc::Bmc;
+use cdcl::Cdcl;
 use clap::error::ErrorKind;
-use clap::{Arg, ArgAction, ArgMatches, Command, Error};
-use cli::{CliError, Layout, load, load_stimulus, put_file, put_table, ready};
-use graph::{AigerFile, FromRead, ToWrite};
+use clap::{Arg, ArgAction, ArgMatches, Command, Error, value_parser};
+use cli::{
+    CliError, Layout, Verdict, decide, load, load_stimulus, property_named, put_file, put_table,
+    ready, show,
+};
+use engine::Engine;
+use graph::{AigerFile, Budget, FromRead, Property, ToWrite};
+use random::Random;
 use std::alloc::{AllocError, Global};
 use std::fs::File;
 use std::io::{BufWriter, Write};
@@ -30,6 +44,9 @@ const FAULT: u8 = 3;
 const OUT_OF_MEMORY: u8 = 20;
 /// The number of a device's fault.
 const DEVICE: u8 = 21;
+
+/// The engines that may be asked for.
+static ENGINES: [&str; 3] = ["all", "bmc", "random"];
 
 /// Why a command was not done.
 #[derive(Clone, Copy, Debug)]
@@ -54,6 +71,49 @@ fn file<'a>(alloc: Global, name: &'a str, about: &'a str) -> Arg<'a> {
         .action(ArgAction::Set)
 }
 
+/// An option with a value that is given where it is left out.
+fn option<'a>(alloc: Global, name: &'a str, about: &'a str, value: &'a str) -> Arg<'a> {
+    Arg::new(alloc, name)
+        .help(about)
+        .long(name)
+        .default_value(value)
+}
+
+/// The words of `check`.
+fn check_command<'a>(alloc: Global) -> Result<Command<'a>, AllocError> {
+    let property = Arg::new(alloc, "property")
+        .help("The property: b and its position")
+        .short('p')
+        .value_name("P")
+        .required(true)
+        .action(ArgAction::Set);
+    let budget = option(
+        alloc,
+        "budget",
+        "How many steps the search may cost",
+        "10000000",
+    )
+    .value_name("N")
+    .value_parser(value_parser!(u64));
+    let depth = option(alloc, "depth", "How many steps a run may have", "20")
+        .value_name("K")
+        .value_parser(value_parser!(u8));
+    let engine = option(alloc, "engine", "What looks for evidence", "all")
+        .value_name("E")
+        .value_parser(ENGINES.as_slice());
+    let seed = option(alloc, "seed", "Where the random engine begins", "0")
+        .value_name("S")
+        .value_parser(value_parser!(u64));
+    Command::new(alloc, "check")
+        .about("Looks for a violation of a property")
+        .arg(file(alloc, "FILE", "The circuit (AIGER 1.9, ASCII or binary)"))?
+        .arg(property)?
+        .arg(budget)?
+        .arg(depth)?
+        .arg(engine)?
+        .arg(seed)
+}
+
 /// The command line.
 fn command<'a>(alloc: Global) -> Result<Command<'a>, AllocError> {
     let convert = Command::new(alloc, "convert")
@@ -71,6 +131,7 @@ fn command<'a>(alloc: Global) -> Result<Command<'a>, AllocError> {
     Command::new(alloc, "aigmc")
         .about("Looks for evidence about AIGER circuits")
         .subcommand_required(true)
+        .subcommand(check_command(alloc)?)?
         .subcommand(convert)?
         .subcommand(sim)
 }
@@ -99,8 +160,67 @@ fn make(rt: &HostRuntime, name: &str, file: &AigerFile, layout: Layout) -> Resul
     out.into_inner().flush().map_err(|e| unopened(&e))
 }
 
+/// How the search is to go.
+#[derive(Clone, Copy)]
+struct Search<'a> {
+    engine: &'a str,
+    depth: u32,
+    budget: u64,
+    seed: u64,
+}
+
+/// What the words say of the search.
+fn asked_search<'a>(words: &'a ArgMatches<'_>) -> Search<'a> {
+    Search {
+        engine: words.get_str("engine").unwrap_or("all"),
+        depth: u32::from(words.get_one::<u8>("depth").unwrap_or(20)),
+        budget: words.get_one::<u64>("budget").unwrap_or(10_000_000),
+        seed: words.get_one::<u64>("seed").unwrap_or(0),
+    }
+}
+
+/// Asks the engine for evidence about the property.
+fn ask(
+    alloc: Global,
+    file: &AigerFile,
+    property: Property,
+    search: Search<'_>,
+) -> Result<Verdict, CliError> {
+    let mut engines: Vec<Box<dyn Engine>> = Vec::new(alloc);
+    let engine: Box<dyn Engine> = if search.engine == "random" {
+        Box::new(alloc, Random::new(search.seed, search.depth)).map_err(|_| CliError::OutOfMemory)?
+    } else {
+        Box::new(alloc, Bmc::new(Cdcl::new(alloc), search.depth)).map_err(
+            |_| CliError::OutOfMemory,
+        )?
+    };
+    engines.push(engine).map_err(|_| CliError::OutOfMemory)?;
+    let mut budget = Budget::new(search.budget);
+    let verdict = decide(
+        alloc,
+        file.model(),
+        property,
+        engines.as_mut_slice(),
+        &mut budget,
+    )?;
+    Ok(verdict)
+}
+
+/// Looks for a violation of a property, and prints the verdict.
+fn check(rt: &HostRuntime, words: &ArgMatches<'_>) -> Result<u8, Stop> {
+    let name = words.get_str("property").unwrap_or("");
+    let property = property_named(name).ok_or(Stop::BadArgument)?;
+    let file = circuit(rt, words.get_str("FILE").unwrap_or(""))?;
+    let verdict = ask(rt.alloc(), &file, property, asked_search(words))?;
+    let out = BufWriter::new(rt.alloc(), io::writer(rt)).map_err(|e| unopened(&e))?;
+    let mut out = ToWrite::new(out);
+    let status = show(property, &verdict, &mut out).map_err(|_| Stop::Refused(CliError::Device))?;
+    out.into_inner().flush().map_err(|e| unopened(&e))?;
+    Ok(status)
+}
+
 /// Writes a circuit in the layout that the name of the file to make asks for.
-fn convert(rt: &HostRuntime, words: &ArgMatches<'_>) -> Result<(), Stop> {
+fn convert(rt: &HostRuntime, words: &ArgMatches<'_>) -> Result<u8, Stop> {
     let name = words.get_str("OUT").unwrap_or("");
     let layout = Layout::of_name(name).ok_or(Stop::BadArgument)?;
     let file = circuit(rt, words.get_str("FILE").unwrap_or(""))?;
@@ -108,18 +228,20 @@ fn convert(rt: &HostRuntime, words: &ArgMatches<'_>) -> Result<(), Stop> {
         Layout::Ascii => file,
         Layout::Binary => ready(rt.alloc(), file).map_err(CliError::from)?,
     };
-    make(rt, name, &file, layout)
+    make(rt, name, &file, layout)?;
+    Ok(DONE)
 }
 
 /// Prints the values in the replay of a stimulus.
-fn sim(rt: &HostRuntime, words: &ArgMatches<'_>) -> Result<(), Stop> {
+fn sim(rt: &HostRuntime, words: &ArgMatches<'_>) -> Result<u8, Stop> {
     let file = circuit(rt, words.get_str("FILE").unwrap_or(""))?;
     let source = File::open(rt, words.get_str("STIM").unwrap_or("")).map_err(|e| unopened(&e))?;
     let stimulus = load_stimulus(rt.alloc(), &mut FromRead::new(source))?;
     let out = BufWriter::new(rt.alloc(), io::writer(rt)).map_err(|e| unopened(&e))?;
     let mut out = ToWrite::new(out);
     put_table(rt.alloc(), file.model(), &stimulus, &mut out).map_err(CliError::from)?;
-    out.into_inner().flush().map_err(|e| unopened(&e))
+    out.into_inner().flush().map_err(|e| unopened(&e))?;
+    Ok(DONE)
 }
 
 /// Tells why a command was not done.
@@ -138,12 +260,13 @@ fn tell(rt: &HostRuntime, stop: Stop) -> ExitCode {
 /// Does what the words ask for.
 fn answer(rt: &HostRuntime, matches: &ArgMatches<'_>) -> ExitCode {
     let done = match matches.subcommand() {
+        Some(("check", words)) => check(rt, words),
         Some(("convert", words)) => convert(rt, words),
         Some(("sim", words)) => sim(rt, words),
         _ => Err(Stop::BadArgument),
     };
     match done {
-        Ok(()) => ExitCode::from(DONE),
+        Ok(status) => ExitCode::from(status),
         Err(stop) => tell(rt, stop),
     }
 }

@@ -2,14 +2,15 @@
 
 ghost use Rattle.std.specs.Prelude.{◌≡◌};
 ghost use Rattle.cli.specs.Numbers.{number_of, place_of, written};
-ghost use Rattle.cli.specs.declared.cli_error.CliError.TheVariants.{Load, Stimulus, Sim, OutOfMemory, Device};
+ghost use Rattle.cli.specs.declared.cli_error.CliError.TheVariants.{Load, Stimulus, Sim, Decide, OutOfMemory, Device};
 
 use aag::AagWriteError;
 use aig::AigWriteError;
 use aiger::LoadError;
 use shrink::ShrinkError;
-use stimulus::{SimError, StimError};
+use stimulus::{SimError, StimError, StimWriteError};
 use thiserror::Error;
+use verdict::DecideError;
 
 /// Why a command failed.
 #[derive(Clone, Copy, Debug, PartialEq, Eq, Error)]
@@ -23,6 +24,9 @@ pub enum CliError {
     /// there is no table of the stimulus
     #[error("{0}")]
     Sim(SimError),
+    /// there is no verdict on the property
+    #[error("{0}")]
+    Decide(DecideError),
     /// the circuit is not in the numbering of the binary layout
     #[error("the circuit is not ordered")]
     Unordered,
@@ -55,6 +59,24 @@ impl From<SimError> for CliError {
 
     fn from(e: SimError) -> CliError {
         CliError::Sim(e)
+    }
+}
+
+impl From<DecideError> for CliError {
+    ghost from_gives = { λ e c. c ≡ Decide e };
+
+    fn from(e: DecideError) -> CliError {
+        CliError::Decide(e)
+    }
+}
+
+impl From<StimWriteError> for CliError {
+    ghost from_gives = { λ _ c. c ≡ Device };
+
+    fn from(e: StimWriteError) -> CliError {
+        match e {
+            StimWriteError::Device => CliError::Device,
+        }
     }
 }
 
@@ -98,6 +120,7 @@ impl CliError {
             CliError::Load(e) => e.number(),
             CliError::Stimulus(e) => e.number(),
             CliError::Sim(e) => e.number(),
+            CliError::Decide(e) => e.number(),
             CliError::Unordered => 17,
             CliError::OutOfMemory => 20,
             CliError::Device => 21,
@@ -112,6 +135,7 @@ impl CliError {
             CliError::Load(e) => e.place(),
             CliError::Stimulus(e) => e.place(),
             CliError::Sim(e) => e.place(),
+            CliError::Decide(e) => e.place(),
             CliError::Unordered | CliError::OutOfMemory | CliError::Device => 0,
         }
     }

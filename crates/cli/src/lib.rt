@@ -5,6 +5,8 @@
 //!   circuit is shrunk, and names and comment stay.
 //! - `load_stimulus` reads a stimulus from a source, and `put_table` puts the values of its replay.
 //! - `put_file` writes a file in the layout that is asked for.
+//! - `property_named` is the property that a word names. `decide` asks engines about it, and `show` puts
+//!   their `Verdict` and answers its status.
 //! - `CliError` is what is told of a command that failed.
 #![tactic(auto)]
 
@@ -12,13 +14,16 @@ mod cli_error;
 mod layout;
 mod loading;
 mod numbering;
+mod property_name;
 
 pub use aiger::load;
 pub use cli_error::CliError;
 pub use layout::{Layout, put_file};
 pub use loading::load_stimulus;
 pub use numbering::ready;
+pub use property_name::property_named;
 pub use stimulus::put_table;
+pub use verdict::{DecideError, Verdict, decide, show};
 
 #[cfg(test)]
 mod tests;

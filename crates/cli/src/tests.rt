@@ -1,8 +1,10 @@
 //! Files that are loaded, made ready and put.
 
-use crate::{CliError, Layout, load, load_stimulus, put_file, put_table, ready};
+use crate::{
+    CliError, DecideError, Layout, load, load_stimulus, property_named, put_file, put_table, ready,
+};
 use aiger::LoadError;
-use graph::{FromBytes, ReadError, ToVec};
+use graph::{FromBytes, Property, ReadError, ToVec};
 use std::alloc::Global;
 use std::test::Fail;
 use stimulus::{SimError, StimError};
@@ -101,7 +103,7 @@ fn layouts_by_names(rt: HostRuntime) {
 }
 
 /// Refusals with their numbers and places.
-static REFUSALS: [(CliError, u8, u64); 6] = [
+static REFUSALS: [(CliError, u8, u64); 8] = [
     (
         CliError::Load(LoadError::Refused(ReadError::Delta(16))),
         13,
@@ -109,6 +111,8 @@ static REFUSALS: [(CliError, u8, u64); 6] = [
     ),
     (CliError::Stimulus(StimError::Truncated { place: 4 }), 84, 4),
     (CliError::Sim(SimError::LineLength { line: 2 }), 66, 2),
+    (CliError::Decide(DecideError::NoProperty(3)), 30, 3),
+    (CliError::Decide(DecideError::Limit), 4, 0),
     (CliError::Unordered, 17, 0),
     (CliError::OutOfMemory, 20, 0),
     (CliError::Device, 21, 0),
@@ -118,5 +122,26 @@ static REFUSALS: [(CliError, u8, u64); 6] = [
 fn refusals_by_number(rt: HostRuntime) {
     for (error, number, place) in &REFUSALS {
         assert_eq!(rt; (error.number(), error.place()), (*number, *place));
+    }
+}
+
+/// Words, and the properties that they name.
+static PROPERTIES: [(&str, Option<Property>); 10] = [
+    ("b0", Some(Property::Bad(0))),
+    ("j12", Some(Property::Justice(12))),
+    ("b4294967295", Some(Property::Bad(4294967295))),
+    ("b4294967296", None),
+    ("b", None),
+    ("b01", None),
+    ("b0 ", None),
+    ("b+1", None),
+    ("x1", None),
+    ("", None),
+];
+
+#[test]
+fn properties_by_names(rt: HostRuntime) {
+    for (word, wanted) in &PROPERTIES {
+        assert_eq!(rt; property_named(word), *wanted);
     }
 }

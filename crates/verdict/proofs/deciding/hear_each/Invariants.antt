@@ -1,0 +1,14 @@
+use Rattle.std.proofs.Common.{◌≡◌, ◌<◌, All}
+use Rattle.base.specs.Budget.{Spends}
+use Rattle.engine.specs.declared.finding.Reason.TheVariants.{NoEvidence}
+use Rattle.verdict.specs.Verdicts.{IsWhy}
+use Rattle.verdict.proofs.deciding.hear_each.Given as goal
+
+abbrev pub invariant-loop-engine : goal.invariant-loop-engine
+invariant-loop-engine g l =
+    record {
+      spends : Spends l.initial.budget l.budget;
+      none : l.engine-index ≡ 0 → (l.budget ≡ l.initial.budget) × (l.told ≡ NoEvidence);
+      stays : All (λ b. (goal.Engine-dyn g (b.vtable, b.value)).honest b.value) l.initial.engines → All (λ b. (goal.Engine-dyn g (b.vtable, b.value)).honest b.value) l.engines;
+      meant : All (λ b. (goal.Engine-dyn g (b.vtable, b.value)).honest b.value) l.initial.engines → 0 < l.engine-index → IsWhy l.model l.n l.budget l.told;
+    }

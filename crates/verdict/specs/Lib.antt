@@ -1,0 +1,4 @@
+pub mod Causes
+pub mod Numbers
+pub mod Reasons
+pub mod Verdicts

@@ -1,0 +1,22 @@
+//! What is answered of a property, when engines are asked.
+//!
+//! - `decide` asks each engine once, in order. Whoever wrote the engines, a violation is answered only
+//!   where its replay shows it (`IsBacked`). If all of them are honest, what is not known means what
+//!   it says (`IsMeant`): that the budget has nothing left, or how far no run sets the bad literal.
+//! - `show` puts a verdict as the text of a stimulus, and answers its status: 0, 1 or 2.
+#![tactic(auto)]
+
+mod asking;
+mod decide_error;
+mod deciding;
+mod reasons;
+mod showing;
+mod verdict;
+
+pub use decide_error::DecideError;
+pub use deciding::decide;
+pub use showing::show;
+pub use verdict::Verdict;
+
+#[cfg(test)]
+mod tests;
