@@ -160,22 +160,42 @@ fn make(rt: &HostRuntime, name: &str, file: &AigerFile, layout: Layout) -> Resul
     out.into_inner().flush().map_err(|e| unopened(&e))
 }
 
+/// An engine that looks for evidence.
+#[derive(Clone, Copy, Debug, PartialEq, Eq)]
+enum EngineKind {
+    /// Bounded search by the conflict-driven solver.
+    Bounded,
+    /// Random simulation.
+    Random,
+}
+
 /// How the search is to go.
 #[derive(Clone, Copy)]
-struct Search<'a> {
-    engine: &'a str,
+struct Search {
+    engine: EngineKind,
     depth: u32,
     budget: u64,
     seed: u64,
 }
 
+/// The engine that the words name: bounded search, unless the random one is asked for.
+fn engine_kind(words: &ArgMatches<'_>) -> EngineKind {
+    match words.get_str("engine") {
+        Some("random") => EngineKind::Random,
+        _ => EngineKind::Bounded,
+    }
+}
+
 /// What the words say of the search.
-fn asked_search<'a>(words: &'a ArgMatches<'_>) -> Search<'a> {
+fn asked_search(words: &ArgMatches<'_>) -> Search {
+    let depth = words.get_one::<u8>("depth").unwrap_or(20);
+    let budget = words.get_one::<u64>("budget").unwrap_or(10_000_000);
+    let seed = words.get_one::<u64>("seed").unwrap_or(0);
     Search {
-        engine: words.get_str("engine").unwrap_or("all"),
-        depth: u32::from(words.get_one::<u8>("depth").unwrap_or(20)),
-        budget: words.get_one::<u64>("budget").unwrap_or(10_000_000),
-        seed: words.get_one::<u64>("seed").unwrap_or(0),
+        engine: engine_kind(words),
+        depth: u32::from(depth),
+        budget,
+        seed,
     }
 }
 
@@ -184,15 +204,16 @@ fn ask(
     alloc: Global,
     file: &AigerFile,
     property: Property,
-    search: Search<'_>,
+    search: Search,
 ) -> Result<Verdict, CliError> {
     let mut engines: Vec<Box<dyn Engine>> = Vec::new(alloc);
-    let engine: Box<dyn Engine> = if search.engine == "random" {
-        Box::new(alloc, Random::new(search.seed, search.depth)).map_err(|_| CliError::OutOfMemory)?
-    } else {
-        Box::new(alloc, Bmc::new(Cdcl::new(alloc), search.depth)).map_err(
+    let engine: Box<dyn Engine> = match search.engine {
+        EngineKind::Bounded => Box::new(alloc, Bmc::new(Cdcl::new(alloc), search.depth)).map_err(
             |_| CliError::OutOfMemory,
-        )?
+        )?,
+        EngineKind::Random => Box::new(alloc, Random::new(search.seed, search.depth)).map_err(
+            |_| CliError::OutOfMemory,
+        )?,
     };
     engines.push(engine).map_err(|_| CliError::OutOfMemory)?;
     let mut budget = Budget::new(search.budget);
@@ -212,9 +233,14 @@ fn check(rt: &HostRuntime, words: &ArgMatches<'_>) -> Result<u8, Stop> {
     let property = property_named(name).ok_or(Stop::BadArgument)?;
     let file = circuit(rt, words.get_str("FILE").unwrap_or(""))?;
     let verdict = ask(rt.alloc(), &file, property, asked_search(words))?;
+    print(rt, property, &verdict)
+}
+
+/// Prints a verdict, and answers its status.
+fn print(rt: &HostRuntime, property: Property, verdict: &Verdict) -> Result<u8, Stop> {
     let out = BufWriter::new(rt.alloc(), io::writer(rt)).map_err(|e| unopened(&e))?;
     let mut out = ToWrite::new(out);
-    let status = show(property, &verdict, &mut out).map_err(|_| Stop::Refused(CliError::Device))?;
+    let status = show(property, verdict, &mut out).map_err(CliError::from)?;
     out.into_inner().flush().map_err(|e| unopened(&e))?;
     Ok(status)
 }
