@@ -173,7 +173,7 @@ enum EngineKind {
 #[derive(Clone, Copy)]
 struct Search {
     engine: EngineKind,
-    depth: u32,
+    depth: u8,
     budget: u64,
     seed: u64,
 }
@@ -193,7 +193,7 @@ fn asked_search(words: &ArgMatches<'_>) -> Search {
     let seed = words.get_one::<u64>("seed").unwrap_or(0);
     Search {
         engine: engine_kind(words),
-        depth: u32::from(depth),
+        depth,
         budget,
         seed,
     }
@@ -206,12 +206,13 @@ fn ask(
     property: Property,
     search: Search,
 ) -> Result<Verdict, CliError> {
+    let depth = u32::from(search.depth);
     let mut engines: Vec<Box<dyn Engine>> = Vec::new(alloc);
     let engine: Box<dyn Engine> = match search.engine {
-        EngineKind::Bounded => Box::new(alloc, Bmc::new(Cdcl::new(alloc), search.depth)).map_err(
+        EngineKind::Bounded => Box::new(alloc, Bmc::new(Cdcl::new(alloc), depth)).map_err(
             |_| CliError::OutOfMemory,
         )?,
-        EngineKind::Random => Box::new(alloc, Random::new(search.seed, search.depth)).map_err(
+        EngineKind::Random => Box::new(alloc, Random::new(search.seed, depth)).map_err(
             |_| CliError::OutOfMemory,
         )?,
     };
