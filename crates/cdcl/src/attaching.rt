@@ -8,11 +8,15 @@ use kernel::{Found, Kernel};
 use solver::SatError;
 
 /// Watches the clauses that were added since the last call, at level 0. One that leaves a single
-/// literal brings it on the trail, and one that is false waits to be met.
+/// literal brings it on the trail, and one that is false waits to be met. All have their places first,
+/// since a literal that comes on the trail is learned as a clause behind them.
 pub fn attach_new(kernel: &mut Kernel, guide: &mut Guide) -> Result<(), SatError>
     ensures { Keeps kernel.old kernel.new }
 {
-    for index in guide.watches.len()..kernel.clauses() {
+    let first = guide.watches.len();
+    let last = kernel.clauses();
+    guide.watches.place(last)?;
+    for index in first..last {
         if index < 4_294_967_295 {
             attach(kernel, guide, index as u32 + 1)?;
         }
@@ -31,7 +35,6 @@ fn attach(kernel: &mut Kernel, guide: &mut Guide, id: u32) -> Result<(), SatErro
             return Ok(());
         }
     }
-    guide.watches.skip()?;
     if let Found::Conflict = imply(kernel, guide, id)? {
         guide.waiting = Some(id);
     }

@@ -97,9 +97,9 @@ fn lead(guide: &mut Guide, place: usize) -> usize {
 /// Watches the first two literals of the clause in progress.
 fn attach(guide: &mut Guide, id: u32) -> Result<(), AllocError> {
     let len = guide.clause.len();
-    match guide.clause.as_slice() {
-        [first, second, ..] => guide.watches.attach(id, *first, *second, len)?,
-        _ => guide.watches.skip()?,
+    guide.watches.place(id as usize)?;
+    if let [first, second, ..] = guide.clause.as_slice() {
+        guide.watches.attach(id, *first, *second, len)?;
     }
     if len > 2 {
         guide.learned.push(id)?;

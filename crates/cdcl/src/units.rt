@@ -44,7 +44,7 @@ fn settle(kernel: &mut Kernel, guide: &mut Guide, literal: i32, id: u32) -> Resu
         guide
             .log
             .add(guide.alloc, unit, &[literal], guide.hints.as_slice())?;
-        guide.watches.skip()?;
+        guide.watches.place(kernel.clauses())?;
         guide.units.put(variable, unit);
     }
     Ok(())

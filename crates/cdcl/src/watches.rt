@@ -72,7 +72,7 @@ impl Watches {
         Ok(())
     }
 
-    /// How many clauses were attached or passed over, which is the greatest id.
+    /// How many clauses have a place, which is the greatest of their ids.
     pub fn len(&self) -> usize {
         self.pairs.len()
     }
@@ -123,7 +123,7 @@ impl Watches {
         Ok(())
     }
 
-    /// Watches two literals of the next clause, which has `len` literals.
+    /// Watches two literals of a clause that has its place, of `len` literals.
     pub fn attach(
         &mut self,
         id: u32,
@@ -138,18 +138,21 @@ impl Watches {
         let other = Watch { id, blocker: first };
         if len == 2 {
             self.watch_binary(first, one)?;
-            self.watch_binary(second, other)?;
-            self.pairs.push(NONE)
+            self.watch_binary(second, other)
         } else {
+            self.pairs
+                .put((id as usize).wrapping_sub(1), Pair { first, second });
             self.watch(first, one)?;
-            self.watch(second, other)?;
-            self.pairs.push(Pair { first, second })
+            self.watch(second, other)
         }
     }
 
-    /// Leaves the next clause without watches.
-    pub fn skip(&mut self) -> Result<(), AllocError> {
-        self.pairs.push(NONE)
+    /// Gives the clauses up to this id their places, without watches.
+    pub fn place(&mut self, last: usize) -> Result<(), AllocError> {
+        for _ in self.pairs.len()..last {
+            self.pairs.push(NONE)?;
+        }
+        Ok(())
     }
 
     /// The watched literal beside this one.
