@@ -38,12 +38,6 @@ impl Cdcl {
             guide: Guide::new(alloc),
         }
     }
-
-    /// How many conflicts were met since the last `reset` or want of memory.
-    #[cfg(test)]
-    pub fn conflicts(&self) -> u64 {
-        self.guide.conflicts
-    }
 }
 
 impl Sat for Cdcl {

@@ -30,8 +30,6 @@ mod restarts;
 mod search;
 mod shortening;
 mod table;
-#[cfg(test)]
-mod tests;
 mod units;
 mod watches;
 

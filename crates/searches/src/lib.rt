@@ -1,5 +1,7 @@
-//! Tests of bounded search by both solvers, over their public calls alone.
+//! Tests of the solvers, and of searches by both of them, over their public calls alone.
 #![tactic(auto)]
 
 #[cfg(test)]
 mod bounded;
+#[cfg(test)]
+mod solvers;

@@ -1,0 +1,168 @@
+"""Generated circuits: families by size, some with a violation and some without."""
+
+
+class Circuit:
+    """A circuit in the making, in ASCII AIGER."""
+
+    def __init__(self):
+        self.variables = 0
+        self.inputs, self.latches, self.gates = [], [], []
+
+    def variable(self):
+        self.variables += 1
+        return 2 * self.variables
+
+    def add_input(self):
+        self.inputs.append(self.variable())
+        return self.inputs[-1]
+
+    def add_latch(self, reset=0):
+        self.latches.append([self.variable(), 0, reset])
+        return self.latches[-1][0]
+
+    def set_next(self, latch, literal):
+        for pair in self.latches:
+            if pair[0] == latch:
+                pair[1] = literal
+
+    def conjunction(self, a, b):
+        self.gates.append((self.variable(), a, b))
+        return self.gates[-1][0]
+
+    def exclusive_or(self, a, b):
+        both, none = self.conjunction(a, b), self.conjunction(a ^ 1, b ^ 1)
+        return self.conjunction(both ^ 1, none ^ 1)
+
+    def choice(self, test, yes, no):
+        return self.conjunction(self.conjunction(test, yes) ^ 1, self.conjunction(test ^ 1, no) ^ 1) ^ 1
+
+    def all_of(self, literals):
+        result = 1
+        for literal in literals:
+            result = literal if result == 1 else self.conjunction(result, literal)
+        return result
+
+    def text(self, bad):
+        lines = [f"aag {self.variables} {len(self.inputs)} {len(self.latches)} 0 {len(self.gates)} 1"]
+        lines += [str(literal) for literal in self.inputs]
+        lines += [f"{latch} {following} {reset}" for latch, following, reset in self.latches]
+        lines.append(str(bad))
+        lines += [f"{left} {a} {b}" for left, a, b in self.gates]
+        return "\n".join(lines) + "\n"
+
+
+def shift(stages):
+    circuit = Circuit()
+    previous = circuit.add_input()
+    for _ in range(stages):
+        latch = circuit.add_latch()
+        circuit.set_next(latch, previous)
+        previous = latch
+    return circuit.text(previous)
+
+
+def counter(bits, target):
+    circuit = Circuit()
+    carry = circuit.add_input()
+    latches = [circuit.add_latch() for _ in range(bits)]
+    for latch in latches:
+        circuit.set_next(latch, circuit.exclusive_or(latch, carry))
+        carry = circuit.conjunction(carry, latch)
+    return circuit.text(circuit.all_of(l if target >> k & 1 else l ^ 1 for k, l in enumerate(latches)))
+
+
+def arbiter(clients):
+    circuit = Circuit()
+    asks = [circuit.add_input() for _ in range(clients)]
+    held = [circuit.add_latch() for _ in range(clients)]  # latch k: the token is at client k + 1, none: at 0
+    moved = [circuit.add_latch() for _ in range(clients)]
+    nobody = circuit.all_of([h ^ 1 for h in held[1:]])
+    token = [nobody] + held[1:]
+    for k in range(clients):
+        circuit.set_next(held[k], token[k - 1])
+        grant = circuit.conjunction(asks[k], token[k])
+        circuit.set_next(moved[k], circuit.conjunction(grant ^ 1, moved[k] ^ 1) ^ 1)
+    return circuit.text(circuit.all_of(moved))
+
+
+def is_number(circuit, latches, number):
+    return circuit.all_of(l if number >> k & 1 else l ^ 1 for k, l in enumerate(latches))
+
+
+def safe_shift(stages):
+    """The input and its negation go through two registers; bad: both end with the same value."""
+    circuit = Circuit()
+    one = circuit.add_input()
+    other = one ^ 1
+    for _ in range(stages):
+        latch, mirror = circuit.add_latch(0), circuit.add_latch(1)
+        circuit.set_next(latch, one)
+        circuit.set_next(mirror, other)
+        one, other = latch, mirror
+    return circuit.text(circuit.exclusive_or(one, other) ^ 1)
+
+
+def safe_counter(bits, limit, bad):
+    """It counts where the input allows it, and goes back to 0 after `limit`; bad: it is `bad`."""
+    circuit = Circuit()
+    carry = circuit.add_input()
+    latches = [circuit.add_latch() for _ in range(bits)]
+    wraps = circuit.conjunction(carry, is_number(circuit, latches, limit))
+    for latch in latches:
+        circuit.set_next(latch, circuit.conjunction(circuit.exclusive_or(latch, carry), wraps ^ 1))
+        carry = circuit.conjunction(carry, latch)
+    return circuit.text(is_number(circuit, latches, bad))
+
+
+def ring(stations):
+    """One of the latches is 1, and it goes on where the input allows it; bad: the first and the middle one are 1."""
+    circuit = Circuit()
+    moves = circuit.add_input()
+    latches = [circuit.add_latch(int(k == 0)) for k in range(stations)]
+    for k, latch in enumerate(latches):
+        circuit.set_next(latch, circuit.choice(moves, latches[k - 1], latch))
+    return circuit.text(circuit.conjunction(latches[0], latches[stations // 2]))
+
+
+def safe_arbiter(clients):
+    """A token goes round, and who asks and has it is granted in the next step; bad: the first and the last are granted."""
+    circuit = Circuit()
+    asks = [circuit.add_input() for _ in range(clients)]
+    token = [circuit.add_latch(int(k == 0)) for k in range(clients)]
+    granted = [circuit.add_latch() for _ in range(clients)]
+    for k in range(clients):
+        circuit.set_next(token[k], token[k - 1])
+        circuit.set_next(granted[k], circuit.conjunction(asks[k], token[k]))
+    return circuit.text(circuit.conjunction(granted[0], granted[-1]))
+
+
+def twins(bits):
+    """Two registers with the same feedback take the same input; bad: their last latches differ."""
+    circuit = Circuit()
+    fed = circuit.add_input()
+    last = []
+    for _ in range(2):
+        latches = [circuit.add_latch() for _ in range(bits)]
+        following = circuit.exclusive_or(circuit.exclusive_or(latches[-1], latches[bits // 2]), fed)
+        for latch in latches:
+            circuit.set_next(latch, following)
+            following = latch
+        last.append(latches[-1])
+    return circuit.text(circuit.exclusive_or(*last))
+
+
+def credits(places):
+    """A sender has as many credits as the buffer has places, both in unary; bad: the full buffer is sent to."""
+    circuit = Circuit()
+    asks, takes = circuit.add_input(), circuit.add_input()
+    credit = [circuit.add_latch(1) for _ in range(places)]  # latch k: more than k credits
+    filled = [circuit.add_latch(0) for _ in range(places)]  # latch k: more than k places are filled
+    sends = circuit.conjunction(asks, credit[0])
+    frees = circuit.conjunction(takes, filled[0])
+    for row, up, down in ((credit, frees, sends), (filled, sends, frees)):
+        more, less = circuit.conjunction(up, down ^ 1), circuit.conjunction(down, up ^ 1)
+        for k, latch in enumerate(row):
+            raised = circuit.choice(more, row[k - 1] if k else 1, latch)
+            lowered = row[k + 1] if k + 1 < places else 0
+            circuit.set_next(latch, circuit.choice(less, lowered, raised))
+    return circuit.text(circuit.conjunction(sends, filled[-1]))

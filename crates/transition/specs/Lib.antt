@@ -1,0 +1,5 @@
+pub mod States
+pub mod Replies
+pub mod Contents
+pub mod Readings
+pub mod Steps

@@ -1,0 +1,123 @@
+//! A solver that has the circuit at one time, and guarded clauses.
+
+ghost use Rattle.std.specs.Prelude.{◌≡◌, ◌+◌, ◌<◌, ◌≤◌, ◌^◌, ◌++◌, ◌∷◌, [], ℕ, List, length, map, All, IfOk, OnOk, OnErr, neg_ℤ};
+ghost use Rattle.lrat.specs.Literals.{IsLiteral};
+ghost use Rattle.cnf.specs.Clauses.{time_clauses};
+ghost use Rattle.transition.specs.States.{Guarded};
+ghost use Rattle.transition.specs.Contents.{Contents, IsLoaded, HasGuards, guard_literal as guard_literal_of, guarded_clause, state_literal as state_literal_of};
+
+use crate::state::StateLit;
+use cnf::{CnfError, shared_base};
+use engine::EngineError;
+use graph::Model;
+use lrat::{Clause, Formula};
+use solver::Sat;
+use std::alloc::{AllocError, Global};
+
+/// The greatest number of variables.
+const GREATEST: u32 = 2_147_483_647;
+
+/// The literal of a guard.
+pub(crate) fn guard_literal(model: &Model, guard: u32) -> i32
+    requires { model.now.max_var + 2 + guard < 2 ^ 31 }
+    ensures { result ≡ guard_literal_of model.now guard }
+{
+    (model.max_var() + 2 + guard) as i32
+}
+
+/// The literal that is true where the latch has the value.
+fn state_literal(model: &Model, lit: StateLit) -> i32
+    requires { lit.latch < length model.now.latches }
+    ensures { result ≡ state_literal_of model.now lit }
+{
+    model.parts();
+    let latch = model.latches()[lit.latch as usize];
+    let time = cnf::Time::first(model);
+    if lit.value {
+        time.literal(latch.lit)
+    } else {
+        time.denial(latch.lit)
+    }
+}
+
+/// The clause, or not its guard.
+fn guarded(
+    alloc: Global,
+    model: &Model,
+    guard: u32,
+    clause: &[StateLit],
+) -> Result<Vec<i32>, AllocError>
+    requires guard { model.now.max_var + 2 + guard < 2 ^ 31 }
+    requires latches { All (λ a. a.latch < length model.now.latches) clause.now }
+    ensures { IfOk result (λ v. v.items ≡ guarded_clause model.now (record { guard = guard; clause = clause.now })) }
+{
+    let mut literals = vec![in alloc; -guard_literal(model, guard)]?;
+    for lit in clause {
+        literals.push(state_literal(model, *lit))?;
+    }
+    Ok(literals)
+}
+
+/// Truth, gates and constraints of the circuit.
+fn base(alloc: Global, model: &Model) -> Result<Formula, EngineError>
+    ensures clauses { IfOk result (λ f. f.clauses ≡ time_clauses model.now 0) }
+    ensures literals { IfOk result (λ f. All (All (IsLiteral (model.now.max_var + 1))) f.clauses) }
+{
+    match shared_base(alloc, model, &[]) {
+        Ok(formula) => Ok(formula),
+        Err(CnfError::Limit) => Err(EngineError::Limit),
+        Err(CnfError::OutOfMemory) => Err(EngineError::OutOfMemory),
+    }
+}
+
+/// Adds each clause.
+fn add_all<S: Sat>(solver: &mut S, alloc: Global, clauses: &[Clause]) -> Result<(), EngineError>
+    requires { All (All (IsLiteral (S.vars solver.old))) clauses.now }
+    ensures vars { S.vars solver.new ≡ S.vars solver.old }
+    ensures clauses { OnOk result (S.clauses solver.new ≡ S.clauses solver.old ++ clauses.now) }
+{
+    for clause in clauses {
+        solver.add(alloc, clause.as_slice())?;
+    }
+    Ok(())
+}
+
+/// Begins anew with the circuit.
+pub(crate) fn load<S: Sat>(
+    solver: &mut S,
+    alloc: Global,
+    model: &Model,
+    guards: u32,
+) -> Result<(), EngineError>
+    ensures { OnOk result (IsLoaded model.now guards [] (record { vars = S.vars solver.new; clauses = S.clauses solver.new })) }
+{
+    model.parts();
+    let variables = model.max_var() + 1;
+    if guards > GREATEST - variables {
+        return Err(EngineError::Limit);
+    }
+    let formula = base(alloc, model)?;
+    solver.reset(alloc, variables + guards)?;
+    add_all(solver, alloc, formula.clauses.as_slice())
+}
+
+/// Adds a clause under a guard.
+pub(crate) fn add<S: Sat>(
+    solver: &mut S,
+    alloc: Global,
+    model: &Model,
+    guard: u32,
+    clause: &[StateLit],
+) -> Result<(), EngineError>
+    requires guards { HasGuards model.now (guard ∷ []) (record { vars = S.vars solver.old; clauses = S.clauses solver.old }) }
+    requires latches { All (λ a. a.latch < length model.now.latches) clause.now }
+    ensures vars { S.vars solver.new ≡ S.vars solver.old }
+    ensures added { OnOk result (S.clauses solver.new ≡ S.clauses solver.old ++ guarded_clause model.now (record { guard = guard; clause = clause.now }) ∷ []) }
+    ensures err { OnErr result (S.clauses solver.new ≡ S.clauses solver.old) }
+{
+    model.parts();
+    solver.vars();
+    let literals = guarded(alloc, model, guard, clause)?;
+    solver.add(alloc, literals.as_slice())?;
+    Ok(())
+}
