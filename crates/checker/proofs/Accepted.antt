@@ -1,11 +1,16 @@
 -- What an accepted certificate shows.
-use Rattle.std.proofs.Common.{◌≡◌, ◌≢◌, ℕ, zero, suc, ◌+◌, ◌*◌, ◌<◌, ◌≤◌, List, [], ◌∷◌, ◌++◌, map, length, get_or, All, AllPairs, Some, Result, Ok, Err, OnOk, slice_get, refl, sym, ◌∙◌, ap, subst, arith, length-append}
+use Rattle.std.proofs.Common.{◌≡◌, ◌≢◌, ℕ, zero, suc, ◌+◌, ◌*◌, ◌<◌, ◌≤◌, List, [], ◌∷◌, ◌++◌, map, length, get_or, All, AllPairs, Some, Result, Ok, Err, OnOk, slice_get, inl, inr, refl, sym, ◌∙◌, ap, subst, arith, length-append}
 use Rattle.std.proofs.lemmas.List.{get_or_at, get_or_append_left, map-append}
 use Rattle.graph.specs.declared.circuit.Lit.{Lit}
-use Rattle.graph.specs.declared.circuit.Property.TheVariants.{Bad}
+use Rattle.graph.specs.declared.circuit.Property.{Property}
+use Rattle.graph.specs.declared.circuit.Property.TheVariants.{Bad, Justice}
 use Rattle.graph.specs.declared.parts.Parts.{Parts}
-use Rattle.graph.specs.Properties.{position_of}
+use Rattle.graph.specs.Runs.{IsSafe}
 use Rattle.graph.specs.Valuation.{variable}
+use Rattle.graph.specs.WellFormed.{IsWellFormed}
+use Rattle.live_safe.specs.Shadow.{shadow_of}
+use Rattle.live_safe.proofs.Consequence.{bounded_if_safe}
+use Rattle.live_safe.proofs.Shape.{shadow_well_formed}
 use Rattle.lrat.specs.declared.formula.Formula.{Formula}
 use Rattle.lrat.specs.declared.line.Line.{Line}
 use Rattle.lrat.proofs.Refuted.{refuted_false}
@@ -18,8 +23,8 @@ use Rattle.checker.specs.declared.check_error.CheckError.{CheckError}
 use Rattle.checker.specs.declared.check_error.CheckError.TheVariants.{NoProperty, Limit, Sections, NotLatch, Repeated, Section, OutOfMemory}
 use Rattle.checker.specs.declared.invariant.ClauseFault.{ClauseFault}
 use Rattle.checker.specs.declared.invariant.ClauseFault.TheVariants as fault
-use Rattle.checker.specs.Accepted.{cases, IsProofOf, RefuteBelow, IsGood, HasProperty, IsAcceptedCertificate, AcceptedLaw}
-use Rattle.checker.specs.Causes.{HasCause, IsClausesFault, IsFirstFault, IsSectionFault, IsCounted, IsLatch, IsAmong}
+use Rattle.checker.specs.Accepted.{cases, IsProofOf, RefuteBelow, IsGood, IsAcceptedFor, IsShowable, circuit_of, bad_of, IsUpheld, IsAcceptedCertificate, AcceptedLaw}
+use Rattle.checker.specs.Causes.{HasCause, HasCauseFor, IsOfCircuit, IsClausesFault, IsFirstFault, IsSectionFault, IsCounted, IsLatch, IsAmong}
 use Rattle.checker.proofs.InOrder.{case_init, case_step, case_bad}
 
 -- nothing satisfies the clauses of a case that a proof refutes
@@ -40,12 +45,19 @@ get_at [] n d n_in = absurd (omega arith)
 get_at (x ∷ xs) zero d n_in = refl
 get_at (x ∷ xs) (suc n) d n_in = get_at xs n d (omega arith)
 
-pub accepted_law : AcceptedLaw
-accepted_law m c n well accepted is_bad =
-    let a : Lit = bad_literal m (position_of c.property) in
-    let exists : n < length m.bad = subst (HasProperty m) is_bad accepted.exists in
-    let named : slice_get m.bad n ≡ Some a = get_at m.bad n (record { 0 = 0 }) exists ∙ ap (λ p. Some (bad_literal m (position_of p))) (sym is_bad) in
+safe_for : (m : Parts) (n : ℕ) (c : Certificate) → IsWellFormed m → IsAcceptedFor m n c → IsSafe m n
+safe_for m n c well accepted =
+    let a : Lit = bad_literal m n in
+    let named : slice_get m.bad n ≡ Some a = get_at m.bad n (record { 0 = 0 }) accepted.exists in
     safety_law m c.invariant well (λ k d k_in. (accepted.clauses k d k_in).over) n a named (inductive_from m c.invariant a c.sections accepted.count accepted.sections)
+
+upheld : (m : Parts) (p : Property) (c : Certificate) → IsWellFormed m → IsShowable m p → IsAcceptedFor (circuit_of m p) (bad_of p) c → IsUpheld m p
+upheld m (Bad n) c well showable accepted = safe_for m n c well accepted
+upheld m (Justice n) c well showable accepted =
+    bounded_if_safe m n well showable.exists (safe_for (shadow_of m n) 0 c (shadow_well_formed m n well showable.within) accepted)
+
+pub accepted_law : AcceptedLaw
+accepted_law m c well accepted = upheld m c.property c well accepted.showable accepted.accepted
 
 -- the clause in the middle of good ones is good
 middle : (m : Parts) (inv before after : List (List Lit)) (c : List Lit) → inv ≡ before ++ c ∷ after → All (IsGood m) inv → IsGood m c
@@ -68,23 +80,51 @@ no_repeat m c before after a are (k, k_in, at) good =
     repeats (map variable before) (map variable after) (variable a) k k_in at
     (subst (AllPairs (λ u w. u ≢ w)) (ap (map variable) are ∙ map-append variable before (a ∷ after)) good.apart)
 
-first_fault_refuses : (m : Parts) (inv : List (List Lit)) (k : ℕ) (e : ClauseFault) → IsFirstFault m inv k e → All (IsGood m) inv → ⊥
+pub first_fault_refuses : (m : Parts) (inv : List (List Lit)) (k : ℕ) (e : ClauseFault) → IsFirstFault m inv k e → All (IsGood m) inv → ⊥
 first_fault_refuses m inv k fault.NotLatch f good =
     let g = f.faulty in no_latch m f.clause g.before g.after g.literal g.are g.faulty (middle m inv f.before f.after f.clause f.are good)
 first_fault_refuses m inv k fault.Repeated f good =
     let g = f.faulty in no_repeat m f.clause g.before g.after g.literal g.are g.faulty.1 (middle m inv f.before f.after f.clause f.are good)
 
 -- what has a cause is not accepted
-pub cause_refuses : (m : Parts) (c : Certificate) (e : CheckError) → HasCause m c e → e ≢ OutOfMemory → IsAcceptedCertificate m c → ⊥
-cause_refuses m c (NoProperty n) cause ne accepted = cause.1 accepted.exists
-cause_refuses m c Limit cause ne accepted = let few = accepted.few in let many = cause.1 in omega arith
-cause_refuses m c (Sections n) cause ne accepted = cause.3 (cause.2 ∙ accepted.count)
-cause_refuses m c (NotLatch k) cause ne accepted = first_fault_refuses m c.invariant k fault.NotLatch cause.1 accepted.clauses
-cause_refuses m c (Repeated k) cause ne accepted = first_fault_refuses m c.invariant k fault.Repeated cause.1 accepted.clauses
-cause_refuses m c (Section e k) cause ne accepted =
+cause_refuses_for : (m : Parts) (n : ℕ) (c : Certificate) (e : CheckError) → HasCauseFor m n c e → e ≢ OutOfMemory → IsAcceptedFor m n c → ⊥
+cause_refuses_for m n c (NoProperty k) cause ne accepted = cause
+cause_refuses_for m n c Limit cause ne accepted = let few = accepted.few in omega (arith, cause, few)
+cause_refuses_for m n c (Sections k) cause ne accepted = cause.2 (cause.1 ∙ accepted.count)
+cause_refuses_for m n c (NotLatch k) cause ne accepted = first_fault_refuses m c.invariant k fault.NotLatch cause.1 accepted.clauses
+cause_refuses_for m n c (Repeated k) cause ne accepted = first_fault_refuses m c.invariant k fault.Repeated cause.1 accepted.clauses
+cause_refuses_for m n c (Section e k) cause ne accepted =
     let f : Formula = bad_formula m c.invariant (bad_literal m 0) in
     refused_proof_not _ _ e (cause.2.refused f []) cause.2.other (accepted.sections k cause.2.stands f []).1
+cause_refuses_for m n c OutOfMemory cause ne accepted = ne refl
+
+of_circuit_refuses : (m : Parts) (c : Certificate) (e : CheckError) → IsOfCircuit m c e → e ≢ OutOfMemory → IsAcceptedCertificate m c → ⊥
+of_circuit_refuses m c e cause ne accepted = cause_refuses_for (circuit_of m c.property) (bad_of c.property) c e cause.cause ne accepted.accepted
+
+pub cause_refuses : (m : Parts) (c : Certificate) (e : CheckError) → HasCause m c e → e ≢ OutOfMemory → IsAcceptedCertificate m c → ⊥
+cause_refuses m c (NoProperty n) cause ne accepted = cause.1 accepted.showable.exists
+cause_refuses m c Limit (inl large) ne accepted = let within = accepted.showable.within in let over = large.1 in omega (arith, within, over)
+cause_refuses m c Limit (inr cause) ne accepted = of_circuit_refuses m c Limit cause ne accepted
+cause_refuses m c (Sections n) cause ne accepted = of_circuit_refuses m c (Sections n) cause ne accepted
+cause_refuses m c (NotLatch k) cause ne accepted = of_circuit_refuses m c (NotLatch k) cause ne accepted
+cause_refuses m c (Repeated k) cause ne accepted = of_circuit_refuses m c (Repeated k) cause ne accepted
+cause_refuses m c (Section e k) cause ne accepted = of_circuit_refuses m c (Section e k) cause ne accepted
 cause_refuses m c OutOfMemory cause ne accepted = absurd (ne refl)
+
+-- a cause for the property's circuit is one
+cause_of_circuit : (m : Parts) (c : Certificate) (e : CheckError) → IsShowable m c.property → HasCauseFor (circuit_of m c.property) (bad_of c.property) c e → HasCause m c e
+cause_of_circuit m c (NoProperty n) showable cause = absurd cause
+cause_of_circuit m c Limit showable cause = inr (record { showable = showable; cause = cause })
+cause_of_circuit m c (Sections n) showable cause = record { showable = showable; cause = cause }
+cause_of_circuit m c (NotLatch k) showable cause = record { showable = showable; cause = cause }
+cause_of_circuit m c (Repeated k) showable cause = record { showable = showable; cause = cause }
+cause_of_circuit m c (Section e k) showable cause = record { showable = showable; cause = cause }
+cause_of_circuit m c OutOfMemory showable cause = tt
+
+-- a cause for the circuit of the certificate's property, whatever names that
+pub property_cause : (m : Parts) (c : Certificate) (p : Property) (e : CheckError) → c.property ≡ p → IsShowable m p → HasCauseFor (circuit_of m p) (bad_of p) c e → HasCause m c e
+property_cause m c p e is showable cause =
+    cause_of_circuit m c e (subst (IsShowable m) (sym is) showable) (subst (λ q. HasCauseFor (circuit_of m q) (bad_of q) c e) (sym is) cause)
 
 -- what holds of an `Ok` follows from what holds of it
 pub if_on_ok : {T E P Q : Type 0} → (r : Result T E) → OnOk r P → (P → Q) → OnOk r Q
@@ -93,26 +133,25 @@ if_on_ok (Err e) p f = tt
 
 -- the parts of a certificate, as they were read, with their counts in order
 pub record IsOpened (m : Parts) (c : Certificate) (n : ℕ) (inv : List (List Lit)) (ps : List (List Line)) : Type 0 where
-  pub is_bad : c.property ≡ Bad n
   pub is_inv : inv ≡ c.invariant
   pub is_ps : ps ≡ c.sections
   pub exists : n < length m.bad
   pub few : length inv ≤ 4194303
   pub count : length ps ≡ 2 * length inv + 1
 
-counted : (m : Parts) (c : Certificate) (n : ℕ) (inv : List (List Lit)) (ps : List (List Line)) → IsOpened m c n inv ps → IsCounted m c
+counted : (m : Parts) (c : Certificate) (n : ℕ) (inv : List (List Lit)) (ps : List (List Line)) → IsOpened m c n inv ps → IsCounted m n c
 counted m c n inv ps opened = record {
-  exists = subst (HasProperty m) (sym opened.is_bad) opened.exists;
+  exists = opened.exists;
   few = subst (λ i. length i < 4194304) opened.is_inv (let few = opened.few in omega arith);
   count = subst (λ i. length c.sections ≡ 2 * length i + 1) opened.is_inv (ap length (sym opened.is_ps) ∙ opened.count);
 }
 
 cases_are : (m : Parts) (c : Certificate) (n : ℕ) (inv : List (List Lit)) (ps : List (List Line)) → IsOpened m c n inv ps →
-    cases m inv (bad_literal m n) ≡ cases m c.invariant (bad_literal m (position_of c.property))
-cases_are m c n inv ps opened = ap (λ i. cases m i (bad_literal m n)) opened.is_inv ∙ ap (λ p. cases m c.invariant (bad_literal m (position_of p))) (sym opened.is_bad)
+    cases m inv (bad_literal m n) ≡ cases m c.invariant (bad_literal m n)
+cases_are m c n inv ps opened = ap (λ i. cases m i (bad_literal m n)) opened.is_inv
 
 pub accepted_from : (m : Parts) (c : Certificate) (n : ℕ) (inv : List (List Lit)) (ps : List (List Line)) → IsOpened m c n inv ps → All (IsGood m) inv →
-    RefuteBelow (cases m inv (bad_literal m n)) ps (length ps) → IsAcceptedCertificate m c
+    RefuteBelow (cases m inv (bad_literal m n)) ps (length ps) → IsAcceptedFor m n c
 accepted_from m c n inv ps opened good refute =
     let counts = counted m c n inv ps opened in
     record {
@@ -124,33 +163,33 @@ accepted_from m c n inv ps opened good refute =
           (subst (λ s. RefuteBelow (cases m inv (bad_literal m n)) s (length s)) opened.is_ps refute);
     }
 
-clauses_cause_of : (m : Parts) (c : Certificate) (e : CheckError) → IsCounted m c → IsClausesFault m c.invariant e → HasCause m c e
-clauses_cause_of m c (NotLatch k) counts fault = (counts, fault)
-clauses_cause_of m c (Repeated k) counts fault = (counts, fault)
-clauses_cause_of m c OutOfMemory counts fault = tt
-clauses_cause_of m c (NoProperty n) counts fault = absurd fault
-clauses_cause_of m c Limit counts fault = absurd fault
-clauses_cause_of m c (Sections n) counts fault = absurd fault
-clauses_cause_of m c (Section e k) counts fault = absurd fault
+clauses_cause_of : (m : Parts) (n : ℕ) (c : Certificate) (e : CheckError) → IsCounted m n c → IsClausesFault m c.invariant e → HasCauseFor m n c e
+clauses_cause_of m n c (NotLatch k) counts fault = (counts, fault)
+clauses_cause_of m n c (Repeated k) counts fault = (counts, fault)
+clauses_cause_of m n c OutOfMemory counts fault = tt
+clauses_cause_of m n c (NoProperty k) counts fault = absurd fault
+clauses_cause_of m n c Limit counts fault = absurd fault
+clauses_cause_of m n c (Sections k) counts fault = absurd fault
+clauses_cause_of m n c (Section e k) counts fault = absurd fault
 
 -- a refusal of the clauses, and one of the sections, is a cause
 pub clauses_cause : (m : Parts) (c : Certificate) (n : ℕ) (inv : List (List Lit)) (ps : List (List Line)) → IsOpened m c n inv ps → (e : CheckError) →
-    IsClausesFault m inv e → HasCause m c e
+    IsClausesFault m inv e → HasCauseFor m n c e
 clauses_cause m c n inv ps opened e fault =
-    clauses_cause_of m c e (counted m c n inv ps opened) (subst (λ i. IsClausesFault m i e) opened.is_inv fault)
+    clauses_cause_of m n c e (counted m c n inv ps opened) (subst (λ i. IsClausesFault m i e) opened.is_inv fault)
 
-section_cause_of : (m : Parts) (c : Certificate) (e : CheckError) → IsCounted m c → All (IsGood m) c.invariant →
-    IsSectionFault (cases m c.invariant (bad_literal m (position_of c.property))) c.sections e → HasCause m c e
-section_cause_of m c (Section e k) counts good fault = (counts, good, fault)
-section_cause_of m c OutOfMemory counts good fault = tt
-section_cause_of m c (NoProperty n) counts good fault = absurd fault
-section_cause_of m c Limit counts good fault = absurd fault
-section_cause_of m c (Sections n) counts good fault = absurd fault
-section_cause_of m c (NotLatch k) counts good fault = absurd fault
-section_cause_of m c (Repeated k) counts good fault = absurd fault
+section_cause_of : (m : Parts) (n : ℕ) (c : Certificate) (e : CheckError) → IsCounted m n c → All (IsGood m) c.invariant →
+    IsSectionFault (cases m c.invariant (bad_literal m n)) c.sections e → HasCauseFor m n c e
+section_cause_of m n c (Section e k) counts good fault = (counts, good, fault)
+section_cause_of m n c OutOfMemory counts good fault = tt
+section_cause_of m n c (NoProperty k) counts good fault = absurd fault
+section_cause_of m n c Limit counts good fault = absurd fault
+section_cause_of m n c (Sections k) counts good fault = absurd fault
+section_cause_of m n c (NotLatch k) counts good fault = absurd fault
+section_cause_of m n c (Repeated k) counts good fault = absurd fault
 
 pub section_cause : (m : Parts) (c : Certificate) (n : ℕ) (inv : List (List Lit)) (ps : List (List Line)) → IsOpened m c n inv ps → All (IsGood m) inv → (e : CheckError) →
-    IsSectionFault (cases m inv (bad_literal m n)) ps e → HasCause m c e
+    IsSectionFault (cases m inv (bad_literal m n)) ps e → HasCauseFor m n c e
 section_cause m c n inv ps opened good e fault =
-    section_cause_of m c e (counted m c n inv ps opened) (subst (All (IsGood m)) opened.is_inv good)
+    section_cause_of m n c e (counted m c n inv ps opened) (subst (All (IsGood m)) opened.is_inv good)
     (subst (λ fs. IsSectionFault fs c.sections e) (cases_are m c n inv ps opened) (subst (λ s. IsSectionFault (cases m inv (bad_literal m n)) s e) opened.is_ps fault))

@@ -1,8 +1,7 @@
 -- What the answers to a circuit and a certificate say.
-use Rattle.std.proofs.Common.{◌≡◌, ℕ, ◌⊎◌, List, inl, inr, refl, sym, ◌∙◌, ap, subst}
+use Rattle.std.proofs.Common.{◌≡◌, ℕ, List, inl, inr, refl, ap, subst}
 use Rattle.graph.specs.declared.circuit.Property.{Property}
 use Rattle.graph.specs.File.{File}
-use Rattle.graph.specs.Runs.{IsSafe}
 use Rattle.aiger.specs.Loading.{IsFileOf, SpellsNoFile}
 use Rattle.aiger.proofs.LayoutLaws.{one_file, well_formed}
 use Rattle.certificate.specs.declared.certificate.Certificate.{Certificate}
@@ -13,10 +12,10 @@ use Rattle.certificate.specs.Texts.{SpellsCertificate}
 use Rattle.checker.specs.declared.check_error.CheckError.{CheckError}
 use Rattle.checker.specs.declared.stop.Stop.{Stop}
 use Rattle.checker.specs.Numbers.{number_of}
-use Rattle.checker.specs.Accepted.{IsAcceptedCertificate}
+use Rattle.checker.specs.Accepted.{IsAcceptedCertificate, IsUpheld}
 use Rattle.checker.specs.Causes.{HasCause}
 use Rattle.checker.specs.Stops.{stop_of, IsStop}
-use Rattle.checker.specs.Verdicts.{Accepts, IsSafeText, IsCertificateOf, IsRefusal, SpellsNoCertificate}
+use Rattle.checker.specs.Verdicts.{Accepts, IsUpheldText, IsCertificateOf, IsRefusal, SpellsNoCertificate}
 use Rattle.checker.proofs.Accepted.{accepted_law, cause_refuses}
 use Rattle.checker.proofs.Said.{stops, stops_more}
 
@@ -51,10 +50,10 @@ accepts xs ys f c first second accepted = record {
 }
 
 -- it is safe, and there is no reason to refuse it
-pub accepted_safe : (xs ys : List ℕ) (p : Property) → Accepts xs ys p → IsSafeText xs p
-accepted_safe xs ys p a f first n is_bad =
-    subst (λ g. IsSafe g.model n) (one_file xs a.file f a.first first)
-    (accepted_law a.file.model a.certificate n (well_formed xs a.file a.first) a.accepted (a.property ∙ is_bad))
+pub accepted_safe : (xs ys : List ℕ) (p : Property) → Accepts xs ys p → IsUpheldText xs p
+accepted_safe xs ys p a f first =
+    subst (λ g. IsUpheld g.model p) (one_file xs a.file f a.first first)
+    (subst (IsUpheld a.file.model) a.property (accepted_law a.file.model a.certificate (well_formed xs a.file a.first) a.accepted))
 
 pub refusal_not : (xs ys : List ℕ) (p : Property) → Accepts xs ys p → (n : ℕ) → IsRefusal xs ys n → ⊥
 refusal_not xs ys p a n (inl no_circuit) = no_circuit.none a.file a.first

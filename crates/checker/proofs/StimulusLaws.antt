@@ -1,5 +1,5 @@
 -- What the answers to a circuit and a stimulus say.
-use Rattle.std.proofs.Common.{◌≡◌, ◌≢◌, ℕ, ◌⊎◌, List, inl, inr, refl, sym, ◌∙◌, ap, subst}
+use Rattle.std.proofs.Common.{◌≡◌, ◌≢◌, ℕ, List, inl, inr, refl, ap, subst}
 use Rattle.graph.specs.declared.circuit.Property.{Property}
 use Rattle.graph.specs.File.{File}
 use Rattle.aiger.specs.Loading.{IsFileOf, SpellsNoFile}

@@ -15,7 +15,7 @@ use Rattle.checker.specs.declared.check_error.CheckError.{CheckError}
 use Rattle.checker.specs.declared.check_error.CheckError.TheVariants.{NoProperty, Limit, Sections, NotLatch, Repeated, Section, OutOfMemory}
 use Rattle.checker.specs.declared.invariant.ClauseFault.{ClauseFault}
 use Rattle.checker.specs.declared.invariant.ClauseFault.TheVariants as fault
-use Rattle.checker.specs.Accepted.{IsGood, cases, RefuteBelow, HasProperty}
+use Rattle.checker.specs.Accepted.{IsGood, cases, RefuteBelow, HasProperty, IsShowable, circuit_of, bad_of}
 
 -- the clause is good up to a literal of which P holds
 pub record HasFirst (m : Parts) (c : List Lit) (P : List Lit → Lit → Type 0) : Type 0 where
@@ -72,18 +72,33 @@ IsSectionFault fs ps OutOfMemory = Unit {0}
 IsSectionFault fs ps _ = ⊥
 
 -- the counts are in order
-pub record IsCounted (m : Parts) (c : Certificate) : Type 0 where
-  pub exists : HasProperty m c.property
+pub record IsCounted (m : Parts) (n : ℕ) (c : Certificate) : Type 0 where
+  pub exists : n < length m.bad
   pub few : length c.invariant < 4194304
   pub count : length c.sections ≡ 2 * length c.invariant + 1
 
--- the first cause of each refusal: the property, the number of clauses, the number of sections, a clause, a section
+-- the first cause of a refusal for the n-th bad literal of a circuit: the number of clauses, the number of sections, a
+-- clause, a section
+abbrev pub HasCauseFor : Parts → ℕ → Certificate → CheckError → Type 0
+HasCauseFor m n c (NoProperty k) = ⊥
+HasCauseFor m n c Limit = 4194303 < length c.invariant
+HasCauseFor m n c (Sections k) = (length c.invariant < 4194304) × (k ≡ length c.sections) × (k ≢ 2 * length c.invariant + 1)
+HasCauseFor m n c (NotLatch k) = IsCounted m n c × IsFirstFault m c.invariant k fault.NotLatch
+HasCauseFor m n c (Repeated k) = IsCounted m n c × IsFirstFault m c.invariant k fault.Repeated
+HasCauseFor m n c (Section e k) = IsCounted m n c × All (IsGood m) c.invariant × IsFirstRefused (cases m c.invariant (bad_literal m n)) c.sections e k
+HasCauseFor m n c OutOfMemory = Unit {0}
+
+-- it is the first cause for the property's circuit
+pub record IsOfCircuit (m : Parts) (c : Certificate) (e : CheckError) : Type 0 where
+  pub showable : IsShowable m c.property
+  pub cause : HasCauseFor (circuit_of m c.property) (bad_of c.property) c e
+
+-- the first cause of each refusal: the property, the variables of its circuit, and then what there is for that
 abbrev pub HasCause : Parts → Certificate → CheckError → Type 0
 HasCause m c (NoProperty n) = (n ≡ position_of c.property) × (HasProperty m c.property → ⊥)
-HasCause m c Limit = HasProperty m c.property × (4194303 < length c.invariant)
-HasCause m c (Sections n) = HasProperty m c.property × (length c.invariant < 4194304) × (n ≡ length c.sections) × (n ≢ 2 * length c.invariant + 1)
-HasCause m c (NotLatch k) = IsCounted m c × IsFirstFault m c.invariant k fault.NotLatch
-HasCause m c (Repeated k) = IsCounted m c × IsFirstFault m c.invariant k fault.Repeated
-HasCause m c (Section e k) = IsCounted m c × All (IsGood m) c.invariant
-    × IsFirstRefused (cases m c.invariant (bad_literal m (position_of c.property))) c.sections e k
+HasCause m c Limit = (HasProperty m c.property × (4194303 < (circuit_of m c.property).max_var)) ⊎ IsOfCircuit m c Limit
+HasCause m c (Sections n) = IsOfCircuit m c (Sections n)
+HasCause m c (NotLatch k) = IsOfCircuit m c (NotLatch k)
+HasCause m c (Repeated k) = IsOfCircuit m c (Repeated k)
+HasCause m c (Section e k) = IsOfCircuit m c (Section e k)
 HasCause m c OutOfMemory = Unit {0}

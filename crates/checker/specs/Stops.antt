@@ -1,5 +1,5 @@
 -- Where the reading and checking of two texts stops.
-use Rattle.std.specs.Prelude.{◌≡◌, ℕ, ◌+◌, ◌⊎◌, ◌==◌, if◌then◌else◌, List, Result, IsErrOf}
+use Rattle.std.specs.Prelude.{◌≡◌, ℕ, ◌+◌, ◌⊎◌, ◌==◌, if◌then◌else◌, Result, IsErrOf}
 use Rattle.graph.specs.Refusals.{number_of as read_number}
 use Rattle.aiger.specs.declared.load_error.LoadError.{LoadError}
 use Rattle.aiger.specs.declared.load_error.LoadError.TheVariants.{Refused, Device as LoadDevice}

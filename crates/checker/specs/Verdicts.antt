@@ -2,9 +2,7 @@
 use Rattle.std.specs.Prelude.{◌≡◌, ◌≢◌, ℕ, ◌⊎◌, List, Option}
 use Rattle.base.specs.Devices.{PutsBeginning}
 use Rattle.graph.specs.declared.circuit.Property.{Property}
-use Rattle.graph.specs.declared.circuit.Property.TheVariants.{Bad}
 use Rattle.graph.specs.File.{File}
-use Rattle.graph.specs.Runs.{IsSafe}
 use Rattle.aiger.specs.Layouts.{SpellsFile}
 use Rattle.aiger.specs.Loading.{IsFileOf, SpellsNoFile}
 use Rattle.certificate.specs.declared.certificate.Certificate.{Certificate}
@@ -15,7 +13,7 @@ use Rattle.certificate.specs.Texts.{SpellsCertificate}
 use Rattle.checker.specs.declared.check_error.CheckError.{CheckError}
 use Rattle.checker.specs.declared.check_error.CheckError.TheVariants.{OutOfMemory}
 use Rattle.checker.specs.declared.line.Question.TheVariants.{Safe}
-use Rattle.checker.specs.Accepted.{IsAcceptedCertificate}
+use Rattle.checker.specs.Accepted.{IsAcceptedCertificate, IsUpheld}
 use Rattle.checker.specs.Causes.{HasCause}
 use Rattle.checker.specs.Lines.{yes_line, no_line}
 use Rattle.checker.specs.Numbers.{number_of}
@@ -29,9 +27,10 @@ pub record Accepts (xs ys : List ℕ) (p : Property) : Type 0 where
   pub accepted : IsAcceptedCertificate file.model certificate
   pub property : certificate.property ≡ p
 
--- no run of the circuit that the text spells which keeps the constraints sets the bad literal at any time
-abbrev pub IsSafeText : List ℕ → Property → Type 0
-IsSafeText xs p = (f : File) → SpellsFile xs f → (n : ℕ) → p ≡ Bad n → IsSafe f.model n
+-- the circuit that the text spells upholds the property: no run of it that keeps the constraints sets the bad literal at
+-- any time, or holds more rounds of justice than it has states
+abbrev pub IsUpheldText : List ℕ → Property → Type 0
+IsUpheldText xs p = (f : File) → SpellsFile xs f → IsUpheld f.model p
 
 -- the one certificate that the text spells
 pub record IsCertificateOf (ys : List ℕ) (c : Certificate) : Type 0 where

@@ -6,7 +6,7 @@ ghost use Rattle.aiger.specs.Layouts.{SpellsFile};
 ghost use Rattle.graph.specs.declared.circuit.Property.{Property as AProperty};
 ghost use Rattle.graph.specs.File.{File};
 ghost use Rattle.checker.specs.Lines.{yes_line, no_line};
-ghost use Rattle.checker.specs.Verdicts.{Accepts, BeginsLine, IsCertificateOf, IsRefusal, IsSafeText, SpellsNoCertificate};
+ghost use Rattle.checker.specs.Verdicts.{Accepts, BeginsLine, IsCertificateOf, IsRefusal, IsUpheldText, SpellsNoCertificate};
 ghost use Rattle.checker.specs.Stops.{IsStop, Fails, FailsOne};
 ghost use Rattle.checker.specs.declared.line.Question.TheVariants.{Safe};
 ghost use Rattle.checker.specs.declared.stop.Stop.TheVariants.{Device as Failure};
@@ -57,7 +57,7 @@ fn safe_property<M: Source, C: Source>(
 /// `yes safe P` with the property that the certificate names, or `no NUMBER`, and a line end.
 ///
 /// A yes means that no run of the circuit that keeps the constraints sets that bad literal at any
-/// time. A fault of the first text is told without reading the second, and a fault of the second,
+/// time or, for a justice property, holds more rounds of it than the circuit has states. A fault of the first text is told without reading the second, and a fault of the second,
 /// anywhere in it, before every fault of the certificate. Where memory is wanting or a source
 /// fails, nothing is put.
 ///
@@ -72,8 +72,8 @@ pub fn run_safe<M: Source, C: Source, W: Sink>(
     requires circuit { M.failed circuit.old < 2 ^ 64 - 1 }
     requires certificate { C.failed certificate.old < 2 ^ 64 - 1 }
     requires out { W.failed out.old < 2 ^ 64 - 1 }
-    // Yes: the certificate is accepted, the circuit is safe, and the line says so.
-    ensures yes { (xs ys : List ℕ) → M.remaining circuit.old ≡ Some xs → C.remaining certificate.old ≡ Some ys → IfOk result (λ yes. IsTrue yes → (p : AProperty) × Accepts xs ys p × IsSafeText xs p × Appends (W.contents out.old) (W.contents out.new) (yes_line Safe p)) }
+    // Yes: the certificate is accepted, the property is upheld, and the line says so.
+    ensures yes { (xs ys : List ℕ) → M.remaining circuit.old ≡ Some xs → C.remaining certificate.old ≡ Some ys → IfOk result (λ yes. IsTrue yes → (p : AProperty) × Accepts xs ys p × IsUpheldText xs p × Appends (W.contents out.old) (W.contents out.new) (yes_line Safe p)) }
     // No: there is a reason, and the line has its number.
     ensures no { (xs ys : List ℕ) → M.remaining circuit.old ≡ Some xs → C.remaining certificate.old ≡ Some ys → IfOk result (λ yes. yes ≡ false → (n : ℕ) × IsRefusal xs ys n × Appends (W.contents out.old) (W.contents out.new) (no_line n)) }
     // Whatever is accepted gets a yes, unless memory runs out or a device fails.

@@ -1,12 +1,13 @@
 //! The judge of certificates.
 //!
 //! - `check` answers Ok exactly where a certificate is accepted for a circuit, want of memory
-//!   aside. Then the circuit is safe: no run of it that keeps the constraints sets the bad literal
-//!   at any time. A refusal has the first cause.
+//!   aside. Then no run of the circuit that keeps the constraints sets the bad literal at any time or,
+//!   for a justice property, holds more rounds of it than the circuit has states. A refusal has the
+//!   first cause.
 //! - `run_safe` does it from bytes to bytes: it reads a circuit and a certificate, and puts one
 //!   line, `yes safe b0` or `no 44`. It says yes exactly where the first bytes spell a circuit and
-//!   the second, to their end, a certificate that is accepted for it; and then that circuit is
-//!   safe.
+//!   the second, to their end, a certificate that is accepted for it; and then that property is
+//!   upheld.
 //!
 //! - `run_stimulus` does the same for a circuit and a stimulus: `yes run b0` exactly where the
 //!   stimulus's replay shows the violation of its property.
@@ -30,6 +31,7 @@ mod whole;
 pub use acceptance::check;
 pub use certified::run_safe;
 pub use check_error::CheckError;
+pub use invariant::check_clauses;
 pub use replayed::run_stimulus;
 pub use run_error::RunError;
 

@@ -11,8 +11,8 @@ use std::test::Fail;
 static HOLD: &[u8] = b"aag 1 0 1 0 0 1\n2 2\n2\n";
 
 /// Circuits, certificates, and the lines that are put: a latch that keeps its value, two latches that are
-/// never both 1, constants, and a constraint.
-static ANSWERS: [(&[u8], &[u8], &[u8]); 11] = [
+/// never both 1, constants, a constraint, and a justice property.
+static ANSWERS: [(&[u8], &[u8], &[u8]); 13] = [
     (
         b"aag 1 0 1 0 0 1\n2 2\n2\n",
         b"aigcert 1\nb0\n1\n1 3\ni\n4 0 2 3 0\n.\ns\n4 0 2 3 0\n.\nb\n4 0 2 3 0\n.\n",
@@ -64,6 +64,16 @@ static ANSWERS: [(&[u8], &[u8], &[u8]); 11] = [
         b"no 72\n",
     ),
     (b"aag 1 0 1 0 0 1\n2 2\n", b"", b"no 6\n"),
+    (
+        b"aag 1 0 1 0 0 0 0 1\n2 2\n1\n2\n",
+        b"aigcert 1\nj0\n2\n1 3\n1 11\ni\n7 0 2 6 0\n.\ni\n7 0 5 6 0\n.\ns\n41 0 38 40 0\n.\ns\n41 0 40 30 38 39 28 0\n.\nb\n41 0 39 40 36 0\n.\n",
+        b"yes safe j0\n",
+    ),
+    (
+        b"aag 1 0 1 0 0 0 0 1\n2 2\n1\n2\n",
+        b"aigcert 1\nj0\n2\n1 3\n1 11\ni\n7 0 2 6 0\n.\ni\n7 0 5 6 0\n.\ns\n41 0 38 40 0\n.\ns\n41 0 30 40 38 39 28 0\n.\nb\n41 0 39 40 36 0\n.\n",
+        b"no 42\n",
+    ),
 ];
 
 #[test]

@@ -2,11 +2,12 @@
 
 ghost use Rattle.std.specs.Prelude.{◌≡◌};
 ghost use Rattle.cli.specs.Numbers.{number_of, place_of, written};
-ghost use Rattle.cli.specs.declared.cli_error.CliError.TheVariants.{Load, Stimulus, Sim, Decide, OutOfMemory, Device};
+ghost use Rattle.cli.specs.declared.cli_error.CliError.TheVariants.{Load, Stimulus, Sim, Decide, Certificate, OutOfMemory, Device};
 
 use aag::AagWriteError;
 use aig::AigWriteError;
 use aiger::LoadError;
+use certificate::CertWriteError;
 use shrink::ShrinkError;
 use stimulus::{SimError, StimError, StimWriteError};
 use thiserror::Error;
@@ -27,6 +28,9 @@ pub enum CliError {
     /// there is no verdict on the property
     #[error("{0}")]
     Decide(DecideError),
+    /// the certificate was not written
+    #[error("{0}")]
+    Certificate(CertWriteError),
     /// the circuit is not in the numbering of the binary layout
     #[error("the circuit is not ordered")]
     Unordered,
@@ -67,6 +71,14 @@ impl From<DecideError> for CliError {
 
     fn from(e: DecideError) -> CliError {
         CliError::Decide(e)
+    }
+}
+
+impl From<CertWriteError> for CliError {
+    ghost from_gives = { λ e c. c ≡ Certificate e };
+
+    fn from(e: CertWriteError) -> CliError {
+        CliError::Certificate(e)
     }
 }
 
@@ -121,6 +133,7 @@ impl CliError {
             CliError::Stimulus(e) => e.number(),
             CliError::Sim(e) => e.number(),
             CliError::Decide(e) => e.number(),
+            CliError::Certificate(e) => e.number(),
             CliError::Unordered => 17,
             CliError::OutOfMemory => 20,
             CliError::Device => 21,
@@ -136,6 +149,7 @@ impl CliError {
             CliError::Stimulus(e) => e.place(),
             CliError::Sim(e) => e.place(),
             CliError::Decide(e) => e.place(),
+            CliError::Certificate(e) => e.place(),
             CliError::Unordered | CliError::OutOfMemory | CliError::Device => 0,
         }
     }

@@ -6,7 +6,7 @@
 //! - `load_stimulus` reads a stimulus from a source, and `put_table` puts the values of its replay.
 //! - `put_file` writes a file in the layout that is asked for.
 //! - `property_named` is the property that a word names. `decide` asks engines about it, and `show` puts
-//!   their `Verdict` and answers its status.
+//!   their `Verdict` and answers its status; `put_certificate` puts the certificate of one that is safe.
 //! - `CliError` is what is told of a command that failed.
 #![tactic(auto)]
 
@@ -17,6 +17,7 @@ mod numbering;
 mod property_name;
 
 pub use aiger::load;
+pub use certificate::write as put_certificate;
 pub use cli_error::CliError;
 pub use layout::{Layout, put_file};
 pub use loading::load_stimulus;

@@ -4,4 +4,6 @@
 #[cfg(test)]
 mod bounded;
 #[cfg(test)]
+mod inductive;
+#[cfg(test)]
 mod solvers;

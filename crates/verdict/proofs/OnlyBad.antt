@@ -1,14 +1,17 @@
 -- A circuit, and the same with one bad literal alone: their runs are the same.
-use Rattle.std.proofs.Common.{◌≡◌, ℕ, Bool, true, List, [], ◌∷◌, Some, slice_get, refl, sym, ◌∙◌, subst}
+use Rattle.std.proofs.Common.{◌≡◌, ℕ, Bool, true, List, [], ◌∷◌, Some, slice_get, All, refl, sym, ◌∙◌, subst}
+use Rattle.std.proofs.lemmas.Option.{get_or_from_slice_get}
 use Rattle.graph.specs.declared.circuit.Lit.{Lit}
 use Rattle.graph.specs.declared.circuit.Property.TheVariants.{Bad}
 use Rattle.graph.specs.declared.parts.Parts.{Parts}
 use Rattle.graph.specs.Valuation.{Valuation, value_of, Agrees}
-use Rattle.graph.specs.Runs.{StartsInitial, Steps, IsRun, IsSafe}
-use Rattle.graph.specs.WellFormed.{IsWellFormed, only_bad}
+use Rattle.graph.specs.Runs.{StartsInitial, Steps, IsRun}
+use Rattle.graph.specs.WellFormed.{only_bad}
 use Rattle.stimulus.specs.Shown.{Begins, IsReplay, ShowsBad, last_of}
 use Rattle.stimulus.specs.declared.value.Stimulus.TheVariants.{Violated}
-use Rattle.cnf.proofs.Safety.{safety_law}
+use Rattle.cnf.specs.Formulas.{bad_literal}
+use Rattle.cnf.specs.Invariants.{IsInductive}
+use Rattle.checker.specs.Accepted.{IsGood}
 use Rattle.engine.specs.Bounds.{IsClear}
 use Rattle.engine.specs.Findings.{IsInvariant}
 
@@ -94,12 +97,13 @@ clear_named m n a steps named h r b run keeps short named_too =
     let same : Some a ≡ Some b = sym named ∙ named_too in
     h r b (run_with m a r run) keeps short same
 
-safe_named : (m : Parts) (n : ℕ) (a : Lit) → slice_get m.bad n ≡ Some a → IsSafe (only_bad m a) 0 → IsSafe m n
-safe_named m n a named h r b run keeps named_too =
-    let same : Some a ≡ Some b = sym named ∙ named_too in
-    h r b (run_with m a r run) keeps same
+-- an invariant's cases speak of nothing but the one bad literal
+pub good_named : (m : Parts) (a : Lit) (inv : List (List Lit)) → IsInvariant (only_bad m a) inv → All (IsGood m) inv
+good_named m a inv h k d k_in = let proper = h.clauses k d k_in in record { over = proper.over; apart = proper.apart }
 
-pub invariant_named : (m : Parts) (n : ℕ) (a : Lit) (inv : List (List Lit)) → slice_get m.bad n ≡ Some a → IsWellFormed (only_bad m a) →
-    IsInvariant (only_bad m a) inv → IsSafe m n
-invariant_named m n a inv named well h =
-    safe_named m n a named (safety_law (only_bad m a) inv well (λ k d k_in. (h.clauses k d k_in).over) 0 a refl h.inductive)
+pub inductive_named : (m : Parts) (n : ℕ) (a : Lit) (inv : List (List Lit)) → slice_get m.bad n ≡ Some a → IsInvariant (only_bad m a) inv →
+    IsInductive m inv (bad_literal m n)
+inductive_named m n a inv named h =
+    let same : a ≡ bad_literal m n = sym (get_or_from_slice_get m.bad n a (record { 0 = 0 }) named) in
+    let i = h.inductive in
+    subst (IsInductive m inv) same (record { begins = i.begins; goes_on = i.goes_on; excludes = i.excludes })

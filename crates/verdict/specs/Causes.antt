@@ -1,9 +1,14 @@
 -- Why nothing is answered of a property.
-use Rattle.std.specs.Prelude.{◌≡◌}
+use Rattle.std.specs.Prelude.{◌≡◌, Result, Ok, Err}
 use Rattle.checker.specs.Accepted.{HasProperty}
 use Rattle.graph.specs.declared.circuit.Property.{Property}
 use Rattle.graph.specs.declared.parts.Parts.{Parts}
 use Rattle.graph.specs.Properties.{position_of}
+use Rattle.engine.specs.declared.finding.Reason.TheVariants.{NoEvidence}
+use Rattle.certify.specs.declared.certify_error.CertifyError.{CertifyError}
+use Rattle.certify.specs.declared.certify_error.CertifyError.TheVariants as certify
+use Rattle.verdict.specs.declared.verdict.Verdict.{Verdict}
+use Rattle.verdict.specs.declared.verdict.Verdict.TheVariants.{Unknown}
 use Rattle.verdict.specs.declared.decide_error.DecideError.{DecideError}
 use Rattle.verdict.specs.declared.decide_error.DecideError.TheVariants.{NoProperty, Limit, OutOfMemory}
 
@@ -12,3 +17,12 @@ abbrev pub HasCause : Parts → Property → DecideError → Type 0
 HasCause m p (NoProperty n) = (n ≡ position_of p) × (HasProperty m p → ⊥)
 HasCause m p Limit = HasProperty m p
 HasCause m p OutOfMemory = HasProperty m p
+
+-- what comes of clauses of which no certificate is made: a limit and want of memory end the asking, and clauses with a
+-- fault are no evidence
+abbrev pub of_certify : CertifyError → Result Verdict DecideError
+of_certify certify.Limit = Err Limit
+of_certify certify.OutOfMemory = Err OutOfMemory
+of_certify (certify.NoProperty n) = Ok (Unknown NoEvidence)
+of_certify (certify.NotLatch k) = Ok (Unknown NoEvidence)
+of_certify (certify.Repeated k) = Ok (Unknown NoEvidence)

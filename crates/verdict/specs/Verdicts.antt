@@ -1,17 +1,17 @@
 -- What a verdict on a property says.
-use Rattle.std.specs.Prelude.{◌≡◌, ℕ, Some, slice_get}
+use Rattle.std.specs.Prelude.{◌≡◌, ℕ, ◌≤◌, Bool, List, length, Some, slice_get}
 use Rattle.base.specs.Budget.{Steps}
 use Rattle.graph.specs.declared.circuit.Lit.{Lit}
 use Rattle.graph.specs.declared.circuit.Property.{Property}
 use Rattle.graph.specs.declared.circuit.Property.TheVariants.{Bad, Justice}
 use Rattle.graph.specs.declared.parts.Parts.{Parts}
-use Rattle.graph.specs.Runs.{IsSafe}
 use Rattle.graph.specs.WellFormed.{only_bad}
 use Rattle.stimulus.specs.declared.value.Stimulus.{Stimulus}
 use Rattle.stimulus.specs.declared.value.Stimulus.TheVariants as stimulus
-use Rattle.stimulus.specs.Shown.{Shows}
+use Rattle.stimulus.specs.Shown.{Shows, ShowsBad, ShowsLasso}
 use Rattle.stimulus.specs.Texts.{property_of}
-use Rattle.checker.specs.Accepted.{IsAcceptedCertificate}
+use Rattle.live_safe.specs.Shadow.{shadow_of}
+use Rattle.checker.specs.Accepted.{IsAcceptedCertificate, IsShowable}
 use Rattle.engine.specs.Bounds.{IsClear}
 use Rattle.engine.specs.declared.finding.Reason.{Reason}
 use Rattle.engine.specs.declared.finding.Reason.TheVariants.{Budget, Depth, NoEvidence}
@@ -24,25 +24,52 @@ IsBacked m p (Safe c) = IsAcceptedCertificate m c × (c.property ≡ p)
 IsBacked m p (Unsafe s) = Shows m s × (property_of s ≡ p)
 IsBacked m p (Unknown reason) = Unit {0}
 
--- why nothing is known of the n-th bad literal: the budget has nothing left, no run of so many steps sets it, or no run
--- does, for which there is no certificate
-abbrev pub IsWhy : Parts → ℕ → Steps → Reason → Type 0
-IsWhy m n after Budget = after.left ≡ 0
-IsWhy m n after (Depth steps) = IsClear m n steps
-IsWhy m n after NoEvidence = IsSafe m n
+-- no stimulus of at most so many input lines shows a lasso of the justice property
+abbrev pub HasNoLasso : Parts → ℕ → ℕ → Type 0
+HasNoLasso m n most = (initial : List Bool) (lines : List (List Bool)) → length lines ≤ most → ShowsLasso m (stimulus.Violated (Justice n) initial lines) → ⊥
 
--- where nothing is known of a bad literal, the reason stands
+-- so far nothing violates the property: no run of so many steps, or no lasso of so many lines
+abbrev pub IsFreeOf : Parts → Property → ℕ → Type 0
+IsFreeOf m (Bad n) steps = IsClear m n steps
+IsFreeOf m (Justice n) steps = HasNoLasso m n steps
+
+-- why nothing is known of a property: the budget has nothing left, or nothing violates it so far; that there was no
+-- evidence is no reason
+abbrev pub IsWhy : Parts → Property → Steps → Reason → Type 0
+IsWhy m p after Budget = after.left ≡ 0
+IsWhy m p after (Depth steps) = IsFreeOf m p steps
+IsWhy m p after NoEvidence = ⊥
+
+-- where nothing is known, the reason stands
 abbrev pub IsMeant : Parts → Property → Steps → Verdict → Type 0
-IsMeant m (Bad n) after (Unknown reason) = IsWhy m n after reason
-IsMeant m (Bad n) after (Safe c) = Unit {0}
-IsMeant m (Bad n) after (Unsafe s) = Unit {0}
-IsMeant m (Justice n) after v = Unit {0}
+IsMeant m p after (Unknown reason) = IsWhy m p after reason
+IsMeant m p after (Safe c) = Unit {0}
+IsMeant m p after (Unsafe s) = Unit {0}
 
 -- the second circuit is the first with its n-th bad literal alone
 pub record IsAlone (m : Parts) (n : ℕ) (one : Parts) : Type 0 where
   pub bad : Lit
   pub named : slice_get m.bad n ≡ Some bad
   pub only : one ≡ only_bad m bad
+
+-- it is the shadow circuit of the n-th justice property, within the limit
+pub record IsShadow (m : Parts) (n : ℕ) (one : Parts) : Type 0 where
+  pub showable : IsShowable m (Justice n)
+  pub is : one ≡ shadow_of m n
+
+-- the circuit with one bad literal that engines are asked about
+abbrev pub IsAsked : Parts → Property → Parts → Type 0
+IsAsked m (Bad n) one = IsAlone m n one
+IsAsked m (Justice n) one = IsShadow m n one
+
+-- what a run of that circuit shows where it is one: the violation, or that of the shadow circuit
+abbrev pub IsViolation : Parts → Property → List Bool → List (List Bool) → Type 0
+IsViolation m (Bad n) initial inputs = Shows m (stimulus.Violated (Bad n) initial inputs)
+IsViolation m (Justice n) initial inputs = ShowsBad (shadow_of m n) (stimulus.Violated (Bad 0) initial inputs)
+
+-- a violation is answered
+abbrev pub IsUnsafe : Verdict → Type 0
+IsUnsafe v = (s : Stimulus) × (v ≡ Unsafe s)
 
 -- the stimulus that tells a verdict
 abbrev pub stimulus_of : Property → Verdict → Stimulus

@@ -1,20 +1,26 @@
 //! Asking one engine.
 
 ghost use Rattle.std.specs.Prelude.{◌≡◌, IfOk, IfErr};
-ghost use Rattle.checker.specs.Accepted.{HasProperty};
+ghost use Rattle.std.specs.List.{All};
+ghost use Rattle.checker.specs.Accepted.{HasProperty, IsAcceptedCertificate, IsGood, bad_of, circuit_of};
+ghost use Rattle.cnf.specs.Formulas.{bad_literal};
+ghost use Rattle.cnf.specs.Invariants.{IsInductive};
 ghost use Rattle.base.specs.Budget.{Spends};
-ghost use Rattle.graph.specs.declared.circuit.Property.TheVariants.{Bad};
 ghost use Rattle.stimulus.specs.Shown.{Shows};
-ghost use Rattle.stimulus.specs.declared.value.Stimulus.TheVariants.{Violated};
+ghost use Rattle.stimulus.specs.Texts.{property_of};
 ghost use Rattle.engine.specs.Findings.{IsForBad, IsSo};
-ghost use Rattle.verdict.specs.Causes.{HasCause};
-ghost use Rattle.verdict.specs.Verdicts.{IsAlone, IsBacked, IsMeant};
-ghost use Rattle.verdict.specs.declared.verdict.Verdict.TheVariants.{Unsafe};
+ghost use Rattle.verdict.specs.Causes.{HasCause, of_certify};
+ghost use Rattle.verdict.specs.Verdicts.{IsAsked, IsBacked, IsMeant, IsUnsafe, IsViolation};
+ghost use Rattle.verdict.specs.declared.verdict.Verdict.TheVariants.{Safe};
 
 use crate::decide_error::DecideError;
 use crate::verdict::Verdict;
+use certificate::Certificate;
+use certify::{Certified, CertifyError, certify};
+use checker::{CheckError, check};
 use engine::{Engine, EngineError, Finding, Reason};
-use graph::{Budget, Model, Property, Seq};
+use graph::{Budget, Lit, Model, Property, Seq};
+use live_safe::lasso_of;
 use std::alloc::Global;
 use stimulus::{JudgeError, Stimulus, judge};
 
@@ -33,24 +39,19 @@ fn ask(
     engine.find(alloc, circuit, budget)
 }
 
-/// The run as a stimulus for the bad literal at position `n`, where its replay shows the violation.
+/// The stimulus as evidence, where its replay shows the violation.
 fn judged(
     alloc: Global,
     model: &Model,
-    n: u32,
-    initial: Seq<bool>,
-    inputs: Seq<Seq<bool>>,
+    property: Property,
+    stimulus: Stimulus,
 ) -> Result<Verdict, DecideError>
-    requires there { HasProperty model.now (Bad n) }
-    ensures backed { IfOk result (IsBacked model.now (Bad n)) }
-    ensures shown { Shows model.now (Violated (Bad n) initial inputs) → IfOk result (λ v. v ≡ Unsafe (Violated (Bad n) initial inputs)) }
-    ensures refused { IfErr result (HasCause model.now (Bad n)) }
+    requires there { HasProperty model.now property }
+    requires named { property_of stimulus ≡ property }
+    ensures backed { IfOk result (IsBacked model.now property) }
+    ensures shown { Shows model.now stimulus → IfOk result IsUnsafe }
+    ensures refused { IfErr result (HasCause model.now property) }
 {
-    let stimulus = Stimulus::Violated {
-        property: Property::Bad(n),
-        initial,
-        inputs,
-    };
     match judge(alloc, model, &stimulus) {
         Ok(()) => Ok(Verdict::Unsafe(stimulus)),
         Err(JudgeError::OutOfMemory) => Err(DecideError::OutOfMemory),
@@ -58,27 +59,123 @@ fn judged(
     }
 }
 
-/// What one engine's answer says of the bad literal at position `n`, which stands alone in `circuit`.
+/// What comes of a run of the circuit that was asked about: a stimulus, which is judged. That of a
+/// shadow circuit tells of a lasso, where its lengths are right.
+fn ran(
+    alloc: Global,
+    model: &Model,
+    property: Property,
+    initial: Seq<bool>,
+    inputs: Seq<Seq<bool>>,
+) -> Result<Verdict, DecideError>
+    requires there { HasProperty model.now property }
+    ensures backed { IfOk result (IsBacked model.now property) }
+    ensures shown { IsViolation model.now property initial inputs → IfOk result IsUnsafe }
+    ensures refused { IfErr result (HasCause model.now property) }
+{
+    match property {
+        Property::Bad(_) => {
+            let stimulus = Stimulus::Violated {
+                property,
+                initial,
+                inputs,
+            };
+            judged(alloc, model, property, stimulus)
+        }
+        Property::Justice(n) => {
+            match lasso_of(alloc, model, n, initial.as_slice(), inputs.as_slice()) {
+                Ok(Some(lasso)) => judged(alloc, model, property, lasso),
+                Ok(None) => Ok(Verdict::Unknown(Reason::NoEvidence)),
+                Err(_) => Err(DecideError::OutOfMemory),
+            }
+        }
+    }
+}
+
+/// The certificate of the property, where the checker accepts it.
+fn checked(
+    alloc: Global,
+    model: &Model,
+    property: Property,
+    certificate: Certificate,
+) -> Result<Verdict, DecideError>
+    requires there { HasProperty model.now property }
+    requires named { certificate.property ≡ property }
+    ensures backed { IfOk result (IsBacked model.now property) }
+    ensures accepted { IsAcceptedCertificate model.now certificate → IfOk result (λ v. v ≡ Safe certificate) }
+    ensures refused { IfErr result (HasCause model.now property) }
+{
+    match check(alloc, model, &certificate) {
+        Ok(()) => Ok(Verdict::Safe(certificate)),
+        Err(CheckError::OutOfMemory) => Err(DecideError::OutOfMemory),
+        Err(CheckError::Limit) => Err(DecideError::Limit),
+        Err(_) => Ok(Verdict::Unknown(Reason::NoEvidence)),
+    }
+}
+
+/// What comes of clauses that are said to be an invariant which upholds the property: a certificate,
+/// where each of their cases is refuted and the checker accepts it.
+fn certified(
+    alloc: Global,
+    model: &Model,
+    property: Property,
+    invariant: &[Seq<Lit>],
+    budget: &mut Budget,
+) -> Result<Verdict, DecideError>
+    requires there { HasProperty model.now property }
+    ensures spends { Spends budget.old budget.new }
+    ensures backed { IfOk result (IsBacked model.now property) }
+    ensures meant { All (IsGood (circuit_of model.now property)) invariant.now → IsInductive (circuit_of model.now property) invariant.now (bad_literal (circuit_of model.now property) (bad_of property)) → IfOk result (IsMeant model.now property budget.new) }
+    ensures refused { IfErr result (HasCause model.now property) }
+{
+    match certify(alloc, model, property, invariant, budget) {
+        Ok(Certified::Certificate(certificate)) => checked(alloc, model, property, certificate),
+        Ok(Certified::NotInvariant) => Ok(Verdict::Unknown(Reason::NoEvidence)),
+        Ok(Certified::Spent) => Ok(Verdict::Unknown(Reason::Budget)),
+        Err(error) => refused(error),
+    }
+}
+
+/// What comes of clauses of which no certificate is made. A fault of theirs only makes them no
+/// evidence.
+fn refused(error: CertifyError) -> Result<Verdict, DecideError>
+    ensures { result ≡ of_certify error }
+{
+    match error {
+        CertifyError::Limit => Err(DecideError::Limit),
+        CertifyError::OutOfMemory => Err(DecideError::OutOfMemory),
+        CertifyError::NoProperty(_) => Ok(Verdict::Unknown(Reason::NoEvidence)),
+        CertifyError::NotLatch { .. } => Ok(Verdict::Unknown(Reason::NoEvidence)),
+        CertifyError::Repeated { .. } => Ok(Verdict::Unknown(Reason::NoEvidence)),
+    }
+}
+
+/// What one engine's answer says of the property, when it is asked about `circuit`.
 pub fn hear(
     engine: &mut Box<dyn Engine>,
     alloc: Global,
     model: &Model,
-    n: u32,
+    property: Property,
     circuit: &Model,
     budget: &mut Budget,
 ) -> Result<Verdict, DecideError>
-    requires alone { IsAlone model.now n circuit.now }
+    requires asked { IsAsked model.now property circuit.now }
     ensures spends { Spends budget.old budget.new }
     ensures stays { honest engine.old → honest engine.new }
-    ensures backed { IfOk result (IsBacked model.now (Bad n)) }
-    ensures meant { honest engine.old → IfOk result (IsMeant model.now (Bad n) budget.new) }
-    ensures refused { IfErr result (HasCause model.now (Bad n)) }
+    ensures backed { IfOk result (IsBacked model.now property) }
+    ensures meant { honest engine.old → IfOk result (IsMeant model.now property budget.new) }
+    ensures refused { IfErr result (HasCause model.now property) }
 {
-    // it is well formed, which an invariant needs
-    circuit.parts();
+    model.parts();
     match ask(engine, alloc, circuit, budget)? {
-        Finding::Run { initial, inputs } => judged(alloc, model, n, initial, inputs),
-        Finding::Invariant(_) => Ok(Verdict::Unknown(Reason::NoEvidence)),
+        Finding::Run { initial, inputs } => ran(alloc, model, property, initial, inputs),
+        Finding::Invariant(clauses) => certified(
+            alloc,
+            model,
+            property,
+            clauses.as_slice(),
+            budget,
+        ),
         Finding::Unknown(reason) => Ok(Verdict::Unknown(reason)),
     }
 }

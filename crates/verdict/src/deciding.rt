@@ -1,13 +1,12 @@
 //! Asking engines for a verdict.
 
-ghost use Rattle.std.specs.Prelude.{◌≡◌, ◌≢◌, ◌<◌, IfOk, IfErr, MatchResult, OnOk, length};
+ghost use Rattle.std.specs.Prelude.{◌≡◌, ◌<◌, IfOk, IfErr, MatchResult, OnOk, length};
 ghost use Rattle.std.specs.List.{All};
 ghost use Rattle.base.specs.Budget.{Spends};
-ghost use Rattle.checker.specs.Accepted.{HasProperty};
+ghost use Rattle.checker.specs.Accepted.{HasProperty, circuit_of};
 ghost use Rattle.engine.specs.declared.finding.Reason.TheVariants.{NoEvidence};
-ghost use Rattle.graph.specs.declared.circuit.Property.TheVariants.{Bad};
 ghost use Rattle.verdict.specs.Causes.{HasCause};
-ghost use Rattle.verdict.specs.Verdicts.{IsAlone, IsBacked, IsMeant};
+ghost use Rattle.verdict.specs.Verdicts.{IsAsked, IsBacked, IsMeant};
 ghost use Rattle.verdict.specs.declared.decide_error.DecideError.TheVariants.{Limit};
 ghost use Rattle.verdict.specs.declared.verdict.Verdict.TheVariants.{Unknown};
 
@@ -17,28 +16,55 @@ use crate::reasons::weightier;
 use crate::verdict::Verdict;
 use engine::{Engine, Reason};
 use graph::{Budget, Model, Property};
+use live_safe::{LiveError, to_safety};
 use std::alloc::Global;
 
-/// Asks each engine about the bad literal at position `n`, which stands alone in `circuit`, up to
-/// the first whose evidence stands.
+/// The circuit that engines are asked about: with the bad literal alone, or the shadow circuit of the
+/// justice property.
+fn circuit_for(alloc: Global, model: &Model, property: Property) -> Result<Model, DecideError>
+    ensures asked { IfOk result (IsAsked model.now property) }
+    ensures exists { OnOk result (HasProperty model.now property) }
+    ensures refused { IfErr result (HasCause model.now property) }
+    ensures large { IfErr result (λ e. e ≡ Limit → 4194303 < (circuit_of model.now property).max_var) }
+{
+    match property {
+        Property::Bad(n) => {
+            if n as usize >= model.bad().len() {
+                return Err(DecideError::NoProperty(n));
+            }
+            let Ok(circuit) = model.for_bad(alloc, n) else {
+                return Err(DecideError::OutOfMemory);
+            };
+            Ok(circuit)
+        }
+        Property::Justice(n) => match to_safety(alloc, model, n) {
+            Ok(shadow) => Ok(shadow),
+            Err(LiveError::NoProperty(_)) => Err(DecideError::NoProperty(n)),
+            Err(LiveError::Limit) => Err(DecideError::Limit),
+            Err(LiveError::OutOfMemory) => Err(DecideError::OutOfMemory),
+        },
+    }
+}
+
+/// Asks each engine about the property, by `circuit`, up to the first whose evidence stands.
 fn hear_each(
     alloc: Global,
     model: &Model,
-    n: u32,
+    property: Property,
     circuit: &Model,
     engines: &mut [Box<dyn Engine>],
     budget: &mut Budget,
 ) -> Result<Verdict, DecideError>
-    requires alone { IsAlone model.now n circuit.now }
+    requires asked { IsAsked model.now property circuit.now }
     ensures spends { Spends budget.old budget.new }
-    ensures backed { IfOk result (IsBacked model.now (Bad n)) }
-    ensures honest { All (λ e. honest e) engines.old → 0 < length engines.old → IfOk result (IsMeant model.now (Bad n) budget.new) }
-    ensures refused { IfErr result (HasCause model.now (Bad n)) }
-    ensures none { length engines.old ≡ 0 → (budget.new ≡ budget.old) × MatchResult result (λ v. v ≡ Unknown NoEvidence) (λ e. e ≢ Limit) }
+    ensures backed { IfOk result (IsBacked model.now property) }
+    ensures honest { All (λ e. honest e) engines.old → 0 < length engines.old → IfOk result (IsMeant model.now property budget.new) }
+    ensures refused { IfErr result (HasCause model.now property) }
+    ensures none { length engines.old ≡ 0 → (budget.new ≡ budget.old) × MatchResult result (λ v. v ≡ Unknown NoEvidence) (λ e. e ≡ Limit → ⊥) }
 {
     let mut told = Reason::NoEvidence;
     for engine in engines.iter_mut() {
-        match hear(engine, alloc, model, n, circuit, budget)? {
+        match hear(engine, alloc, model, property, circuit, budget)? {
             Verdict::Unknown(found) => told = weightier(told, found),
             verdict => return Ok(verdict),
         }
@@ -46,17 +72,19 @@ fn hear_each(
     Ok(Verdict::Unknown(told))
 }
 
-/// Decides a property of a circuit by asking each engine once, in order, about its bad literal
-/// alone. An engine is not believed: a run that it finds is answered only where its replay shows
-/// the violation, and is dropped otherwise. An invariant is dropped, since no certificate is made
-/// of one yet: `Safe` is not answered. A refusal of an engine ends the call.
+/// Decides a property of a circuit by asking each engine once, in order: about its bad literal
+/// alone, or for a justice property about the bad literal of its shadow circuit. An engine is not
+/// believed: a run that it finds is answered only where the replay of its stimulus shows the violation,
+/// and an invariant only where a certificate is made of it that the checker accepts; what fails is
+/// dropped, and the next engine asked. A refusal of an engine ends the call. A shadow circuit with too
+/// many variables is refused.
 ///
-/// Where no engine has evidence, the reason that is told is the budget's where an engine told that,
-/// else the greatest depth that one told, else that there was no evidence. Among honest engines the
-/// last means that one of them had an invariant, so that the property holds, for which there is no
-/// certificate yet. A justice property counts as none for now.
+/// Where no engine has evidence, the reason that is told is the budget's where an engine or the
+/// making of a certificate told that, else the greatest depth that one told, else that there was no
+/// evidence, which is never so where all engines that were asked are honest.
 ///
-/// Beside what the engines cost, it takes a copy of the circuit and one replay for each run.
+/// Beside what the engines cost, it takes a copy of the circuit, one replay for each run, and for
+/// each invariant its certificate and the check of it.
 pub fn decide(
     alloc: Global,
     model: &Model,
@@ -72,18 +100,9 @@ pub fn decide(
     // What is answered is of a property that the circuit has, and what is refused as none is not.
     ensures exists { OnOk result (HasProperty model.now property) }
     ensures refused { IfErr result (HasCause model.now property) }
-    // Without engines nothing is spent, nothing is known, and no limit is met.
-    ensures none { length engines.old ≡ 0 → (budget.new ≡ budget.old) × MatchResult result (λ v. v ≡ Unknown NoEvidence) (λ e. e ≢ Limit) }
+    // Without engines nothing is spent, nothing is known, and no limit is met but that of the shadow circuit.
+    ensures none { length engines.old ≡ 0 → (budget.new ≡ budget.old) × MatchResult result (λ v. v ≡ Unknown NoEvidence) (λ e. e ≡ Limit → 4194303 < (circuit_of model.now property).max_var) }
 {
-    let position = match property {
-        Property::Bad(position) => position,
-        Property::Justice(position) => return Err(DecideError::NoProperty(position)),
-    };
-    if position as usize >= model.bad().len() {
-        return Err(DecideError::NoProperty(position));
-    }
-    let Ok(circuit) = model.for_bad(alloc, position) else {
-        return Err(DecideError::OutOfMemory);
-    };
-    hear_each(alloc, model, position, &circuit, engines, budget)
+    let circuit = circuit_for(alloc, model, property)?;
+    hear_each(alloc, model, property, &circuit, engines, budget)
 }

@@ -1,7 +1,8 @@
-//! What no clause says: which runs are believed, and that calls succeed where there is memory.
+//! What no clause says: which runs and invariants are believed, and that calls succeed where there is memory.
 
 use crate::{Verdict, decide, show};
 use certificate::Certificate;
+use checker::check;
 use engine::{Engine, EngineError, Finding, Reason};
 use graph::{Budget, Latch, Lit, Model, Parts, Property, Seq, ToVec};
 use std::alloc::{AllocError, Global};
@@ -173,6 +174,66 @@ fn unasked(alloc: Global, property: Property) -> Result<(u8, u64), Fail> {
 fn without_engines(rt: HostRuntime) -> Result<(), Fail> {
     for (property, wanted) in &UNASKED {
         assert_eq!(rt; unasked(rt.alloc(), *property)?, *wanted);
+    }
+    Ok(())
+}
+
+/// An engine that claims that one clause of one literal is an invariant.
+#[derive(Drop)]
+struct Claims {
+    literal: u32,
+}
+
+impl Engine for Claims {
+    ghost honest = { λ _. ⊥ };
+
+    fn find(
+        &mut self,
+        alloc: Global,
+        _circuit: &Model,
+        _budget: &mut Budget,
+    ) -> Result<Finding, EngineError> {
+        let mut clauses = Seq::new(alloc);
+        clauses.push(Seq::from_slice(alloc, &[Lit(self.literal)])?)?;
+        Ok(Finding::Invariant(clauses))
+    }
+}
+
+/// A latch by its next literal, the literal that is claimed to hold always, the budget, and what is
+/// answered: the status, and whether there is a certificate of that clause.
+static CLAIMS: [(u32, u32, u64, (u8, bool)); 5] = [
+    (2, 3, 1_000, (0, true)),
+    (2, 3, 0, (2, false)),
+    (3, 3, 1_000, (2, false)),
+    (2, 2, 1_000, (2, false)),
+    (2, 1, 1_000, (2, false)),
+];
+
+/// Whether there is a certificate that the checker accepts.
+fn is_accepted(alloc: Global, model: &Model, verdict: &Verdict) -> bool {
+    match verdict {
+        Verdict::Safe(certificate) => check(alloc, model, certificate).is_ok(),
+        _ => false,
+    }
+}
+
+/// The verdict's status, and whether it has a certificate that the checker accepts.
+fn claimed(alloc: Global, next: u32, literal: u32, steps: u64) -> Result<(u8, bool), Fail> {
+    let model = Model::from_parts(alloc, latch(alloc, next)?)?;
+    let mut engines: Vec<Box<dyn Engine>> = Vec::new(alloc);
+    let engine: Box<dyn Engine> = Box::new(alloc, Claims { literal })?;
+    engines.push(engine)?;
+    let mut budget = Budget::new(steps);
+    let property = Property::Bad(0);
+    let verdict = decide(alloc, &model, property, engines.as_mut_slice(), &mut budget)?;
+    let status = show(property, &verdict, &mut ToVec::new(alloc))?;
+    Ok((status, is_accepted(alloc, &model, &verdict)))
+}
+
+#[test]
+fn invariants_are_certified(rt: HostRuntime) -> Result<(), Fail> {
+    for (next, literal, steps, wanted) in &CLAIMS {
+        assert_eq!(rt; claimed(rt.alloc(), *next, *literal, *steps)?, *wanted);
     }
     Ok(())
 }

@@ -1,44 +1,42 @@
 use Rattle.std.proofs.Common.{rules, length, arith}
 use Rattle.lrat.proofs.Fit.{if_err}
 use Rattle.cnf.specs.Formulas.{bad_literal}
-use Rattle.checker.specs.Accepted.{cases, RefuteBelow, IsAcceptedCertificate}
-use Rattle.checker.specs.Causes.{HasCause, IsSectionFault}
+use Rattle.checker.specs.Accepted.{cases, RefuteBelow, IsAcceptedFor}
+use Rattle.checker.specs.Causes.{HasCauseFor, IsSectionFault}
 use Rattle.checker.proofs.Good.{invariant_from}
 use Rattle.checker.proofs.Accepted.{if_on_ok, IsOpened, accepted_from, section_cause}
 use Rattle.checker.proofs.acceptance.examine.Goals as goal
 
 pub check_sections-requires-clause-invariant : goal.check_sections-requires-clause-invariant
 check_sections-requires-clause-invariant c =
-    invariant_from c.args.model.now c.as_slice-invariant.result.now c.parts.ensures.well_formed (let few = c.if-invariant-gt-MOST_CLAUSES.false in omega arith) c.in_ok-check_clauses.ensures.good
+    invariant_from c.args.circuit.now c.as_slice-invariant.result.now c.parts.ensures.well_formed (let few = c.if-invariant-gt-MOST_CLAUSES.false in omega arith) c.in_ok-check_clauses.ensures.good
 
 pub returns-clause-accepted : goal.returns-clause-accepted
 returns-clause-accepted c =
-    let m = c.args.model.now in
+    let m = c.args.circuit.now in
     let inv = c.as_slice-invariant.result.now in
     let ps = c.as_slice-sections.result.now in
-    let opened : IsOpened m c.args.certificate.now c.in-Bad.n inv ps = record {
-      is_bad = c.in-Bad.is;
+    let opened : IsOpened m c.args.certificate.now c.args.bad inv ps = record {
       is_inv = c.as_slice-invariant.ensures;
       is_ps = c.as_slice-sections.ensures;
-      exists = rw c.bad.ensures at c.if-bad.false;
+      exists = c.requires;
       few = let few = c.if-invariant-gt-MOST_CLAUSES.false in omega arith;
       count = search rules;
     } in
-    if_on_ok {P = RefuteBelow (cases m inv (bad_literal m c.in-Bad.n)) ps (length ps)} {Q = IsAcceptedCertificate m c.args.certificate.now} _ c.check_sections.ensures.ok
-    (λ refute. accepted_from m c.args.certificate.now c.in-Bad.n inv ps opened c.in_ok-check_clauses.ensures.good refute)
+    if_on_ok {P = RefuteBelow (cases m inv (bad_literal m c.args.bad)) ps (length ps)} {Q = IsAcceptedFor m c.args.bad c.args.certificate.now} _ c.check_sections.ensures.ok
+    (λ refute. accepted_from m c.args.certificate.now c.args.bad inv ps opened c.in_ok-check_clauses.ensures.good refute)
 
 pub returns-clause-refused : goal.returns-clause-refused
 returns-clause-refused c =
-    let m = c.args.model.now in
+    let m = c.args.circuit.now in
     let inv = c.as_slice-invariant.result.now in
     let ps = c.as_slice-sections.result.now in
-    let opened : IsOpened m c.args.certificate.now c.in-Bad.n inv ps = record {
-      is_bad = c.in-Bad.is;
+    let opened : IsOpened m c.args.certificate.now c.args.bad inv ps = record {
       is_inv = c.as_slice-invariant.ensures;
       is_ps = c.as_slice-sections.ensures;
-      exists = rw c.bad.ensures at c.if-bad.false;
+      exists = c.requires;
       few = let few = c.if-invariant-gt-MOST_CLAUSES.false in omega arith;
       count = search rules;
     } in
-    if_err (IsSectionFault (cases m inv (bad_literal m c.in-Bad.n)) ps) (HasCause m c.args.certificate.now) _
-    (λ e fault. section_cause m c.args.certificate.now c.in-Bad.n inv ps opened c.in_ok-check_clauses.ensures.good e fault) c.check_sections.ensures.err
+    if_err (IsSectionFault (cases m inv (bad_literal m c.args.bad)) ps) (HasCauseFor m c.args.bad c.args.certificate.now) _
+    (λ e fault. section_cause m c.args.certificate.now c.args.bad inv ps opened c.in_ok-check_clauses.ensures.good e fault) c.check_sections.ensures.err

@@ -1,6 +1,3 @@
-use Rattle.std.proofs.Common.{◌≡◌, true, false}
-use Rattle.std.specs.Prelude.{IsTrue}
-use Rattle.checker.specs.Lines.{Tells}
 use Rattle.checker.specs.Verdicts.{Accepts, IsRefusal}
 use Rattle.checker.specs.declared.line.Question.TheVariants.{Safe}
 use Rattle.checker.proofs.Said.{told_yes, told_no, told_exact, told_begun, ok_then, err_then}

@@ -1,11 +1,20 @@
-use Rattle.verdict.proofs.Heard.{run_meant, invariant_meant, unknown_meant}
+use Rattle.verdict.proofs.Heard.{asked_for_bad, asked_there, run_meant, invariant_meant, unknown_meant}
 use Rattle.verdict.proofs.asking.hear.Goals as goal
 
+pub ask-requires : goal.ask-requires
+ask-requires g c = asked_for_bad _ _ _ c.requires.asked
+
+pub ran-requires : goal.ran-requires
+ran-requires g c = record { there = asked_there _ _ _ c.requires.asked }
+
+pub certified-requires : goal.certified-requires
+certified-requires g c = record { there = asked_there _ _ _ c.requires.asked }
+
 pub returns-in-Run-clause-meant : goal.returns-in-Run-clause-meant
-returns-in-Run-clause-meant g c honest = run_meant _ _ _ c.ask.new.budget _ _ _ _ c.requires.alone c.in-Run.is (c.in_ok-initial.ensures.so honest) c.judged.ensures.shown
+returns-in-Run-clause-meant g c honest = run_meant _ _ _ c.ask.new.budget _ _ _ _ c.requires.asked c.in-Run.is (c.in_ok-initial.ensures.so honest) c.ran.ensures.shown
 
 pub returns-in-Invariant-clause-meant : goal.returns-in-Invariant-clause-meant
-returns-in-Invariant-clause-meant g c honest = invariant_meant _ _ _ c.ask.new.budget _ _ c.requires.alone c.parts.ensures.well_formed c.in-Invariant.is (c.in_ok-initial.ensures.so honest)
+returns-in-Invariant-clause-meant g c honest = invariant_meant _ _ _ c.ask.new.budget c.certified.new.budget _ _ _ _ c.requires.asked c.in-Invariant.is c.as_slice.ensures (c.in_ok-initial.ensures.so honest) c.certified.ensures.meant
 
-pub returns-clause-meant : goal.returns-clause-meant
-returns-clause-meant g c honest = unknown_meant _ _ _ c.ask.new.budget _ _ c.requires.alone c.in-Unknown.is (c.in_ok-initial.ensures.so honest)
+pub returns-in-Unknown-clause-meant : goal.returns-in-Unknown-clause-meant
+returns-in-Unknown-clause-meant g c honest = unknown_meant _ _ _ c.ask.new.budget _ _ c.parts.ensures.well_formed c.requires.asked c.in-Unknown.is (c.in_ok-initial.ensures.so honest)

@@ -10,5 +10,5 @@ invariant-loop-engine g l =
       spends : Spends l.initial.budget l.budget;
       none : l.engine-index ≡ 0 → (l.budget ≡ l.initial.budget) × (l.told ≡ NoEvidence);
       stays : All (λ b. (goal.Engine-dyn g (b.vtable, b.value)).honest b.value) l.initial.engines → All (λ b. (goal.Engine-dyn g (b.vtable, b.value)).honest b.value) l.engines;
-      meant : All (λ b. (goal.Engine-dyn g (b.vtable, b.value)).honest b.value) l.initial.engines → 0 < l.engine-index → IsWhy l.model l.n l.budget l.told;
+      meant : All (λ b. (goal.Engine-dyn g (b.vtable, b.value)).honest b.value) l.initial.engines → 0 < l.engine-index → IsWhy l.model l.property l.budget l.told;
     }

@@ -1,0 +1,50 @@
+//! Why a command was not done.
+
+use cli::CliError;
+use std::io;
+use std::process::ExitCode;
+
+/// The status of a command that was done.
+pub const DONE: u8 = 0;
+/// The status of a command that failed.
+pub const FAULT: u8 = 3;
+/// The number of want of memory.
+const OUT_OF_MEMORY: u8 = 20;
+/// The number of a device's fault.
+const DEVICE: u8 = 21;
+
+/// Why a command was not done.
+#[derive(Clone, Copy, Debug)]
+pub enum Stop {
+    /// A word asks for nothing that there is.
+    BadArgument,
+    /// A call refused.
+    Refused(CliError),
+}
+
+impl From<CliError> for Stop {
+    fn from(e: CliError) -> Stop {
+        Stop::Refused(e)
+    }
+}
+
+/// The fault of a file that is not opened, made or finished.
+pub fn unopened(error: &io::Error) -> Stop {
+    Stop::Refused(match error.kind() {
+        io::ErrorKind::OutOfMemory => CliError::OutOfMemory,
+        _ => CliError::Device,
+    })
+}
+
+/// Tells why a command was not done.
+pub fn tell(rt: &HostRuntime, stop: Stop) -> ExitCode {
+    let _ = match stop {
+        Stop::BadArgument => eprintln!(rt; "aigmc: bad argument"),
+        Stop::Refused(error) => match error.number() {
+            OUT_OF_MEMORY => eprintln!(rt; "aigmc: out of memory"),
+            DEVICE => eprintln!(rt; "aigmc: read or write failed"),
+            number => eprintln!(rt; "aigmc: fault {number} at {}", error.place()),
+        },
+    };
+    ExitCode::from(FAULT)
+}

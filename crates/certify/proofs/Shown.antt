@@ -1,0 +1,59 @@
+-- What is said of a property's circuit is said of the property.
+use Rattle.std.proofs.Common.{◌≡◌, List, Result, Ok, Err, IfOk, IfErr, inr, sym, subst}
+use Rattle.base.specs.Budget.{Steps}
+use Rattle.graph.specs.declared.circuit.Lit.{Lit}
+use Rattle.graph.specs.declared.circuit.Property.{Property}
+use Rattle.graph.specs.declared.parts.Parts.{Parts}
+use Rattle.cnf.specs.Formulas.{bad_literal}
+use Rattle.cnf.specs.Invariants.{IsInductive}
+use Rattle.certificate.specs.declared.certificate.Certificate.{Certificate}
+use Rattle.checker.specs.Accepted.{circuit_of, bad_of, IsShowable, IsAcceptedFor, IsAcceptedCertificate}
+use Rattle.certify.specs.Causes.{HasCause, HasCauseFor}
+use Rattle.certify.specs.Outcomes.{IsCertified, IsCertifiedFor}
+use Rattle.certify.specs.declared.certified.Certified.{Certified}
+use Rattle.certify.specs.declared.certified.Certified.TheVariants as outcome
+use Rattle.certify.specs.declared.certify_error.CertifyError.{CertifyError}
+use Rattle.certify.specs.declared.certify_error.CertifyError.TheVariants.{NoProperty, Limit, NotLatch, Repeated, OutOfMemory}
+use Rattle.certify.proofs.Stopped.{not_inductive}
+
+accepted_named : (m : Parts) (p : Property) (c : Certificate) → c.property ≡ p → IsShowable m p → IsAcceptedFor (circuit_of m p) (bad_of p) c → IsAcceptedCertificate m c
+accepted_named m p c is showable accepted =
+    let named : p ≡ c.property = sym is in
+    record {
+      showable = subst (IsShowable m) named showable;
+      accepted = subst (λ (r : Property). IsAcceptedFor (circuit_of m r) (bad_of r) c) named accepted;
+    }
+
+certified_of : (m : Parts) (p : Property) (inv : List (List Lit)) (after : Steps) (r : Certified) → IsShowable m p →
+    IsCertifiedFor (circuit_of m p) (bad_of p) p inv after r → IsCertified m p inv after r
+certified_of m p inv after (outcome.Certificate c) showable is = (is.0, is.1, accepted_named m p c is.0 showable is.2)
+certified_of m p inv after outcome.NotInvariant showable is = is
+certified_of m p inv after outcome.Spent showable is = is
+
+pub certified : (m : Parts) (p : Property) (inv : List (List Lit)) (after : Steps) (r : Result Certified CertifyError) → IsShowable m p →
+    IfOk r (IsCertifiedFor (circuit_of m p) (bad_of p) p inv after) → IfOk r (IsCertified m p inv after)
+certified m p inv after (Ok r) showable is = certified_of m p inv after r showable is
+certified m p inv after (Err e) showable is = tt
+
+cause_of : (m : Parts) (p : Property) (inv : List (List Lit)) (e : CertifyError) → IsShowable m p → HasCauseFor (circuit_of m p) inv e → HasCause m p inv e
+cause_of m p inv (NoProperty n) showable cause = absurd cause
+cause_of m p inv Limit showable cause = inr (showable, cause)
+cause_of m p inv (NotLatch k) showable cause = (showable, cause)
+cause_of m p inv (Repeated k) showable cause = (showable, cause)
+cause_of m p inv OutOfMemory showable cause = showable.exists
+
+pub refused : (m : Parts) (p : Property) (inv : List (List Lit)) (r : Result Certified CertifyError) → IsShowable m p →
+    IfErr r (HasCauseFor (circuit_of m p) inv) → IfErr r (HasCause m p inv)
+refused m p inv (Ok r) showable cause = tt
+refused m p inv (Err e) showable cause = cause_of m p inv e showable cause
+
+honest_of : (m : Parts) (p : Property) (inv : List (List Lit)) (after : Steps) (r : Certified) → IsCertified m p inv after r → r ≡ outcome.NotInvariant →
+    IsInductive (circuit_of m p) inv (bad_literal (circuit_of m p) (bad_of p)) → ⊥
+honest_of m p inv after r is named inductive =
+    not_inductive (circuit_of m p) inv (bad_literal (circuit_of m p) (bad_of p)) (subst (IsCertified m p inv after) named is) inductive
+
+-- an invariant is never called none
+pub honest : (m : Parts) (p : Property) (inv : List (List Lit)) (after : Steps) (r : Result Certified CertifyError) → IfOk r (IsCertified m p inv after) →
+    IfOk r (λ x. x ≡ outcome.NotInvariant → IsInductive (circuit_of m p) inv (bad_literal (circuit_of m p) (bad_of p)) → ⊥)
+honest m p inv after (Ok r) is = honest_of m p inv after r is
+honest m p inv after (Err e) is = tt

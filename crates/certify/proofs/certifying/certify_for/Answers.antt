@@ -1,0 +1,15 @@
+use Rattle.std.proofs.Common.{refl}
+use Rattle.checker.proofs.Good.{invariant_from}
+use Rattle.certify.proofs.Pairs.{accepted}
+use Rattle.certify.proofs.certifying.certify_for.Goals as goal
+
+pub prove_cases-requires-clause-invariant : goal.prove_cases-requires-clause-invariant
+prove_cases-requires-clause-invariant c =
+    invariant_from c.args.circuit.now c.args.invariant.now c.parts.ensures.well_formed c.in_ok-examine.ensures.few c.in_ok-examine.ensures.good
+
+pub returns-in-Ok-clause-certified : goal.returns-in-Ok-clause-certified
+returns-in-Ok-clause-certified c = (
+  refl,
+  c.in_ok-copy.ensures,
+  accepted c.args.circuit.now _ c.args.bad c.args.invariant.now c.requires c.in_ok-copy.ensures c.in_ok-examine.ensures.few c.in_ok-examine.ensures.good c.in-Ok.ensures.proved,
+)

@@ -1,0 +1,5 @@
+pub mod Causes
+pub mod Halts
+pub mod Numbers
+pub mod Outcomes
+pub mod Sections

@@ -1,0 +1,62 @@
+//! Why nothing came of clauses.
+
+ghost use Rattle.std.specs.Prelude.{◌≡◌};
+ghost use Rattle.certify.specs.Numbers.{number_of, place_of};
+ghost use Rattle.certify.specs.declared.certify_error.CertifyError.TheVariants.{OutOfMemory};
+
+use std::alloc::AllocError;
+use thiserror::Error;
+
+/// Why nothing came of the clauses.
+#[derive(Clone, Copy, Debug, PartialEq, Eq, Error)]
+pub enum CertifyError {
+    /// the circuit has no property of this position
+    #[error("there is no property {0}")]
+    NoProperty(u32),
+    /// the clauses are more than a certificate may have, or a solver has used up its ids
+    #[error("over a limit")]
+    Limit,
+    /// the clause, from 0, has a literal that is not a latch's
+    #[error("clause {clause}: a literal is not a latch's")]
+    NotLatch { clause: u64 },
+    /// the clause, from 0, has a literal that is repeated or opposed
+    #[error("clause {clause}: a literal is repeated or opposed")]
+    Repeated { clause: u64 },
+    /// want of memory
+    #[error("out of memory")]
+    OutOfMemory,
+}
+
+impl From<AllocError> for CertifyError {
+    ghost from_gives = { λ _ e. e ≡ OutOfMemory };
+
+    fn from(_e: AllocError) -> CertifyError {
+        CertifyError::OutOfMemory
+    }
+}
+
+impl CertifyError {
+    /// The refusal's number.
+    pub fn number(self) -> u8
+        ensures { result ≡ number_of self }
+    {
+        match self {
+            CertifyError::Limit => 4,
+            CertifyError::OutOfMemory => 20,
+            CertifyError::NoProperty(_) => 30,
+            CertifyError::NotLatch { .. } => 32,
+            CertifyError::Repeated { .. } => 33,
+        }
+    }
+
+    /// The refusal's place: the property's position, or the clause; else 0.
+    pub fn place(self) -> u64
+        ensures { result ≡ place_of self }
+    {
+        match self {
+            CertifyError::NoProperty(position) => u64::from(position),
+            CertifyError::NotLatch { clause } | CertifyError::Repeated { clause } => clause,
+            CertifyError::Limit | CertifyError::OutOfMemory => 0,
+        }
+    }
+}

@@ -1,0 +1,137 @@
+//! From clauses to a certificate.
+
+ghost use Rattle.std.specs.Prelude.{◌≡◌, ◌<◌, length, IfErr, IfOk};
+ghost use Rattle.base.specs.Budget.{Spends};
+ghost use Rattle.graph.specs.declared.circuit.Property.TheVariants.{Bad, Justice};
+ghost use Rattle.cnf.specs.Formulas.{bad_literal};
+ghost use Rattle.cnf.specs.Invariants.{IsInductive};
+ghost use Rattle.checker.specs.Accepted.{circuit_of, bad_of};
+ghost use Rattle.certify.specs.Causes.{HasCause, HasCauseFor, IsUnspent};
+ghost use Rattle.certify.specs.Outcomes.{IsCertified, IsCertifiedFor};
+ghost use Rattle.certify.specs.declared.certified.Certified.TheVariants.{NotInvariant};
+
+use crate::certified::Certified;
+use crate::certify_error::CertifyError;
+use crate::examining::examine;
+use crate::halt::Halt;
+use crate::proving::prove_cases;
+use base::Budget;
+use certificate::Certificate;
+use graph::{Lit, Model, Property, Seq};
+use live_safe::{LiveError, to_safety};
+use std::alloc::{AllocError, Global};
+
+/// The clauses, in memory of their own.
+fn copied(alloc: Global, invariant: &[Seq<Lit>]) -> Result<Seq<Seq<Lit>>, AllocError>
+    ensures { IfOk result (λ copy. copy ≡ invariant.now) }
+{
+    let mut copy = Seq::new(alloc);
+    for clause in invariant {
+        copy.push(Seq::from_slice(alloc, clause.as_slice())?)?;
+    }
+    Ok(copy)
+}
+
+/// A certificate of the property by clauses about the circuit's bad literal at this position.
+fn certify_for(
+    alloc: Global,
+    circuit: &Model,
+    bad: u32,
+    property: Property,
+    invariant: &[Seq<Lit>],
+    budget: &mut Budget,
+) -> Result<Certified, CertifyError>
+    requires { bad < length circuit.now.bad }
+    ensures spends { Spends budget.old budget.new }
+    ensures certified { IfOk result (IsCertifiedFor circuit.now bad property invariant.now budget.new) }
+    ensures refused { IfErr result (HasCauseFor circuit.now invariant.now) }
+    ensures unspent { IfErr result (IsUnspent budget.old budget.new) }
+{
+    examine(alloc, circuit, invariant)?;
+    let copy = copied(alloc, invariant)?;
+    circuit.parts();
+    match prove_cases(alloc, circuit, invariant, bad, budget) {
+        Ok(sections) => Ok(Certified::Certificate(Certificate {
+            property,
+            invariant: copy,
+            sections,
+        })),
+        Err(Halt::NotInvariant) => Ok(Certified::NotInvariant),
+        Err(Halt::Spent) => Ok(Certified::Spent),
+        Err(Halt::Limit) => Err(CertifyError::Limit),
+        Err(Halt::OutOfMemory) => Err(CertifyError::OutOfMemory),
+    }
+}
+
+/// A certificate of the bad literal at position `n`.
+fn certify_bad(
+    alloc: Global,
+    model: &Model,
+    n: u32,
+    invariant: &[Seq<Lit>],
+    budget: &mut Budget,
+) -> Result<Certified, CertifyError>
+    ensures spends { Spends budget.old budget.new }
+    ensures certified { IfOk result (IsCertified model.now (Bad n) invariant.now budget.new) }
+    ensures refused { IfErr result (HasCause model.now (Bad n) invariant.now) }
+    ensures unspent { IfErr result (IsUnspent budget.old budget.new) }
+{
+    model.parts();
+    if n as usize >= model.bad().len() {
+        return Err(CertifyError::NoProperty(n));
+    }
+    certify_for(alloc, model, n, Property::Bad(n), invariant, budget)
+}
+
+/// A certificate of the justice property at position `n`, by clauses about its shadow circuit.
+fn certify_justice(
+    alloc: Global,
+    model: &Model,
+    n: u32,
+    invariant: &[Seq<Lit>],
+    budget: &mut Budget,
+) -> Result<Certified, CertifyError>
+    ensures spends { Spends budget.old budget.new }
+    ensures certified { IfOk result (IsCertified model.now (Justice n) invariant.now budget.new) }
+    ensures refused { IfErr result (HasCause model.now (Justice n) invariant.now) }
+    ensures unspent { IfErr result (IsUnspent budget.old budget.new) }
+{
+    match to_safety(alloc, model, n) {
+        Ok(shadow) => certify_for(alloc, &shadow, 0, Property::Justice(n), invariant, budget),
+        Err(LiveError::NoProperty(_)) => Err(CertifyError::NoProperty(n)),
+        Err(LiveError::Limit) => Err(CertifyError::Limit),
+        Err(LiveError::OutOfMemory) => Err(CertifyError::OutOfMemory),
+    }
+}
+
+/// A certificate of the clauses for the property, which the checker accepts. The clauses are not
+/// believed: each of their cases is to be refuted, and where something satisfies one, that is
+/// answered. It says that the clauses are no inductive invariant which excludes the bad literal, and
+/// nothing of the property. For a justice property the clauses are about its shadow circuit.
+///
+/// Refused are first a property that the circuit has not, then a shadow circuit with too many
+/// variables, more than 4,194,303 clauses, and the first clause that is not over the latches or that
+/// repeats or opposes a literal. Only then is anything spent.
+///
+/// A certificate costs its cases. For `n` clauses these are `n` that each load the latches' resets,
+/// and `n + 1` that each load the circuit and all clauses; beside that it costs what the refutations
+/// spend of the budget, and the clauses in memory of their own.
+pub fn certify(
+    alloc: Global,
+    model: &Model,
+    property: Property,
+    invariant: &[Seq<Lit>],
+    budget: &mut Budget,
+) -> Result<Certified, CertifyError>
+    ensures spends { Spends budget.old budget.new }
+    ensures certified { IfOk result (IsCertified model.now property invariant.now budget.new) }
+    // What is inductive and excludes the bad literal is never called no invariant.
+    ensures honest { IfOk result (λ r. r ≡ NotInvariant → IsInductive (circuit_of model.now property) invariant.now (bad_literal (circuit_of model.now property) (bad_of property)) → ⊥) }
+    ensures refused { IfErr result (HasCause model.now property invariant.now) }
+    ensures unspent { IfErr result (IsUnspent budget.old budget.new) }
+{
+    match property {
+        Property::Bad(n) => certify_bad(alloc, model, n, invariant, budget),
+        Property::Justice(n) => certify_justice(alloc, model, n, invariant, budget),
+    }
+}

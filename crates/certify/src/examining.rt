@@ -1,0 +1,38 @@
+//! Whether there is anything wrong with the clauses.
+
+ghost use Rattle.std.specs.Prelude.{◌≤◌, IfErr, OnOk, length};
+ghost use Rattle.std.specs.List.{All};
+ghost use Rattle.checker.specs.Accepted.{IsGood};
+ghost use Rattle.certify.specs.Causes.{IsFault};
+
+use crate::certify_error::CertifyError;
+use checker::{CheckError, check_clauses};
+use cnf::NextTable;
+use graph::{Lit, Model, Seq};
+use std::alloc::Global;
+
+/// The most clauses that a certificate may have.
+const MOST_CLAUSES: usize = 4_194_303;
+
+/// Whether the clauses are no more than a certificate may have, each over the latches and without a
+/// literal that is repeated or opposed. A refusal has the first cause. It costs the literals and the
+/// variables.
+pub fn examine(alloc: Global, model: &Model, invariant: &[Seq<Lit>]) -> Result<(), CertifyError>
+    ensures few { OnOk result (length invariant.now ≤ 4194303) }
+    ensures good { OnOk result (All (IsGood model.now) invariant.now) }
+    ensures refused { IfErr result (IsFault model.now invariant.now) }
+{
+    if invariant.len() > MOST_CLAUSES {
+        return Err(CertifyError::Limit);
+    }
+    let Ok(table) = NextTable::new(alloc, model) else {
+        return Err(CertifyError::OutOfMemory);
+    };
+    match check_clauses(alloc, model, &table, invariant) {
+        Ok(()) => Ok(()),
+        Err(CheckError::NotLatch { clause }) => Err(CertifyError::NotLatch { clause }),
+        Err(CheckError::Repeated { clause }) => Err(CertifyError::Repeated { clause }),
+        // there is no other cause but want of memory
+        Err(_) => Err(CertifyError::OutOfMemory),
+    }
+}

@@ -1,0 +1,25 @@
+//! From the clauses of an invariant to a certificate that the checker accepts.
+//!
+//! `certify` asks for a proof of each case of the invariant (`cdcl::refute`), and puts the proofs
+//! together in the order of the cases. Nothing is assumed of whoever wrote the clauses: a certificate
+//! is answered only where `IsAcceptedCertificate` holds of it, and that the clauses are no invariant
+//! only where something satisfies one of the cases, which is never so of an inductive invariant.
+//!
+//! What is wrong with the property or with a clause is refused at its first cause, before anything is
+//! spent. Each case is made and refuted on its own, so a certificate costs its cases. For a justice
+//! property the clauses and the cases are those of its shadow circuit.
+#![tactic(auto)]
+
+mod certified;
+mod certify_error;
+mod certifying;
+mod examining;
+mod halt;
+mod proving;
+
+pub use certified::Certified;
+pub use certify_error::CertifyError;
+pub use certifying::certify;
+
+#[cfg(test)]
+mod tests;

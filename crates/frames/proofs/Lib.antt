@@ -1,0 +1,7 @@
+pub mod Laws
+pub mod Walks
+pub mod Sifting
+pub mod Begun
+pub mod Shown
+pub mod Translated
+pub mod Fixed

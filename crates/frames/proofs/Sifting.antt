@@ -1,0 +1,109 @@
+-- Entries that are kept are moved to the front.
+use Rattle.std.proofs.Common.{◌≡◌, ℕ, ◌+◌, ◌<◌, ◌≤◌, ◌⊎◌, List, [], ◌∷◌, ◌++◌, length, get_or, set, take, refl, inl, inr, arith, All, Contains, ◌∙◌, sym, ap, subst}
+use Rattle.std.specs.List.{SwappedAt}
+use Rattle.std.proofs.lemmas.Bool.{cases_lt}
+use Rattle.std.proofs.lemmas.List.{get_or-take, length-take, length-set, get_or_default}
+use Rattle.std.proofs.lemmas.List.Elements.{All-contains, All-push, All-weaker, Contains-get_or, Contains-push_cases, Contains-append_left}
+
+-- the first kept of the list are from the old one, from place i on it is the old one, and of the old one's first i
+-- elements each is kept or let go
+pub record Sifted {X : Type 0} (Gone Kept : X → Type 0) (old now : List X) (kept i : ℕ) : Type 0 where
+  pub only : (k : ℕ) (d : X) → k < kept → Contains old (get_or now k d)
+  pub lean : (k : ℕ) (d : X) → k < kept → Kept (get_or now k d)
+  pub rest : (j : ℕ) (d : X) → i ≤ j → get_or now j d ≡ get_or old j d
+  pub each : (j : ℕ) (d : X) → j < i → ((k : ℕ) × (k < kept) × (get_or now k d ≡ get_or old j d)) ⊎ Gone (get_or old j d)
+  pub behind : kept ≤ i
+  pub long : length now ≡ length old
+
+pub sifted_kept : {X : Type 0} (Gone Kept : X → Type 0) (old now next : List X) (kept i : ℕ) (x : X) → i < length old → x ≡ get_or now i x → Kept x → SwappedAt now next kept i → Sifted Gone Kept old now kept i →
+    Sifted Gone Kept old next (kept + 1) (i + 1)
+sifted_kept {X} Gone Kept old now next kept i x i_in at stays swapped h =
+    let behind = h.behind in
+    let here : (d : X) → get_or next kept d ≡ get_or old i d = λ d. swapped.0 d ∙ h.rest i d (omega arith) in
+    let before : (k : ℕ) (d : X) → k < kept → get_or next k d ≡ get_or now k d = λ k d k_in. swapped.2 k d (λ e. omega (arith, e)) (λ e. omega (arith, e, behind)) in
+    record {
+      only = λ k d k_in. elim (cases_lt k kept) [
+        | inl below ↦ subst (Contains old) (sym (before k d below)) (h.only k d below)
+        | inr above ↦
+            let last : k ≡ kept = omega arith in
+            subst (Contains old) (sym (ap (λ n. get_or next n d) last ∙ here d)) (Contains-get_or old i d i_in)
+      ];
+      lean = λ k d k_in. elim (cases_lt k kept) [
+        | inl below ↦ subst Kept (sym (before k d below)) (h.lean k d below)
+        | inr above ↦
+            let last : k ≡ kept = omega arith in
+            subst Kept (at ∙ h.rest i x (omega arith) ∙ get_or_default old i x d i_in ∙ sym (ap (λ n. get_or next n d) last ∙ here d)) stays
+      ];
+      rest = λ j d j_in. swapped.2 j d (λ e. omega (arith, e, behind)) (λ e. omega (arith, e)) ∙ h.rest j d (omega arith);
+      each = λ j d j_in. elim (cases_lt j i) [
+        | inl below ↦ elim (h.each j d below) [
+          | inl found ↦ inl (found.0, omega (arith, found.1), before found.0 d found.1 ∙ found.2)
+          | inr gone ↦ inr gone
+        ]
+        | inr above ↦
+            let last : i ≡ j = omega arith in
+            inl (kept, omega arith, here d ∙ ap (λ n. get_or old n d) last)
+      ];
+      behind = omega (arith, behind);
+      long = ap length (swapped.3 x) ∙ length-set (set now kept (get_or now i x)) i (get_or now kept x) ∙ length-set now kept (get_or now i x) ∙ h.long;
+    }
+
+pub sifted_gone : {X : Type 0} (Gone Kept : X → Type 0) (old now : List X) (kept i : ℕ) (x : X) → i < length old → x ≡ get_or now i x → Gone x → Sifted Gone Kept old now kept i →
+    Sifted Gone Kept old now kept (i + 1)
+sifted_gone {X} Gone Kept old now kept i x i_in at gone h =
+    let behind = h.behind in
+    record {
+      only = h.only;
+      lean = h.lean;
+      rest = λ j d j_in. h.rest j d (omega arith);
+      each = λ j d j_in. elim (cases_lt j i) [
+        | inl below ↦ h.each j d below
+        | inr above ↦
+            let last : i ≡ j = omega arith in
+            let is : x ≡ get_or old j d = at ∙ h.rest i x (omega arith) ∙ get_or_default old i x d i_in ∙ ap (λ n. get_or old n d) last in
+            inr (subst Gone is gone)
+      ];
+      behind = omega (arith, behind);
+      long = h.long;
+    }
+
+-- at the end
+pub sifted_only : {X : Type 0} (Gone Kept : X → Type 0) (old now : List X) (kept i : ℕ) → i ≤ length old → Sifted Gone Kept old now kept i → All (Contains old) (take kept now)
+sifted_only Gone Kept old now kept i i_in h k d k_in =
+    let below : k < kept = omega (arith, k_in, length-take kept now) in
+    subst (Contains old) (sym (get_or-take kept now k d below)) (h.only k d below)
+
+pub sifted_lean : {X : Type 0} (Gone Kept : X → Type 0) (old now : List X) (kept i : ℕ) → i ≤ length old → Sifted Gone Kept old now kept i → All Kept (take kept now)
+sifted_lean Gone Kept old now kept i i_in h k d k_in =
+    let below : k < kept = omega (arith, k_in, length-take kept now) in
+    subst Kept (sym (get_or-take kept now k d below)) (h.lean k d below)
+
+pub sifted_each : {X : Type 0} (Gone Kept : X → Type 0) (old now : List X) (kept i : ℕ) → i ≤ length old → length old ≤ i → Sifted Gone Kept old now kept i →
+    All (λ x. Contains (take kept now) x ⊎ Gone x) old
+sifted_each {X} Gone Kept old now kept i i_in end h j d j_in = elim (h.each j d (omega arith)) [
+  | inl found ↦
+      let behind = h.behind in
+      let long = h.long in
+      let x : X = get_or old j d in
+      inl (found.0, omega (arith, found.1, length-take kept now, long, behind), get_or-take kept now found.0 x found.1 ∙ get_or_default now found.0 x d (omega (arith, found.1, long, behind)) ∙ found.2)
+  | inr gone ↦ inr gone
+]
+
+-- one element more behind those that are kept
+pub inserted_only : {X : Type 0} (old middle kept now : List X) (x : X) → middle ≡ old → All (Contains middle) kept → now ≡ kept ++ x ∷ [] → (y : X) → Contains now y →
+    Contains old y ⊎ (y ≡ x)
+inserted_only old middle kept now x same only is y found = elim (Contains-push_cases kept x y (subst (λ xs. Contains xs y) is found)) [
+  | inl before ↦ inl (subst (λ xs. Contains xs y) same (All-contains (Contains middle) kept y only before))
+  | inr new ↦ inr (sym new)
+]
+
+pub inserted_each : {X : Type 0} (Gone : X → Type 0) (old middle kept now : List X) (x : X) → middle ≡ old → All (λ y. Contains kept y ⊎ Gone y) middle → now ≡ kept ++ x ∷ [] →
+    All (λ y. Contains now y ⊎ Gone y) old
+inserted_each {X} Gone old middle kept now x same each is k d k_in = elim (subst (All (λ (y : X). Contains kept y ⊎ Gone y)) same each k d k_in) [
+  | inl found ↦ inl (subst (λ xs. Contains xs (get_or old k d)) (sym is) (Contains-append_left kept (x ∷ []) (get_or old k d) found))
+  | inr gone ↦ inr gone
+]
+
+pub inserted_lean : {X : Type 0} (Kept : X → Type 0) (kept now : List X) (x : X) → All Kept kept → now ≡ kept ++ x ∷ [] → All (λ y. Kept y ⊎ (y ≡ x)) now
+inserted_lean {X} Kept kept now x lean is =
+    subst (All (λ (y : X). Kept y ⊎ (y ≡ x))) (sym is) (All-push (λ (y : X). Kept y ⊎ (y ≡ x)) kept x (All-weaker Kept (λ (y : X). Kept y ⊎ (y ≡ x)) (λ y p. inl p) kept lean) (inr refl))

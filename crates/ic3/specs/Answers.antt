@@ -1,0 +1,78 @@
+-- What the search's questions are answered (Bradley 2011).
+use Rattle.std.specs.Prelude.{◌≡◌, ℕ, ◌<◌, Bool, true, not, List, length, filter, All, Contains}
+use Rattle.base.specs.Budget.{Steps}
+use Rattle.graph.specs.declared.parts.Parts.{Parts}
+use Rattle.graph.specs.Valuation.{Valuation, value_of}
+use Rattle.graph.specs.Runs.{next_state}
+use Rattle.cnf.specs.Formulas.{bad_literal}
+use Rattle.engine.specs.Findings.{IsSo}
+use Rattle.engine.specs.declared.finding.Finding.{Finding}
+use Rattle.engine.specs.declared.finding.Finding.TheVariants.{Invariant, Run, Unknown}
+use Rattle.engine.specs.declared.finding.Reason.TheVariants.{Budget}
+use Rattle.transition.specs.declared.state.StateLit.{StateLit}
+use Rattle.transition.specs.declared.step.Consecution.{Consecution}
+use Rattle.transition.specs.declared.step.Consecution.TheVariants.{Held, Broken, GaveUp}
+use Rattle.transition.specs.States.{Denies, IsPartOf, IsAt, latch_at}
+use Rattle.frames.specs.declared.frames.Entry.{Entry}
+use Rattle.frames.specs.Frames.{IsStateClause, HoldsInitially, HoldsAfter, HoldsToward, HoldsOnward, Excludes}
+use Rattle.ic3.specs.declared.bad.AtBad.{AtBad}
+use Rattle.ic3.specs.declared.bad.AtBad.TheVariants.{Set, Excluded, OutOfBudget}
+use Rattle.ic3.specs.declared.deny.Denial.{Denial}
+use Rattle.ic3.specs.declared.deny.Denial.TheVariants.{Denied, Led, Spent}
+
+-- some of the clause's literals, in their order
+abbrev pub IsPicked : List StateLit → List StateLit → Type 0
+IsPicked c clause = (p : StateLit → Bool) × (c ≡ filter p clause)
+
+-- the clause may join the frames up to k + 1: it is over the latches, holds at first, and holds after each step from a
+-- state of frame k in which it holds
+pub record IsInductiveFrom (m : Parts) (entries : List Entry) (k : ℕ) (c : List StateLit) : Type 0 where
+  pub clause : IsStateClause m c
+  pub initial : HoldsInitially m c
+  pub onward : HoldsOnward m entries k c
+
+-- whether the clause holds after each step from frame k
+abbrev pub IsAfter : Parts → List Entry → ℕ → List StateLit → Steps → Consecution → Type 0
+IsAfter m entries k c after (Held part) = HoldsAfter m entries k c
+IsAfter m entries k c after (Broken t) = (w : Valuation) × IsAt m w t × Denies (next_state m w) c
+IsAfter m entries k c after GaveUp = after.left ≡ 0
+
+-- whether the clause holds after each step from a state of frame k in which it holds, and then, which part of it does
+abbrev pub IsRelative : Parts → List Entry → ℕ → List StateLit → Steps → Consecution → Type 0
+IsRelative m entries k c after (Held part) = IsPartOf part c × HoldsToward m entries k c part
+IsRelative m entries k c after (Broken t) = (w : Valuation) × IsAt m w t × Denies (next_state m w) c
+IsRelative m entries k c after GaveUp = after.left ≡ 0
+
+-- whether the clause is inductive from frame k, and then, which part of it is
+abbrev pub IsInductiveAnswer : Parts → List Entry → ℕ → List StateLit → Steps → Consecution → Type 0
+IsInductiveAnswer m entries k c after (Held part) = IsInductiveFrom m entries k part
+IsInductiveAnswer m entries k c after (Broken t) = (w : Valuation) × IsAt m w t × Denies (next_state m w) c
+IsInductiveAnswer m entries k c after GaveUp = after.left ≡ 0
+
+-- the clause that is false in the one state
+pub record DeniesState (s : List Bool) (c : List StateLit) : Type 0 where
+  pub inside : All (λ a. a.latch < length s) c
+  pub each : (i : ℕ) → i < length s → Contains c (record { latch = i; value = not (latch_at s i) })
+
+-- the state is denied, or this time leads to it
+abbrev pub IsDenial : Parts → List Bool → Steps → Denial → Type 0
+IsDenial m s after Denied = Unit {0}
+IsDenial m s after (Led t) = (w : Valuation) × IsAt m w t × (next_state m w ≡ s)
+IsDenial m s after Spent = after.left ≡ 0
+
+-- a time in frame k at which the bad literal is true, or that there is none
+abbrev pub IsAtBad : Parts → List Entry → ℕ → Steps → AtBad → Type 0
+IsAtBad m entries k after (Set t) = (w : Valuation) × IsAt m w t × (value_of w (bad_literal m 0) ≡ true)
+IsAtBad m entries k after Excluded = Excludes m (bad_literal m 0) entries k
+IsAtBad m entries k after OutOfBudget = after.left ≡ 0
+
+-- a run, an invariant, or that the budget has nothing left
+abbrev pub IsDecided : Finding → Type 0
+IsDecided (Run initial inputs) = Unit {0}
+IsDecided (Invariant inv) = Unit {0}
+IsDecided (Unknown reason) = reason ≡ Budget
+
+-- what is found is so, and no other unknown
+pub record IsFound (m : Parts) (after : Steps) (found : Finding) : Type 0 where
+  pub so : IsSo m after found
+  pub decided : IsDecided found

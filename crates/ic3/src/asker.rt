@@ -1,0 +1,241 @@
+//! A solver that is told of the frames, and asked about one step.
+
+ghost use Rattle.std.specs.Prelude.{◌≡◌, ◌+◌, ◌<◌, ◌≤◌, ◌∷◌, [], Bool, List, All, IfOk, OnOk};
+ghost use Rattle.base.specs.Budget.{Spends};
+ghost use Rattle.cnf.specs.Formulas.{bad_literal};
+ghost use Rattle.transition.specs.States.{Holds};
+ghost use Rattle.transition.specs.Contents.{HasGuards};
+ghost use Rattle.frames.specs.declared.frames.Entry.{Entry as Item};
+ghost use Rattle.frames.specs.Frames.{InFrame, AreFrames, IsStateClause};
+ghost use Rattle.ic3.specs.Told.{IsTold, IsSound};
+ghost use Rattle.ic3.specs.Answers.{IsAfter, IsRelative};
+
+use engine::EngineError;
+use frames::{Entry, Frames};
+use graph::{Budget, Model, Seq};
+use solver::Sat;
+use std::alloc::{AllocError, Global};
+use transition::{Consecution, StateLit, Transition, holds_after};
+
+/// The fewest questions with a clause of their own for which a circuit is loaded.
+const FEWEST: u32 = 100;
+
+/// The most questions with a clause of their own for which a circuit is loaded.
+const MOST: u32 = 1000;
+
+/// For how many variables of the circuit there is one question more.
+const VARIABLES: u32 = 64;
+
+/// A solver that has a circuit and the clauses of its frames, each under a guard. What it is told
+/// is backed by the frames: `IsSound` says so, and every call keeps it.
+#[derive(Drop)]
+pub(crate) struct Asker<S: Sat> {
+    pub transition: Transition<S>,
+    /// the guards below are those of the levels
+    pub levels: u32,
+    /// how many guards there is room for
+    pub room: u32,
+    /// the guards from here on are free, one for each question to come
+    pub next: u32,
+}
+
+/// For how many questions with a clause of their own the circuit is loaded. Loading costs the
+/// circuit, and each answer of the solver the clauses of earlier questions and the guards that are
+/// still free; so a large circuit is loaded for more questions.
+fn questions(circuit: &Model) -> u32
+    ensures fewest { 100 ≤ result }
+    ensures most { result ≤ 1000 }
+{
+    let more = circuit.max_var() / VARIABLES;
+    more.saturating_add(FEWEST).min(MOST)
+}
+
+/// The guards of the levels from `first` on, and below `end`.
+pub(crate) fn guards_from(alloc: Global, first: u32, end: u32) -> Result<Seq<u32>, AllocError>
+    ensures { IfOk result (λ guards. All (λ g. (first ≤ g) × (g < end)) guards) }
+{
+    let mut guards = Seq::new(alloc);
+    'listing: for level in first..end {
+        guards.push(level)?;
+    }
+    Ok(guards)
+}
+
+impl<S: Sat> Asker<S> {
+    /// A solver that is not told of any circuit yet.
+    pub(crate) fn new(solver: S) -> Asker<S> {
+        Asker {
+            transition: Transition::new(solver),
+            levels: 0,
+            room: 0,
+            next: 0,
+        }
+    }
+
+    /// Adds a clause under the guard of a level.
+    pub(crate) fn tell(
+        &mut self,
+        alloc: Global,
+        circuit: &Model,
+        level: u32,
+        clause: &[StateLit],
+    ) -> Result<(), EngineError>
+        requires told { (entries : List Item) × IsTold circuit.now entries self.old }
+        requires level { level < self.old.levels }
+        requires clause { IsStateClause circuit.now clause.now }
+        ensures levels { self.new.levels ≡ self.old.levels }
+        ensures room { self.new.room ≡ self.old.room }
+        ensures next { self.new.next ≡ self.old.next }
+        ensures told { (entries : List Item) → IsTold circuit.now entries self.old → ((s : List Bool) → InFrame entries level s → Holds s clause.now) →
+            OnOk result (IsTold circuit.now entries self.new) }
+    {
+        self.transition.add(alloc, circuit, level, clause)
+    }
+
+    /// Adds each clause under the guard of its level.
+    fn tell_all(
+        &mut self,
+        alloc: Global,
+        circuit: &Model,
+        entries: &[Entry],
+    ) -> Result<(), EngineError>
+        requires told { IsTold circuit.now entries.now self.old }
+        requires clauses { All (λ e. IsStateClause circuit.now e.clause) entries.now }
+        requires below { All (λ e. e.level < self.old.levels) entries.now }
+        ensures levels { self.new.levels ≡ self.old.levels }
+        ensures room { self.new.room ≡ self.old.room }
+        ensures next { self.new.next ≡ self.old.next }
+        ensures told { OnOk result (IsTold circuit.now entries.now self.new) }
+    {
+        'telling: for entry in entries {
+            self.tell(alloc, circuit, entry.level, entry.clause.as_slice())?;
+        }
+        Ok(())
+    }
+
+    /// Begins anew with the circuit and its frames, and so many levels. It costs the circuit and
+    /// the clauses of the frames.
+    pub(crate) fn load(
+        &mut self,
+        alloc: Global,
+        circuit: &Model,
+        frames: &Frames,
+        levels: u32,
+    ) -> Result<(), EngineError>
+        requires laws { AreFrames circuit.now (bad_literal circuit.now 0) frames.now }
+        requires top { frames.now.top < levels }
+        requires below { All (λ e. e.level < levels) frames.now.entries }
+        ensures levels { OnOk result (self.new.levels ≡ levels) }
+        ensures room { OnOk result (self.new.next < self.new.room) }
+        ensures sound { OnOk result (IsSound circuit.now self.new frames.now) }
+    {
+        let Some(room) = levels.checked_add(questions(circuit)) else {
+            return Err(EngineError::Limit);
+        };
+        self.transition.load(alloc, circuit, room)?;
+        self.levels = levels;
+        self.room = room;
+        self.next = levels;
+        self.tell_all(alloc, circuit, frames.entries())
+    }
+
+    /// Begins anew where no guard is free.
+    fn make_room(
+        &mut self,
+        alloc: Global,
+        circuit: &Model,
+        frames: &Frames,
+    ) -> Result<(), EngineError>
+        requires sound { IsSound circuit.now self.old frames.now }
+        ensures sound { OnOk result (IsSound circuit.now self.new frames.now) }
+        ensures room { OnOk result (self.new.next < self.new.room) }
+    {
+        if self.next < self.room {
+            return Ok(());
+        }
+        self.load(alloc, circuit, frames, self.levels)
+    }
+
+    /// Asks whether the clause holds after each step from a state of the frame.
+    pub(crate) fn after(
+        &mut self,
+        alloc: Global,
+        circuit: &Model,
+        frames: &Frames,
+        level: u32,
+        clause: &[StateLit],
+        budget: &mut Budget,
+    ) -> Result<Consecution, EngineError>
+        requires sound { IsSound circuit.now self.old frames.now }
+        requires clause { IsStateClause circuit.now clause.now }
+        ensures spends { Spends budget.old budget.new }
+        ensures stays { self.new ≡ self.old }
+        ensures lawful { IfOk result (IsAfter circuit.now frames.now.entries level clause.now budget.new) }
+    {
+        let guards = guards_from(alloc, level, frames.top() + 1)?;
+        holds_after(
+            alloc,
+            &mut self.transition,
+            circuit,
+            guards.as_slice(),
+            clause,
+            budget,
+        )
+    }
+
+    /// Asks whether the clause holds after each step from a state of the frame in which it holds,
+    /// with the free guard that comes next.
+    fn ask_relative(
+        &mut self,
+        alloc: Global,
+        circuit: &Model,
+        frames: &Frames,
+        level: u32,
+        clause: &[StateLit],
+        budget: &mut Budget,
+    ) -> Result<Consecution, EngineError>
+        requires sound { IsSound circuit.now self.old frames.now }
+        requires room { self.old.next < self.old.room }
+        requires clause { IsStateClause circuit.now clause.now }
+        ensures spends { Spends budget.old budget.new }
+        ensures sound { OnOk result (IsSound circuit.now self.new frames.now) }
+        ensures lawful { IfOk result (IsRelative circuit.now frames.now.entries level clause.now budget.new) }
+    {
+        let guard = self.next;
+        self.transition.add(alloc, circuit, guard, clause)?;
+        self.next += 1;
+        let mut guards = guards_from(alloc, level, frames.top() + 1)?;
+        guards.push(guard)?;
+        let known = holds_after(
+            alloc,
+            &mut self.transition,
+            circuit,
+            guards.as_slice(),
+            clause,
+            budget,
+        )?;
+        self.transition.add(alloc, circuit, guard, &[])?;
+        Ok(known)
+    }
+
+    /// Asks whether the clause holds after each step from a state of the frame in which it holds.
+    /// The question's clause has a guard of its own, which is let go afterwards.
+    pub(crate) fn relative(
+        &mut self,
+        alloc: Global,
+        circuit: &Model,
+        frames: &Frames,
+        level: u32,
+        clause: &[StateLit],
+        budget: &mut Budget,
+    ) -> Result<Consecution, EngineError>
+        requires sound { IsSound circuit.now self.old frames.now }
+        requires clause { IsStateClause circuit.now clause.now }
+        ensures spends { Spends budget.old budget.new }
+        ensures sound { OnOk result (IsSound circuit.now self.new frames.now) }
+        ensures lawful { IfOk result (IsRelative circuit.now frames.now.entries level clause.now budget.new) }
+    {
+        self.make_room(alloc, circuit, frames)?;
+        self.ask_relative(alloc, circuit, frames, level, clause, budget)
+    }
+}

@@ -1,0 +1,56 @@
+//! The bad literal in the last frame.
+
+ghost use Rattle.std.specs.Prelude.{◌≡◌, IfOk};
+ghost use Rattle.base.specs.Budget.{Spends};
+ghost use Rattle.engine.specs.Findings.{IsForBad};
+ghost use Rattle.ic3.specs.Told.{IsSound};
+ghost use Rattle.ic3.specs.Answers.{IsAtBad};
+
+use crate::asker::{Asker, guards_from};
+use engine::EngineError;
+use frames::Frames;
+use graph::{Budget, Model};
+use solver::Sat;
+use std::alloc::Global;
+use transition::{Reply, Time};
+
+/// What is known of the bad literal in a frame.
+#[derive(Debug, Drop)]
+pub(crate) enum AtBad {
+    /// It is true at this time.
+    Set(Time),
+    /// It is false at every time that keeps the constraints.
+    Excluded,
+    /// The budget has nothing left.
+    OutOfBudget,
+}
+
+impl<S: Sat> Asker<S> {
+    /// Asks for a time of the last frame at which the bad literal is true.
+    pub(crate) fn at_bad(
+        &mut self,
+        alloc: Global,
+        circuit: &Model,
+        frames: &Frames,
+        budget: &mut Budget,
+    ) -> Result<AtBad, EngineError>
+        requires for_bad { IsForBad circuit.now }
+        requires sound { IsSound circuit.now self.old frames.now }
+        ensures stays { self.new ≡ self.old }
+        ensures spends { Spends budget.old budget.new }
+        ensures lawful { IfOk result (IsAtBad circuit.now frames.now.entries frames.now.top budget.new) }
+    {
+        circuit.parts();
+        let top = frames.top();
+        let guards = guards_from(alloc, top, top + 1)?;
+        let bad = circuit.bad()[0];
+        match self
+            .transition
+            .ask(alloc, circuit, guards.as_slice(), &[bad], budget)?
+        {
+            Reply::Found(time) => Ok(AtBad::Set(time)),
+            Reply::Core(_) => Ok(AtBad::Excluded),
+            Reply::Spent => Ok(AtBad::OutOfBudget),
+        }
+    }
+}

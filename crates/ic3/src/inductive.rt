@@ -1,0 +1,176 @@
+//! Clauses that hold at first, and after each step from a frame in which they hold.
+
+ghost use Rattle.std.specs.Prelude.{◌≡◌, ◌<◌, true, Contains, IfOk, IfSome, OnOk};
+ghost use Rattle.base.specs.Budget.{Spends};
+ghost use Rattle.frames.specs.Clauses.{IsResetLit};
+ghost use Rattle.frames.specs.Frames.{IsStateClause, HoldsOnward};
+ghost use Rattle.ic3.specs.Told.{IsSound};
+ghost use Rattle.ic3.specs.Answers.{IsInductiveFrom, IsInductiveAnswer};
+
+use crate::asker::Asker;
+use crate::picked::{with_part, without};
+use crate::reset::reset_literal;
+use engine::EngineError;
+use frames::Frames;
+use graph::{Budget, Model, Seq};
+use solver::Sat;
+use std::alloc::Global;
+use transition::{Consecution, StateLit};
+
+impl<S: Sat> Asker<S> {
+    /// Asks whether the clause, which has a literal that every initial state sets, holds after each
+    /// step from a state of the frame in which it holds. Where it does, what the solver needed of
+    /// it is answered, with such a literal (Bradley 2011).
+    pub(crate) fn inductive(
+        &mut self,
+        alloc: Global,
+        circuit: &Model,
+        frames: &Frames,
+        level: u32,
+        clause: &[StateLit],
+        first: StateLit,
+        budget: &mut Budget,
+    ) -> Result<Consecution, EngineError>
+        requires sound { IsSound circuit.now self.old frames.now }
+        requires clause { IsStateClause circuit.now clause.now }
+        requires among { Contains clause.now first }
+        requires reset { IsResetLit circuit.now.latches first }
+        ensures spends { Spends budget.old budget.new }
+        ensures sound { OnOk result (IsSound circuit.now self.new frames.now) }
+        ensures lawful { IfOk result (IsInductiveAnswer circuit.now frames.now.entries level clause.now budget.new) }
+    {
+        match self.relative(alloc, circuit, frames, level, clause, budget)? {
+            Consecution::Held(part) => {
+                let first = reset_literal(circuit.latches(), part.as_slice()).unwrap_or(first);
+                let kept = with_part(alloc, clause, part.as_slice(), first)?;
+                Ok(Consecution::Held(kept))
+            }
+            Consecution::Broken(time) => Ok(Consecution::Broken(time)),
+            Consecution::GaveUp => Ok(Consecution::GaveUp),
+        }
+    }
+
+    /// Asks for the clause without the literal at a place, or for a part of that.
+    fn drop_at(
+        &mut self,
+        alloc: Global,
+        circuit: &Model,
+        frames: &Frames,
+        level: u32,
+        clause: &[StateLit],
+        place: usize,
+        budget: &mut Budget,
+    ) -> Result<Option<Seq<StateLit>>, EngineError>
+        requires sound { IsSound circuit.now self.old frames.now }
+        requires clause { IsStateClause circuit.now clause.now }
+        ensures spends { Spends budget.old budget.new }
+        ensures sound { OnOk result (IsSound circuit.now self.new frames.now) }
+        ensures lawful { IfOk result (λ r. IfSome r (IsInductiveFrom circuit.now frames.now.entries level)) }
+    {
+        if place >= clause.len() {
+            return Ok(None);
+        }
+        let shorter = without(alloc, clause, clause[place].latch)?;
+        let Some(first) = reset_literal(circuit.latches(), shorter.as_slice()) else {
+            return Ok(None);
+        };
+        let shorter = shorter.as_slice();
+        match self.inductive(alloc, circuit, frames, level, shorter, first, budget)? {
+            Consecution::Held(part) => Ok(Some(part)),
+            _ => Ok(None),
+        }
+    }
+
+    /// Leaves out one literal after the other, from the last to the first, wherever the clause stays
+    /// inductive. It asks a question for each literal at most.
+    pub(crate) fn shorten(
+        &mut self,
+        alloc: Global,
+        circuit: &Model,
+        frames: &Frames,
+        level: u32,
+        clause: Seq<StateLit>,
+        budget: &mut Budget,
+    ) -> Result<Seq<StateLit>, EngineError>
+        requires sound { IsSound circuit.now self.old frames.now }
+        requires inductive { IsInductiveFrom circuit.now frames.now.entries level clause }
+        ensures spends { Spends budget.old budget.new }
+        ensures sound { OnOk result (IsSound circuit.now self.new frames.now) }
+        ensures inductive { IfOk result (IsInductiveFrom circuit.now frames.now.entries level) }
+    {
+        let mut kept = clause;
+        'dropping: for place in (0..kept.len()).rev() {
+            if !budget.tick() {
+                return Ok(kept);
+            }
+            match self.drop_at(
+                alloc,
+                circuit,
+                frames,
+                level,
+                kept.as_slice(),
+                place,
+                budget,
+            )? {
+                Some(shorter) => kept = shorter,
+                None => {}
+            }
+        }
+        Ok(kept)
+    }
+
+    /// Whether the clause holds after each step from a state of the frame in which it holds, as far
+    /// as the budget goes.
+    fn is_onward(
+        &mut self,
+        alloc: Global,
+        circuit: &Model,
+        frames: &Frames,
+        level: u32,
+        clause: &[StateLit],
+        budget: &mut Budget,
+    ) -> Result<bool, EngineError>
+        requires sound { IsSound circuit.now self.old frames.now }
+        requires clause { IsStateClause circuit.now clause.now }
+        ensures spends { Spends budget.old budget.new }
+        ensures sound { OnOk result (IsSound circuit.now self.new frames.now) }
+        ensures onward { IfOk result (λ b. b ≡ true → HoldsOnward circuit.now frames.now.entries level clause.now) }
+    {
+        match self.relative(alloc, circuit, frames, level, clause, budget)? {
+            Consecution::Held(_) => Ok(true),
+            _ => Ok(false),
+        }
+    }
+
+    /// The last frame below the top from which the clause is inductive, of those one after the
+    /// other.
+    pub(crate) fn furthest(
+        &mut self,
+        alloc: Global,
+        circuit: &Model,
+        frames: &Frames,
+        level: u32,
+        clause: &[StateLit],
+        budget: &mut Budget,
+    ) -> Result<u32, EngineError>
+        requires sound { IsSound circuit.now self.old frames.now }
+        requires below { level < frames.now.top }
+        requires inductive { IsInductiveFrom circuit.now frames.now.entries level clause.now }
+        ensures spends { Spends budget.old budget.new }
+        ensures sound { OnOk result (IsSound circuit.now self.new frames.now) }
+        ensures below { IfOk result (λ k. k < frames.now.top) }
+        ensures inductive { IfOk result (λ k. IsInductiveFrom circuit.now frames.now.entries k clause.now) }
+    {
+        let mut last = level;
+        'advancing: for next in level + 1..frames.top() {
+            if !budget.tick() {
+                return Ok(last);
+            }
+            if !self.is_onward(alloc, circuit, frames, next, clause, budget)? {
+                return Ok(last);
+            }
+            last = next;
+        }
+        Ok(last)
+    }
+}

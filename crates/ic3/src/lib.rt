@@ -1,0 +1,35 @@
+//! The IC3 engine (Bradley 2011; Een, Mishchenko, Brayton 2011): invariants by induction, one
+//! clause at a time.
+//!
+//! `Ic3` keeps frames (`frames`), of which the first is the initial states, and asks a solver about
+//! one step from them (`transition`). Four laws hold of the frames throughout: each clause holds at
+//! first; each frame is within the next, by how its clauses are kept; a step from a frame ends in
+//! the next; and all frames but the last exclude the bad literal. They are the fields of
+//! `AreFrames`, which stands in `IsSound`, and every call keeps that.
+//!
+//! A time of the last frame at which the bad literal is true is denied: by a clause that excludes
+//! its state and holds after each step from the frame before, or else by denying first what leads
+//! to it. The times still to be denied are a run, once the first is initial. Where the last frame
+//! excludes the bad literal, the next is opened, and clauses that hold one step longer move on. A
+//! frame that is the same as the next is an invariant.
+//!
+//! A question costs its clause, its guards and the work of the solver. The circuit is loaded again
+//! only after a hundred questions, or a thousand where it is large, and where the levels that have
+//! guards are used up, which are twice as many each time.
+#![tactic(auto)]
+
+mod asker;
+mod bad;
+mod block;
+mod clear;
+mod deny;
+mod ic3;
+mod inductive;
+mod picked;
+mod push;
+mod reset;
+mod search;
+#[cfg(test)]
+mod tests;
+
+pub use ic3::Ic3;

@@ -1,0 +1,16 @@
+pub mod Begun
+pub mod Pigeons
+pub mod Bounded
+pub mod Values
+pub mod Extension
+pub mod Forced
+pub mod Ranges
+pub mod Extended
+pub mod Carried
+pub mod Back
+pub mod Consequence
+pub mod Known
+pub mod Shape
+pub mod Pushes
+pub mod Counts
+pub mod Returned

@@ -1,0 +1,4 @@
+pub mod Shadow
+pub mod Laws
+pub mod Numbers
+pub mod Causes

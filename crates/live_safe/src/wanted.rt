@@ -1,0 +1,33 @@
+//! The literals that a justice property wants.
+
+ghost use Rattle.std.specs.Prelude.{◌≡◌, ◌<◌, ◌≤◌, length, IfOk};
+ghost use Rattle.graph.specs.Justice.{wanted_of};
+ghost use Rattle.graph.specs.WellFormed.{IsWellFormed};
+
+use graph::{Lit, Parts};
+use std::alloc::{AllocError, Global};
+
+/// How many there are. A property that isn't there wants the fairness literals alone.
+pub fn wanted_count(parts: &Parts, position: u32) -> usize
+    requires { IsWellFormed parts.now }
+    ensures count { result ≡ length (wanted_of parts.now position) }
+    ensures few { result ≤ 8388606 }
+{
+    let own = match parts.justice.as_slice().get(position as usize) {
+        Some(lits) => lits.len(),
+        None => 0,
+    };
+    own + parts.fairness.len()
+}
+
+/// The property's literals, then the fairness literals.
+pub fn wanted_literals(alloc: Global, parts: &Parts, position: u32) -> Result<Vec<Lit>, AllocError>
+    requires { position < length parts.now.justice }
+    ensures { IfOk result (λ v. v.items ≡ wanted_of parts.now position) }
+{
+    let mut wanted = Vec::new(alloc);
+    let lits = &parts.justice.as_slice()[position as usize];
+    wanted.extend_from_slice(lits.as_slice())?;
+    wanted.extend_from_slice(parts.fairness.as_slice())?;
+    Ok(wanted)
+}

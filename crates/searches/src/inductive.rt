@@ -1,0 +1,102 @@
+//! Worked circuits: IC3 by either solver finds an invariant that is certified, or a run that shows the
+//! bad literal, and wastes no budget.
+
+ghost use Rattle.std.specs.Prelude.{IfOk};
+ghost use Rattle.engine.specs.Findings.{IsForBad};
+
+use aag::read;
+use cdcl::Cdcl;
+use certify::{Certified, certify};
+use checker::check;
+use engine::{Engine, Finding};
+use graph::{Budget, Lit, Model, Property, Seq};
+use ic3::Ic3;
+use solver::{Plain, Sat};
+use std::alloc::Global;
+use std::test::Fail;
+use stimulus::{Stimulus, judge};
+
+/// Circuits, and whether they are safe.
+static WORKED: [(&[u8], bool); 7] = [
+    // a latch that holds
+    (b"aag 1 0 1 0 0 1\n2 2\n2\n", true),
+    // two latches that are never 1 at once
+    (
+        b"aag 5 0 2 0 3 1\n2 6\n4 8\n10\n6 3 5\n8 2 5\n10 2 4\n",
+        true,
+    ),
+    // bad is the constant
+    (b"aag 0 0 0 0 0 1\n0\n", true),
+    // bad is an input that the constraint forbids
+    (b"aag 1 1 0 0 0 1 1\n2\n2\n3\n", true),
+    // a latch that toggles
+    (b"aag 1 0 1 0 0 1\n2 3\n2\n", false),
+    // two bits that count
+    (
+        b"aag 6 0 2 0 4 1\n2 3\n4 11\n12\n6 2 5\n8 3 4\n10 7 9\n12 2 4\n",
+        false,
+    ),
+    // a latch without a reset
+    (b"aag 1 0 1 0 0 1\n2 2 2\n2\n", false),
+];
+
+/// How many steps of the budget a search may cost.
+const STEPS: u64 = 100_000;
+
+/// The circuit of a text, with its first bad literal.
+fn circuit(alloc: Global, text: &[u8]) -> Result<Model, Fail>
+    ensures { IfOk result IsForBad }
+{
+    let file = read(alloc, text)?;
+    Ok(file.model().for_bad(alloc, 0)?)
+}
+
+/// Whether the clauses get a certificate that the checker accepts.
+fn is_certified(alloc: Global, circuit: &Model, clauses: &[Seq<Lit>]) -> Result<bool, Fail> {
+    let mut budget = Budget::new(STEPS);
+    match certify(alloc, circuit, Property::Bad(0), clauses, &mut budget)? {
+        Certified::Certificate(certificate) => Ok(check(alloc, circuit, &certificate).is_ok()),
+        _ => Ok(false),
+    }
+}
+
+/// Whether the replay of the run shows the bad literal.
+fn is_shown(alloc: Global, circuit: &Model, initial: Seq<bool>, inputs: Seq<Seq<bool>>) -> bool {
+    let stimulus = Stimulus::Violated {
+        property: Property::Bad(0),
+        initial,
+        inputs,
+    };
+    judge(alloc, circuit, &stimulus).is_ok()
+}
+
+/// Whether the circuit is found safe or not, with evidence that stands.
+fn found<S: Sat>(solver: S, alloc: Global, circuit: &Model, safe: bool) -> Result<bool, Fail>
+    requires { IsForBad circuit.now }
+{
+    match Ic3::new(solver).find(alloc, circuit, &mut Budget::new(STEPS))? {
+        Finding::Invariant(clauses) => Ok(
+            safe && is_certified(alloc, circuit, clauses.as_slice())?,
+        ),
+        Finding::Run { initial, inputs } => Ok(!safe && is_shown(alloc, circuit, initial, inputs)),
+        Finding::Unknown(_) => Ok(false),
+    }
+}
+
+#[test]
+fn by_backtracking(rt: HostRuntime) -> Result<(), Fail> {
+    for (text, safe) in &WORKED {
+        let circuit = circuit(rt.alloc(), text)?;
+        assert!(rt; found(Plain::new(rt.alloc()), rt.alloc(), &circuit, *safe)?);
+    }
+    Ok(())
+}
+
+#[test]
+fn by_learning(rt: HostRuntime) -> Result<(), Fail> {
+    for (text, safe) in &WORKED {
+        let circuit = circuit(rt.alloc(), text)?;
+        assert!(rt; found(Cdcl::new(rt.alloc()), rt.alloc(), &circuit, *safe)?);
+    }
+    Ok(())
+}
