@@ -85,7 +85,7 @@ fn with_search<'a>(alloc: Global, check: Command<'a>) -> Result<Command<'a>, All
 /// The words of `check`.
 fn check_command<'a>(alloc: Global) -> Result<Command<'a>, AllocError> {
     let property = Arg::new(alloc, "property")
-        .help("The property: b and its position")
+        .help("The property: b or j and its position")
         .short('p')
         .value_name("P")
         .required(true)
