@@ -3,13 +3,15 @@
 ghost use Rattle.cdcl.specs.Keeping.{Keeps};
 
 use crate::guide::Guide;
+use crate::levels::go_back;
 use crate::units::imply;
 use kernel::{Found, Kernel};
 use solver::SatError;
 
-/// Watches the clauses that were added since the last call, at level 0. One that leaves a single
-/// literal brings it on the trail, and one that is false waits to be met. All have their places first,
-/// since a literal that comes on the trail is learned as a clause behind them.
+/// Watches the clauses that were added since the last call. For a clause with fewer than two literals that
+/// are not false the search goes back to level 0, but for clauses of a single literal: those are
+/// brought on the trail in each call, until one begins at level 0. All have their places first,
+/// since a literal that comes on the trail at level 0 is learned as a clause behind them.
 pub fn attach_new(kernel: &mut Kernel, guide: &mut Guide) -> Result<(), SatError>
     ensures { Keeps kernel.old kernel.new }
 {
@@ -21,22 +23,72 @@ pub fn attach_new(kernel: &mut Kernel, guide: &mut Guide) -> Result<(), SatError
             attach(kernel, guide, index as u32 + 1)?;
         }
     }
-    Ok(())
+    bring_single(kernel, guide)
 }
 
-/// Watches a clause at level 0.
+/// Watches a clause. One of a single literal is kept to be brought on the trail; any other that can't be
+/// watched is looked at at level 0.
 fn attach(kernel: &mut Kernel, guide: &mut Guide, id: u32) -> Result<(), SatError>
     ensures { Keeps kernel.old kernel.new }
 {
     if let Some(clause) = kernel.clause(id) {
-        guide.grow_to(clause)?;
-        if let Some((first, second)) = two_open(kernel, id) {
-            guide.watches.attach(id, first, second, clause.len())?;
-            return Ok(());
-        }
+        guide.take_in(clause)?;
     }
+    if watch(kernel, guide, id)? {
+        return Ok(());
+    }
+    if let Some([_]) = kernel.clause(id) {
+        guide.single.push(id)?;
+        return Ok(());
+    }
+    go_back(kernel, guide, 0)?;
+    if watch(kernel, guide, id)? {
+        return Ok(());
+    }
+    bring(kernel, guide, id)
+}
+
+/// Watches a clause that has two literals which are not false, and answers whether it has.
+fn watch(kernel: &Kernel, guide: &mut Guide, id: u32) -> Result<bool, SatError> {
+    let Some(clause) = kernel.clause(id) else {
+        return Ok(false);
+    };
+    let Some((first, second)) = two_open(kernel, id) else {
+        return Ok(false);
+    };
+    guide.watches.attach(id, first, second, clause.len())?;
+    Ok(true)
+}
+
+/// Brings the literal that a clause leaves on the trail. A clause that is false waits to be met.
+fn bring(kernel: &mut Kernel, guide: &mut Guide, id: u32) -> Result<(), SatError>
+    ensures { Keeps kernel.old kernel.new }
+{
     if let Found::Conflict = imply(kernel, guide, id)? {
         guide.waiting = Some(id);
+    }
+    Ok(())
+}
+
+/// Brings the literal of the clause at a place of those that have one.
+fn bring_at(kernel: &mut Kernel, guide: &mut Guide, at: usize) -> Result<(), SatError>
+    ensures { Keeps kernel.old kernel.new }
+{
+    match guide.single.get(at).copied() {
+        Some(id) => bring(kernel, guide, id),
+        None => Ok(()),
+    }
+}
+
+/// Brings the literals of the clauses on the trail that have one. At level 0 they stay there.
+fn bring_single(kernel: &mut Kernel, guide: &mut Guide) -> Result<(), SatError>
+    ensures { Keeps kernel.old kernel.new }
+{
+    for at in 0..guide.single.len() {
+        bring_at(kernel, guide, at)?;
+    }
+    if guide.levels.current() == 0 {
+        guide.single.clear();
     }
     Ok(())
 }
@@ -48,7 +100,7 @@ fn two_open(kernel: &Kernel, id: u32) -> Option<(i32, i32)> {
     Some((first, second))
 }
 
-/// Lets a clause wait no longer that is not false at level 0.
+/// Lets a clause wait no longer that is not false.
 pub fn recall(kernel: &mut Kernel, guide: &mut Guide) -> Result<(), SatError>
     ensures { Keeps kernel.old kernel.new }
 {

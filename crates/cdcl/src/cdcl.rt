@@ -12,7 +12,8 @@ use std::marker::Model;
 
 /// A conflict-driven solver, to which clauses are added between the calls. What it learns follows
 /// from the clauses alone and serves the later calls; a call that ends in a core costs what it
-/// propagates, whatever the number of clauses and variables.
+/// propagates, whatever the number of clauses and variables. The first assumptions cost nothing that the
+/// call before began with too.
 #[derive(Drop)]
 pub struct Cdcl {
     kernel: Kernel,

@@ -36,6 +36,10 @@ pub struct Guide {
     pub head: usize,
     /// a clause that is false, and was not learned from
     pub waiting: Option<u32>,
+    /// the assumptions of the last call
+    pub assumed: Vec<i32>,
+    /// clauses of one literal that were added above level 0
+    pub single: Vec<u32>,
     /// the clause in progress
     pub clause: Vec<i32>,
     /// the reasons that show it
@@ -65,6 +69,8 @@ impl Guide {
             marked: Vec::new(alloc),
             head: 0,
             waiting: None,
+            assumed: Vec::new(alloc),
+            single: Vec::new(alloc),
             clause: Vec::new(alloc),
             steps: Vec::new(alloc),
             hints: Vec::new(alloc),
@@ -78,23 +84,29 @@ impl Guide {
     pub fn grow_to(&mut self, literals: &[i32]) -> Result<(), AllocError> {
         for literal in literals {
             let variable = literal.unsigned_abs();
-            for next in self.seen.len()..variable as usize + 1 {
-                self.grow(next)?;
+            for _ in self.seen.len()..variable as usize + 1 {
+                self.grow()?;
             }
         }
         Ok(())
     }
 
     /// Makes room for the next variable.
-    fn grow(&mut self, variable: usize) -> Result<(), AllocError> {
+    fn grow(&mut self) -> Result<(), AllocError> {
         self.watches.grow()?;
         self.heap.grow()?;
         self.levels.grow()?;
         self.phases.push(false)?;
         self.units.push(0)?;
-        self.seen.push(false)?;
-        if variable > 0 && variable < 4_294_967_296 {
-            self.heap.insert(variable as u32)?;
+        self.seen.push(false)
+    }
+
+    /// Makes room for the variables of a clause that was added, which are to be decided from now on. A
+    /// variable of no clause is never decided but where it is assumed.
+    pub fn take_in(&mut self, clause: &[i32]) -> Result<(), AllocError> {
+        self.grow_to(clause)?;
+        for literal in clause {
+            self.heap.insert(literal.unsigned_abs())?;
         }
         Ok(())
     }

@@ -85,6 +85,35 @@ impl Levels {
 pub fn go_back(kernel: &mut Kernel, guide: &mut Guide, level: usize) -> Result<(), SatError>
     ensures { Keeps kernel.old kernel.new }
 {
+    give_up(kernel, guide, level, Phases::Kept)
+}
+
+/// Goes back to a level at the end of a call. The phases of what goes from the trail are the negative
+/// ones again, so that the models of the next call have few variables that are true.
+pub fn leave(kernel: &mut Kernel, guide: &mut Guide, level: usize) -> Result<(), SatError>
+    ensures { Keeps kernel.old kernel.new }
+{
+    give_up(kernel, guide, level, Phases::Negative)
+}
+
+/// What becomes of the phases of literals that go from the trail.
+#[derive(Clone, Copy, PartialEq, Eq)]
+enum Phases {
+    /// their values
+    Kept,
+    /// the negative ones
+    Negative,
+}
+
+/// Goes back to a level.
+fn give_up(
+    kernel: &mut Kernel,
+    guide: &mut Guide,
+    level: usize,
+    phases: Phases,
+) -> Result<(), SatError>
+    ensures { Keeps kernel.old kernel.new }
+{
     let Some(start) = guide.levels.starts.get(level) else {
         return Ok(());
     };
@@ -92,7 +121,8 @@ pub fn go_back(kernel: &mut Kernel, guide: &mut Guide, level: usize) -> Result<(
     for place in start..kernel.len() {
         if let Some(literal) = kernel.literal(place) {
             let variable = literal.unsigned_abs();
-            guide.phases.put(variable as usize, literal > 0);
+            let phase = phases == Phases::Kept && literal > 0;
+            guide.phases.put(variable as usize, phase);
             guide.heap.insert(variable)?;
         }
     }

@@ -27,6 +27,7 @@ mod reduction;
 mod refutation;
 mod refuted;
 mod restarts;
+mod resuming;
 mod search;
 mod shortening;
 mod table;

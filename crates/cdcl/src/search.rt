@@ -16,6 +16,7 @@ use crate::learning::learn;
 use crate::levels::{go_back, open_level};
 use crate::propagation::{Propagated, propagate};
 use crate::reduction::{INTERVAL, reduce};
+use crate::resuming::resume;
 use crate::units::imply;
 use base::Budget;
 use kernel::{Found, Kernel};
@@ -43,7 +44,7 @@ pub fn search(
     ensures spends { Spends budget.old budget.new }
     ensures lawful { IfOk result (IsLawful kernel.old.vars (added kernel.old.kept) assume.now budget.new) }
 {
-    go_back(kernel, guide, 0)?;
+    resume(kernel, guide, assume)?;
     guide.grow_to(assume)?;
     attach_new(kernel, guide)?;
     recall(kernel, guide)?;
@@ -162,18 +163,20 @@ fn look_through(
     ensures keeps { Keeps kernel.old kernel.new }
     ensures lawful { IfOk result (λ r. IfSome r (IsSettled kernel.old assume.now)) }
 {
-    if let Some(id) = kernel.unsatisfied() {
-        repair(kernel, guide, id)?;
-        return Ok(None);
-    }
     let values = kernel.model_of(guide.alloc, assume)?;
+    if values.is_none() {
+        repair(kernel, guide)?;
+    }
     Ok(values.map(Answer::Model))
 }
 
 /// Goes on where a clause has no true literal although no variable seemed open.
-fn repair(kernel: &mut Kernel, guide: &mut Guide, id: u32) -> Result<(), SatError>
+fn repair(kernel: &mut Kernel, guide: &mut Guide) -> Result<(), SatError>
     ensures { Keeps kernel.old kernel.new }
 {
+    let Some(id) = kernel.unsatisfied() else {
+        return Ok(());
+    };
     match imply(kernel, guide, id)? {
         Found::Conflict => guide.waiting = Some(id),
         Found::Several => {

@@ -34,14 +34,21 @@ const NONE: Pair = Pair {
     second: 0,
 };
 
+/// The clauses that watch a literal.
+#[derive(Drop)]
+struct Lists {
+    /// those of two literals
+    binary: Vec<Watch>,
+    /// the longer ones
+    long: Vec<Watch>,
+}
+
 /// The watches of each literal.
 #[derive(Drop)]
 pub struct Watches {
     alloc: Global,
-    /// the clauses of two literals, by literals
-    binary: Vec<Vec<Watch>>,
-    /// the longer clauses, by literals
-    long: Vec<Vec<Watch>>,
+    /// by literals
+    lists: Vec<Lists>,
     /// the watched literals of each clause, by ids from 1 on
     pairs: Table<Pair>,
 }
@@ -52,23 +59,30 @@ fn index_of(literal: i32) -> usize {
     literal.unsigned_abs() as usize * 2 + usize::from(literal < 0)
 }
 
+impl Lists {
+    /// No clauses, which take no memory.
+    fn new(alloc: Global) -> Lists {
+        Lists {
+            binary: Vec::new(alloc),
+            long: Vec::new(alloc),
+        }
+    }
+}
+
 impl Watches {
     /// No lists, which take no memory.
     pub fn new(alloc: Global) -> Watches {
         Watches {
             alloc,
-            binary: Vec::new(alloc),
-            long: Vec::new(alloc),
+            lists: Vec::new(alloc),
             pairs: Table::new(alloc),
         }
     }
 
     /// Makes room for the literals of the next variable, from 0 on.
     pub fn grow(&mut self) -> Result<(), AllocError> {
-        self.binary.push(Vec::new(self.alloc))?;
-        self.binary.push(Vec::new(self.alloc))?;
-        self.long.push(Vec::new(self.alloc))?;
-        self.long.push(Vec::new(self.alloc))?;
+        self.lists.push(Lists::new(self.alloc))?;
+        self.lists.push(Lists::new(self.alloc))?;
         Ok(())
     }
 
@@ -80,8 +94,8 @@ impl Watches {
     /// The clauses of two literals that have this one.
     #[inline]
     pub fn binary(&self, literal: i32) -> &[Watch] {
-        match self.binary.get(index_of(literal)) {
-            Some(list) => list.as_slice(),
+        match self.lists.get(index_of(literal)) {
+            Some(lists) => lists.binary.as_slice(),
             None => &[],
         }
     }
@@ -90,8 +104,8 @@ impl Watches {
     #[inline]
     pub fn take(&mut self, literal: i32) -> Vec<Watch> {
         let index = index_of(literal);
-        if index < self.long.len() {
-            mem::replace(&mut self.long[index], Vec::new(self.alloc))
+        if index < self.lists.len() {
+            mem::replace(&mut self.lists[index].long, Vec::new(self.alloc))
         } else {
             Vec::new(self.alloc)
         }
@@ -101,24 +115,24 @@ impl Watches {
     #[inline]
     pub fn put(&mut self, literal: i32, list: Vec<Watch>) {
         let index = index_of(literal);
-        if index < self.long.len() {
-            self.long[index] = list;
+        if index < self.lists.len() {
+            self.lists[index].long = list;
         }
     }
 
     #[inline]
     fn watch(&mut self, literal: i32, watch: Watch) -> Result<(), AllocError> {
         let index = index_of(literal);
-        if index < self.long.len() {
-            self.long[index].push(watch)?;
+        if index < self.lists.len() {
+            self.lists[index].long.push(watch)?;
         }
         Ok(())
     }
 
     fn watch_binary(&mut self, literal: i32, watch: Watch) -> Result<(), AllocError> {
         let index = index_of(literal);
-        if index < self.binary.len() {
-            self.binary[index].push(watch)?;
+        if index < self.lists.len() {
+            self.lists[index].binary.push(watch)?;
         }
         Ok(())
     }
@@ -168,8 +182,8 @@ impl Watches {
 
     /// Takes the watches of longer clauses out that are gone.
     pub fn sweep(&mut self, kernel: &Kernel) {
-        for list in self.long.iter_mut() {
-            list.retain(|watch| kernel.clause(watch.id).is_some());
+        for lists in self.lists.iter_mut() {
+            lists.long.retain(|watch| kernel.clause(watch.id).is_some());
         }
     }
 

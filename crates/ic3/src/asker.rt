@@ -17,13 +17,14 @@ use solver::Sat;
 use std::alloc::{AllocError, Global};
 use transition::{Consecution, StateLit, Transition, holds_after};
 
-/// The fewest questions with a clause of their own for which a circuit is loaded.
+/// The fewest questions with a clause of their own, and clauses that move on, for which a circuit is
+/// loaded.
 const FEWEST: u32 = 100;
 
-/// The most questions with a clause of their own for which a circuit is loaded.
+/// The most of these for which a circuit is loaded.
 const MOST: u32 = 1000;
 
-/// For how many variables of the circuit there is one question more.
+/// For how many variables of the circuit there is one more.
 const VARIABLES: u32 = 64;
 
 /// A solver that has a circuit and the clauses of its frames, each under a guard. What it is told
@@ -39,9 +40,9 @@ pub(crate) struct Asker<S: Sat> {
     pub next: u32,
 }
 
-/// For how many questions with a clause of their own the circuit is loaded. Loading costs the
-/// circuit, and each answer of the solver the clauses of earlier questions and the guards that are
-/// still free; so a large circuit is loaded for more questions.
+/// For how many questions with a clause of their own, and clauses that move on, the circuit is loaded.
+/// Loading costs the circuit, and each model the clauses that were added since; so a large circuit
+/// is loaded for more questions.
 fn questions(circuit: &Model) -> u32
     ensures fewest { 100 ≤ result }
     ensures most { result ≤ 1000 }
@@ -50,12 +51,13 @@ fn questions(circuit: &Model) -> u32
     more.saturating_add(FEWEST).min(MOST)
 }
 
-/// The guards of the levels from `first` on, and below `end`.
+/// The guards of the levels from `first` on, and below `end`, the greatest first: so those of two
+/// questions begin alike, and a solver need not assume them anew (`Cdcl` doesn't).
 pub(crate) fn guards_from(alloc: Global, first: u32, end: u32) -> Result<Seq<u32>, AllocError>
     ensures { IfOk result (λ guards. All (λ g. (first ≤ g) × (g < end)) guards) }
 {
     let mut guards = Seq::new(alloc);
-    'listing: for level in first..end {
+    'listing: for level in (first..end).rev() {
         guards.push(level)?;
     }
     Ok(guards)
@@ -90,6 +92,27 @@ impl<S: Sat> Asker<S> {
             OnOk result (IsTold circuit.now entries self.new) }
     {
         self.transition.add(alloc, circuit, level, clause)
+    }
+
+    /// Adds a clause under the guard of a level. It takes the room of a question, so that the circuit is
+    /// loaded again, without the clauses that are needless, after many of them.
+    pub(crate) fn tell_counted(
+        &mut self,
+        alloc: Global,
+        circuit: &Model,
+        level: u32,
+        clause: &[StateLit],
+    ) -> Result<(), EngineError>
+        requires told { (entries : List Item) × IsTold circuit.now entries self.old }
+        requires level { level < self.old.levels }
+        requires clause { IsStateClause circuit.now clause.now }
+        ensures levels { self.new.levels ≡ self.old.levels }
+        ensures told { (entries : List Item) → IsTold circuit.now entries self.old → ((s : List Bool) → InFrame entries level s → Holds s clause.now) →
+            OnOk result (IsTold circuit.now entries self.new) }
+    {
+        self.tell(alloc, circuit, level, clause)?;
+        self.next = self.room.min(self.next.saturating_add(1));
+        Ok(())
     }
 
     /// Adds each clause under the guard of its level.
@@ -140,7 +163,7 @@ impl<S: Sat> Asker<S> {
     }
 
     /// Begins anew where no guard is free.
-    fn make_room(
+    pub(crate) fn make_room(
         &mut self,
         alloc: Global,
         circuit: &Model,

@@ -36,7 +36,7 @@ fn is_false(clause: &[StateLit], state: &[bool]) -> bool {
 
 /// Whether a clause of the frame at `level` is false in the state, so that nothing has to be asked. It
 /// costs the clauses of the frames.
-fn is_excluded(entries: &[Entry], level: u32, state: &[bool]) -> bool {
+pub(crate) fn is_excluded(entries: &[Entry], level: u32, state: &[bool]) -> bool {
     for entry in entries {
         if level <= entry.level && is_false(entry.clause.as_slice(), state) {
             return true;

@@ -8,6 +8,7 @@ ghost use Rattle.ic3.specs.Told.{IsSound};
 ghost use Rattle.ic3.specs.Answers.{IsInductiveFrom, IsInductiveAnswer};
 
 use crate::asker::Asker;
+use crate::order::rarest_first;
 use crate::picked::{with_part, without};
 use crate::reset::reset_literal;
 use engine::EngineError;
@@ -50,15 +51,15 @@ impl<S: Sat> Asker<S> {
         }
     }
 
-    /// Asks for the clause without the literal at a place, or for a part of that.
-    fn drop_at(
+    /// Asks for the clause without the literal of a latch, or for a part of that.
+    fn drop_latch(
         &mut self,
         alloc: Global,
         circuit: &Model,
         frames: &Frames,
         level: u32,
         clause: &[StateLit],
-        place: usize,
+        latch: u32,
         budget: &mut Budget,
     ) -> Result<Option<Seq<StateLit>>, EngineError>
         requires sound { IsSound circuit.now self.old frames.now }
@@ -67,10 +68,10 @@ impl<S: Sat> Asker<S> {
         ensures sound { OnOk result (IsSound circuit.now self.new frames.now) }
         ensures lawful { IfOk result (λ r. IfSome r (IsInductiveFrom circuit.now frames.now.entries level)) }
     {
-        if place >= clause.len() {
+        if !clause.iter().any(|lit| lit.latch == latch) {
             return Ok(None);
         }
-        let shorter = without(alloc, clause, clause[place].latch)?;
+        let shorter = without(alloc, clause, latch)?;
         let Some(first) = reset_literal(circuit.latches(), shorter.as_slice()) else {
             return Ok(None);
         };
@@ -81,7 +82,7 @@ impl<S: Sat> Asker<S> {
         }
     }
 
-    /// Leaves out one literal after the other, from the last to the first, wherever the clause stays
+    /// Leaves out one literal after the other, the rarest latch first, wherever the clause stays
     /// inductive. It asks a question for each literal at most.
     pub(crate) fn shorten(
         &mut self,
@@ -98,18 +99,19 @@ impl<S: Sat> Asker<S> {
         ensures sound { OnOk result (IsSound circuit.now self.new frames.now) }
         ensures inductive { IfOk result (IsInductiveFrom circuit.now frames.now.entries level) }
     {
+        let latches = rarest_first(alloc, frames.entries(), clause.as_slice())?;
         let mut kept = clause;
-        'dropping: for place in (0..kept.len()).rev() {
+        'dropping: for latch in &latches {
             if !budget.tick() {
                 return Ok(kept);
             }
-            match self.drop_at(
+            match self.drop_latch(
                 alloc,
                 circuit,
                 frames,
                 level,
                 kept.as_slice(),
-                place,
+                *latch,
                 budget,
             )? {
                 Some(shorter) => kept = shorter,

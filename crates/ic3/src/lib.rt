@@ -13,9 +13,10 @@
 //! excludes the bad literal, the next is opened, and clauses that hold one step longer move on. A
 //! frame that is the same as the next is an invariant.
 //!
-//! A question costs its clause, its guards and the work of the solver. The circuit is loaded again
-//! only after a hundred questions, or a thousand where it is large, and where the levels that have
-//! guards are used up, which are twice as many each time.
+//! A question costs its clause, its guards and the work of the solver. A clause that did not move on
+//! is asked for again only when the state that kept it from that has left the frame. The circuit is
+//! loaded again only after a hundred questions and clauses that moved on, or a thousand where it is
+//! large, and where the levels that have guards are used up, which are twice as many each time.
 #![tactic(auto)]
 
 mod asker;
@@ -23,8 +24,10 @@ mod bad;
 mod block;
 mod clear;
 mod deny;
+mod failures;
 mod ic3;
 mod inductive;
+mod order;
 mod picked;
 mod push;
 mod reset;

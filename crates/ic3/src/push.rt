@@ -6,6 +6,7 @@ ghost use Rattle.engine.specs.Findings.{IsInvariant};
 ghost use Rattle.ic3.specs.Told.{IsSound};
 
 use crate::asker::Asker;
+use crate::failures::Failures;
 use engine::EngineError;
 use frames::Frames;
 use graph::{Budget, Lit, Model, Seq};
@@ -21,6 +22,7 @@ impl<S: Sat> Asker<S> {
         alloc: Global,
         circuit: &Model,
         frames: &mut Frames,
+        failures: &mut Failures,
         level: u32,
         place: usize,
         budget: &mut Budget,
@@ -38,13 +40,20 @@ impl<S: Sat> Asker<S> {
             return Ok(());
         }
         let clause = entry.clause.as_slice();
+        if failures.is_known(frames.entries(), level, clause) {
+            return Ok(());
+        }
         match self.after(alloc, circuit, frames, level, clause, budget)? {
             Consecution::Held(_) => {
-                self.tell(alloc, circuit, level + 1, clause)?;
+                self.tell_counted(alloc, circuit, level + 1, clause)?;
                 frames.raise(place);
                 Ok(())
             }
-            _ => Ok(()),
+            Consecution::Broken(time) => {
+                failures.note(alloc, level, clause, time.state.as_slice())?;
+                Ok(())
+            }
+            Consecution::GaveUp => Ok(()),
         }
     }
 
@@ -55,6 +64,7 @@ impl<S: Sat> Asker<S> {
         alloc: Global,
         circuit: &Model,
         frames: &mut Frames,
+        failures: &mut Failures,
         level: u32,
         budget: &mut Budget,
     ) -> Result<(), EngineError>
@@ -68,7 +78,8 @@ impl<S: Sat> Asker<S> {
             if !budget.tick() {
                 return Ok(());
             }
-            self.push_at(alloc, circuit, frames, level, place, budget)?;
+            self.make_room(alloc, circuit, frames)?;
+            self.push_at(alloc, circuit, frames, failures, level, place, budget)?;
         }
         Ok(())
     }
@@ -80,6 +91,7 @@ impl<S: Sat> Asker<S> {
         alloc: Global,
         circuit: &Model,
         frames: &mut Frames,
+        failures: &mut Failures,
         budget: &mut Budget,
     ) -> Result<Option<Seq<Seq<Lit>>>, EngineError>
         requires sound { IsSound circuit.now self.old frames.old }
@@ -87,8 +99,9 @@ impl<S: Sat> Asker<S> {
         ensures sound { OnOk result (IsSound circuit.now self.new frames.new) }
         ensures invariant { IfOk result (λ r. IfSome r (IsInvariant circuit.now)) }
     {
+        failures.trim(frames.entries());
         'pushing: for level in 1..frames.top() {
-            self.push_level(alloc, circuit, frames, level, budget)?;
+            self.push_level(alloc, circuit, frames, failures, level, budget)?;
             match frames.invariant_at(alloc, circuit, level)? {
                 Some(clauses) => return Ok(Some(clauses)),
                 None => {}

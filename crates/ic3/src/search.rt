@@ -10,6 +10,7 @@ ghost use Rattle.ic3.specs.Answers.{IsFound};
 
 use crate::asker::Asker;
 use crate::bad::AtBad;
+use crate::failures::Failures;
 use engine::{EngineError, Finding, Reason};
 use frames::Frames;
 use graph::{Budget, Model};
@@ -58,6 +59,7 @@ impl<S: Sat> Asker<S> {
         ensures spends { Spends budget.old budget.new }
         ensures found { IfOk result (IsFound circuit.now budget.new) }
     {
+        let mut failures = Failures::new(alloc);
         'searching: while budget.tick() {
             match self.at_bad(alloc, circuit, frames, budget)? {
                 AtBad::Set(time) => {
@@ -69,7 +71,7 @@ impl<S: Sat> Asker<S> {
                 }
                 AtBad::Excluded => {
                     self.open_next(alloc, circuit, frames)?;
-                    match self.push_on(alloc, circuit, frames, budget)? {
+                    match self.push_on(alloc, circuit, frames, &mut failures, budget)? {
                         Some(clauses) => return Ok(Finding::Invariant(clauses)),
                         None => {}
                     }

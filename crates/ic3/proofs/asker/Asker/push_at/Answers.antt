@@ -21,8 +21,8 @@ after-requires g c =
       clause = subst (IsStateClause m) (sym c.as_slice-clause.ensures) (item_has (λ (x : Entry). IsStateClause m x.clause) es c.args.place e c.requires.place item c.requires.sound.laws.clauses);
     }
 
-pub tell-requires : goal.tell-requires
-tell-requires g c =
+pub tell_counted-requires : goal.tell_counted-requires
+tell_counted-requires g c =
     let m = c.args.circuit.now in
     let es = c.args.frames.now.entries in
     let e = c.index-entries-place.result in
@@ -66,13 +66,13 @@ returns-in-Held-clause-sound g c =
     let level_is : (get_or es place e).level ≡ k = ap (λ (x : Entry). x.level) (sym item) ∙ c.if-entry-level.false in
     let after = subst (IsAfter m es k clause c.after.new.budget) c.in-Held.is c.in_ok-after.ensures.lawful in
     let old = subst (IsTold m es) (sym c.after.ensures.stays) sound.told in
-    let same : a.levels ≡ c.tell.new.self.levels = sym (c.tell.ensures.levels ∙ ap (λ x. x.levels) c.after.ensures.stays) in
+    let same : a.levels ≡ c.tell_counted.new.self.levels = sym (c.tell_counted.ensures.levels ∙ ap (λ x. x.levels) c.after.ensures.stays) in
     let found = raised_found es fs place k e clause (c.raise.ensures.entries e) c.requires.place clause_is level_is in
-    let above : (get_or es place e).level + 1 < c.tell.new.self.levels = omega (arith, level_is, same, top, c.requires.below) in
+    let above : (get_or es place e).level + 1 < c.tell_counted.new.self.levels = omega (arith, level_is, same, top, c.requires.below) in
     record {
-      told = c.in_ok-tell-in-Held.ensures.told fs (told_within m es fs c.after.new.self c.raise.ensures.within old) (λ s inside. entry_holds fs clause (k + 1) s found inside);
+      told = c.in_ok-tell_counted-in-Held.ensures.told fs (told_within m es fs c.after.new.self c.raise.ensures.within old) (λ s inside. entry_holds fs clause (k + 1) s found inside);
       laws = c.raise.ensures.laws m (bad_literal m 0) k e sound.laws level_is (subst (HoldsAfter m es k) (sym clause_is) after);
       top = omega (arith, top, same, c.raise.ensures.top);
-      below = subst (All (λ (x : Entry). x.level < c.tell.new.self.levels)) (sym (c.raise.ensures.entries e))
-          (All-set (λ (x : Entry). x.level < c.tell.new.self.levels) es place _ above (subst (λ n. All (λ (x : Entry). x.level < n) es) same sound.below));
+      below = subst (All (λ (x : Entry). x.level < c.tell_counted.new.self.levels)) (sym (c.raise.ensures.entries e))
+          (All-set (λ (x : Entry). x.level < c.tell_counted.new.self.levels) es place _ above (subst (λ n. All (λ (x : Entry). x.level < n) es) same sound.below));
     }

@@ -1,7 +1,7 @@
 use Rattle.std.proofs.Common.{sym, subst}
 use Rattle.frames.specs.Frames.{IsStateClause}
 use Rattle.ic3.proofs.Literals.{without_clause}
-use Rattle.ic3.proofs.asker.Asker.drop_at.Goals as goal
+use Rattle.ic3.proofs.asker.Asker.drop_latch.Goals as goal
 
 pub inductive-requires-clause-clause : goal.inductive-requires-clause-clause
 inductive-requires-clause-clause g c =

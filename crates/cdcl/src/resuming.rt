@@ -1,0 +1,43 @@
+//! What a call takes over from the call before.
+//!
+//! The assumptions have the first levels of the trail, in order. A call whose first assumptions are
+//! those of the call before keeps their levels, with all that follows from them, and so costs
+//! nothing for them.
+
+ghost use Rattle.cdcl.specs.Keeping.{Keeps};
+
+use crate::guide::Guide;
+use crate::levels::leave;
+use kernel::Kernel;
+use solver::SatError;
+
+/// The most clauses of one literal that wait for level 0.
+const WAITING: usize = 32;
+
+/// Goes back to where the assumptions are no longer those of the call before, and takes note of
+/// them. Where many clauses of one literal wait for level 0, it goes back to that.
+pub fn resume(kernel: &mut Kernel, guide: &mut Guide, assume: &[i32]) -> Result<(), SatError>
+    ensures { Keeps kernel.old kernel.new }
+{
+    let level = if guide.single.len() > WAITING {
+        0
+    } else {
+        shared(guide, assume)
+    };
+    leave(kernel, guide, level)?;
+    guide.assumed.clear();
+    guide.assumed.extend_from_slice(assume)?;
+    Ok(())
+}
+
+/// How many of the first assumptions have their levels already.
+fn shared(guide: &Guide, assume: &[i32]) -> usize {
+    let open = guide.levels.current();
+    let most = open.min(guide.assumed.len()).min(assume.len());
+    for level in 0..most {
+        if guide.assumed[level] != assume[level] {
+            return level;
+        }
+    }
+    most
+}
