@@ -1,3 +1,6 @@
 pub mod Depths
 pub mod Placed
 pub mod Found
+pub mod Stood
+pub mod Said
+pub mod Stated

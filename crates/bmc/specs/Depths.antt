@@ -5,7 +5,7 @@ use Rattle.graph.specs.declared.circuit.Property.TheVariants.{Bad}
 use Rattle.graph.specs.declared.parts.Parts.{Parts}
 use Rattle.graph.specs.Valuation.{Valuation, value_of}
 use Rattle.graph.specs.Runs.{IsRun, KeepsConstraints}
-use Rattle.stimulus.specs.declared.value.Stimulus.TheVariants.{Violated}
+use Rattle.stimulus.specs.declared.value.Stimulus.TheVariants as stimulus
 use Rattle.stimulus.specs.Shown.{ShowsBad, last_of}
 use Rattle.cnf.specs.Formulas.{bad_literal}
 use Rattle.cnf.specs.Unrolled.{unroll_clauses}
@@ -13,6 +13,8 @@ use Rattle.engine.specs.Bounds.{IsUnsetFor}
 use Rattle.engine.specs.declared.finding.Finding.{Finding}
 use Rattle.engine.specs.declared.finding.Finding.TheVariants.{Invariant, Run, Unknown}
 use Rattle.engine.specs.declared.finding.Reason.TheVariants.{Budget, Depth, NoEvidence}
+use Rattle.bmc.specs.declared.planned.Reached.{Reached}
+use Rattle.bmc.specs.declared.planned.Reached.TheVariants.{Nothing, Ends, Unclear}
 
 -- no run of fewer times than the one found that keeps the constraints sets the bad literal
 abbrev pub IsShortest : Parts → Finding → Type 0
@@ -35,7 +37,7 @@ IsUnsetAfter m steps = (r : List Valuation) → IsRun m r → KeepsConstraints m
 
 -- what ends a search at so many steps: a run of as many that shows the bad literal, or a spent budget
 abbrev pub EndsAt : Parts → ℕ → Steps → Finding → Type 0
-EndsAt m steps after (Run initial inputs) = ShowsBad m (Violated (Bad 0) initial inputs) × (length inputs ≡ steps + 1)
+EndsAt m steps after (Run initial inputs) = ShowsBad m (stimulus.Violated (Bad 0) initial inputs) × (length inputs ≡ steps + 1)
 EndsAt m steps after (Invariant inv) = ⊥
 EndsAt m steps after (Unknown Budget) = after.left ≡ 0
 EndsAt m steps after (Unknown (Depth depth)) = ⊥
@@ -45,6 +47,12 @@ EndsAt m steps after (Unknown NoEvidence) = ⊥
 abbrev pub IsOfSteps : Parts → ℕ → Steps → Option Finding → Type 0
 IsOfSteps m steps after (Some finding) = EndsAt m steps after finding
 IsOfSteps m steps after None = IsUnsetAfter m steps
+
+-- what came of the runs of so many steps: none sets the bad literal, what ends the search, or nothing is known
+abbrev pub IsReached : Parts → ℕ → Steps → Reached → Type 0
+IsReached m steps after Nothing = IsUnsetAfter m steps
+IsReached m steps after (Ends finding) = EndsAt m steps after finding
+IsReached m steps after Unclear = Unit {0}
 
 -- the clauses of the unrolling of one step less
 abbrev pub clauses_before : Parts → ℕ → List (List ℤ)

@@ -1,2 +1,4 @@
 pub mod Depths
 pub mod Times
+pub mod Statements
+pub mod Standing

@@ -4,14 +4,22 @@
 //! constraints and set the bad literal at their last time. So the first run that it finds has the
 //! least number of times; where it finds none, no run of up to the depth sets the bad literal.
 //!
-//! The clauses of a circuit over several times only grow (`cnf::extension`): each time's are added
-//! to the solver once, and the bad literal is what is assumed. Any solver that keeps to `Sat` will
-//! do.
+//! The clauses of a circuit over several times only grow: each time's are added to the solver
+//! once, and the bad literal is what is assumed. They say multiplexers as such and leave out the
+//! gates within (`plan`), and what satisfies them is replayed before it is answered. Where a
+//! replay shows nothing, the search begins anew with the whole unrolling (`cnf::extension`). Any
+//! solver that keeps to `Sat` will do.
 #![tactic(auto)]
 
+mod held;
+mod multiplexer;
+mod plan;
+mod planned;
 mod reach;
 mod reading;
 mod search;
+mod shown;
+mod stating;
 #[cfg(test)]
 mod tests;
 

@@ -22,7 +22,7 @@ fn value(values: &[bool], time: Time, lit: Lit) -> bool
 }
 
 /// The values of the latches at a time.
-fn state_at(
+pub(crate) fn state_at(
     alloc: Global,
     circuit: &Model,
     values: &[bool],
@@ -60,7 +60,7 @@ fn inputs_at(
 }
 
 /// The values of the inputs at each of the first times.
-fn lines(
+pub(crate) fn lines(
     alloc: Global,
     circuit: &Model,
     values: &[bool],

@@ -5,6 +5,7 @@ ghost use Rattle.base.specs.Budget.{Spends};
 ghost use Rattle.engine.specs.Findings.{IsForBad, IsSo};
 ghost use Rattle.bmc.specs.Depths.{IsShortest, IsWithinDepth};
 
+use crate::planned::search_planned;
 use crate::reach::reach;
 use engine::{Engine, EngineError, Finding, Reason};
 use graph::{Budget, Model};
@@ -83,6 +84,9 @@ impl<S: Sat> Engine for Bmc<S> {
         ensures shortest { IfOk result (IsShortest circuit.now) }
         ensures depth { IfOk result (IsWithinDepth self.old) }
     {
-        search_up_to(&mut self.solver, alloc, circuit, self.depth, budget)
+        match search_planned(&mut self.solver, alloc, circuit, self.depth, budget)? {
+            Some(finding) => Ok(finding),
+            None => search_up_to(&mut self.solver, alloc, circuit, self.depth, budget),
+        }
     }
 }

@@ -4,6 +4,7 @@ ghost use Rattle.std.specs.Prelude.{◌≤◌, IfOk};
 ghost use Rattle.engine.specs.Findings.{IsForBad};
 
 use crate::Bmc;
+use crate::planned::search_planned;
 use engine::{Engine, Finding, Reason};
 use graph::{Budget, Gate, Latch, Lit, Model, Parts, Seq};
 use solver::Plain;
@@ -132,5 +133,25 @@ fn reads_the_inputs(rt: HostRuntime) -> Result<(), Fail> {
     let mut engine = Bmc::new(Plain::new(rt.alloc()), 255);
     let finding = engine.find(rt.alloc(), &follows, &mut Budget::new(1_000_000))?;
     assert!(rt; is_run(&finding, &[false], &[true], 2));
+    Ok(())
+}
+
+/// What is found by what the plan says of the gates alone.
+fn planned(alloc: Global, depth: u32) -> Result<Option<Finding>, Fail>
+    requires { depth ≤ 255 }
+{
+    let counter = circuit(alloc, &[], &BITS, &GATES, 12)?;
+    let mut solver = Plain::new(alloc);
+    let mut budget = Budget::new(1_000_000);
+    Ok(search_planned(&mut solver, alloc, &counter, depth, &mut budget)?)
+}
+
+/// The whole unrolling is not asked where the plan says enough.
+#[test]
+fn needs_the_plan_alone(rt: HostRuntime) -> Result<(), Fail> {
+    match planned(rt.alloc(), 3)? {
+        Some(finding) => assert!(rt; is_run(&finding, &[false, false], &[], 4)),
+        None => assert!(rt; false),
+    }
     Ok(())
 }

@@ -10,7 +10,9 @@
 mod engine;
 mod engine_error;
 mod finding;
+mod replay;
 
 pub use engine::Engine;
 pub use engine_error::EngineError;
 pub use finding::{Finding, Reason};
+pub use replay::shown_run;

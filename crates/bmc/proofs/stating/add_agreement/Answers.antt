@@ -1,0 +1,21 @@
+use Rattle.std.proofs.Common.{rules, ◌≡◌, neg_ℤ, SFits, w32}
+use Rattle.lrat.proofs.Fit.{read32}
+use Rattle.bmc.proofs.Stated.{then_ok, read_as, two_more}
+use Rattle.bmc.proofs.stating.add_agreement.Goals as goal
+
+pub returns-clause-clauses : goal.returns-clause-clauses
+returns-clause-clauses g c =
+    let f1 : SFits w32 c.negated.result = search rules in
+    let e1 : c.negated.result ≡ neg_ℤ c.args.literal = search rules in
+    let f2 : SFits w32 c.negated-2.result = search rules in
+    let e2 : c.negated-2.result ≡ neg_ℤ c.args.one = search rules in
+    let f3 : SFits w32 c.negated-3.result = search rules in
+    let e3 : c.negated-3.result ≡ neg_ℤ c.args.other = search rules in
+    let gl : SFits w32 c.args.literal = search rules in
+    let l = read32 _ gl in
+    let ga : SFits w32 c.args.one = search rules in
+    let a = read32 _ ga in
+    let gb : SFits w32 c.args.other = search rules in
+    let b = read32 _ gb in
+    let first = rw (read_as _ _ f1 e1, read_as _ _ f2 e2, read_as _ _ f3 e3) at c.in_ok-add_three.ensures.clauses in
+    then_ok c.add_three-2.result c.add_three-2.ensures.clauses (λ r. two_more _ _ _ _ _ first (rw (l, a, b) at r))
