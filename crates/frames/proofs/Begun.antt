@@ -14,7 +14,7 @@ use Rattle.transition.specs.States.{latch_at, IsSet, Holds}
 use Rattle.transition.proofs.Latched.{no_latch}
 use Rattle.frames.specs.declared.frames.Entry.{Entry}
 use Rattle.frames.specs.Frames.{IsStateClause, InFrame, HoldsInitially, AreFrames}
-use Rattle.frames.specs.Traces.{IsInitialState}
+use Rattle.frames.specs.Resets.{IsInitialState}
 use Rattle.frames.specs.Clauses.{IsResetLit, IsResetEntry, reset_entry}
 use Rattle.frames.proofs.Laws.{levels}
 

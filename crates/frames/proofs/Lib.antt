@@ -2,6 +2,5 @@ pub mod Laws
 pub mod Walks
 pub mod Sifting
 pub mod Begun
-pub mod Shown
 pub mod Translated
 pub mod Fixed

@@ -1,3 +1,3 @@
 pub mod Frames
-pub mod Traces
+pub mod Resets
 pub mod Clauses

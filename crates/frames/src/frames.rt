@@ -1,16 +1,17 @@
 //! Frames, kept as clauses with levels.
 
-ghost use Rattle.std.specs.Prelude.{◌≡◌, ◌≢◌, ◌+◌, ◌<◌, ◌⊎◌, ℕ, Bool, List, None, length, set, slice_index_or, All, Contains, OnOk, OnErr, IfOk, IfSome};
+ghost use Rattle.std.specs.Prelude.{◌≡◌, ◌≢◌, ◌+◌, ◌<◌, ◌≤◌, ◌⊎◌, ℕ, Bool, false, List, None, length, set, slice_index_or, All, Contains, IsTrue, OnOk, OnErr, IfOk, IfSome};
 ghost use Rattle.graph.specs.declared.circuit.Lit.{Lit};
 ghost use Rattle.graph.specs.declared.parts.Parts.{Parts};
 ghost use Rattle.cnf.specs.Formulas.{bad_literal};
 ghost use Rattle.engine.specs.Findings.{IsInvariant};
+ghost use Rattle.transition.specs.States.{Holds, IsPartOf};
 ghost use Rattle.frames.specs.declared.frames.Entry.{Entry};
-ghost use Rattle.frames.specs.Frames.{InFrame, AreFrames, AreWithin, Excludes, IsStateClause, HoldsInitially, HoldsAfter, HoldsOnward, IsNeeded};
-ghost use Rattle.frames.specs.Traces.{IsInitialState};
+ghost use Rattle.frames.specs.Frames.{InFrame, AreFrames, AreWithin, Excludes, IsRising, IsStateClause, HoldsInitially, HoldsAfter, HoldsOnward, IsNeeded};
+ghost use Rattle.frames.specs.Resets.{IsInitialState};
 
 use crate::invariant::{clauses_above, is_left};
-use crate::needless::insert;
+use crate::needless::{insert, is_part};
 use crate::resets::reset_entries;
 use graph::{Lit, Model, Seq};
 use std::alloc::{AllocError, Global};
@@ -64,6 +65,20 @@ impl Frames {
         ensures { result.now ≡ self.now.entries }
     {
         self.entries.as_slice()
+    }
+
+    /// Whether a clause of the frame at `level` is part of this one, which then holds in each of its states.
+    /// Both are taken to be in rising order. It costs the clauses of the frames.
+    pub fn implies(&self, level: u32, clause: &[StateLit]) -> bool
+        ensures sound { IsTrue result → (s : List Bool) → InFrame self.now.entries level s → Holds s clause.now }
+        ensures complete { result ≡ false → IsRising clause.now → All (λ e. level ≤ e.level → IsRising e.clause → IsPartOf e.clause clause.now → ⊥) self.now.entries }
+    {
+        'looking: for entry in self.entries.as_slice() {
+            if level <= entry.level && is_part(entry.clause.as_slice(), clause) {
+                return true;
+            }
+        }
+        false
     }
 
     /// Adds a clause to the frames up to `level`, and drops the clauses that it makes needless

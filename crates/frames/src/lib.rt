@@ -1,12 +1,9 @@
-//! What IC3 keeps of a circuit: frames, and what is still to be denied (Bradley 2011; Een,
-//! Mishchenko, Brayton 2011).
+//! What IC3 keeps of a circuit: frames (Bradley 2011; Een, Mishchenko, Brayton 2011).
 //!
-//! - `Frames` are clauses over the latches, each with the level up to which it holds: frame k is
-//!   the states in which the clauses of level k and above hold. Every run of k steps that keeps the
-//!   constraints ends in frame k. Where no clause ends at a level, the frame is the same as the
-//!   next, and its clauses are an invariant.
-//! - `Obligation`s are times that lead to one at which the bad literal is true. Once the last of
-//!   them has an initial state, they are a run.
+//! `Frames` are clauses over the latches, each with the level up to which it holds: frame k is the
+//! states in which the clauses of level k and above hold. Every run of k steps that keeps the
+//! constraints ends in frame k. Where no clause ends at a level, the frame is the same as the next,
+//! and its clauses are an invariant.
 //!
 //! No solver is asked here: the contracts say what a solver has to have answered before.
 #![tactic(auto)]
@@ -14,10 +11,8 @@
 mod frames;
 mod invariant;
 mod needless;
-mod obligation;
 mod resets;
 #[cfg(test)]
 mod tests;
 
 pub use frames::{Entry, Frames};
-pub use obligation::{Obligation, is_initial, run_of};

@@ -19,7 +19,7 @@ fn is_at(clause: &[StateLit], place: usize, lit: StateLit) -> bool
 
 /// Whether each literal of the first clause is one of the second. Both are in rising order, so one
 /// walk over the second meets the literals of the first one after the other.
-fn is_part(part: &[StateLit], clause: &[StateLit]) -> bool
+pub(crate) fn is_part(part: &[StateLit], clause: &[StateLit]) -> bool
     ensures sound { IsTrue result → IsPartOf part.now clause.now }
     ensures complete { IsRising part.now → IsRising clause.now → IsPartOf part.now clause.now → IsTrue result }
 {

@@ -1,11 +1,10 @@
 //! Frames of two latches that keep their values, the first 0 and the second 1.
 
-use crate::{Entry, Frames, Obligation, is_initial, run_of};
-use engine::Finding;
+use crate::{Entry, Frames};
 use graph::{Latch, Lit, Model, Parts, Seq};
 use std::alloc::Global;
 use std::test::Fail;
-use transition::{StateLit, Time};
+use transition::StateLit;
 
 static LATCHES: [Latch; 3] = [
     Latch {
@@ -147,62 +146,12 @@ fn gives_no_invariant(rt: HostRuntime) -> Result<(), Fail> {
     Ok(())
 }
 
-/// A time of one latch and one input.
-fn time(alloc: Global, state: bool, input: bool) -> Result<Time, Fail> {
-    Ok(Time {
-        state: Seq::from_slice(alloc, &[state])?,
-        inputs: Seq::from_slice(alloc, &[input])?,
-    })
-}
-
-/// The run of three times with the inputs 0, 1, 0, the last of which was put aside first.
-fn run(alloc: Global) -> Result<Finding, Fail> {
-    let mut earlier = Vec::new(alloc);
-    earlier.push(Obligation {
-        time: time(alloc, false, false)?,
-        level: 2,
-    })?;
-    earlier.push(Obligation {
-        time: time(alloc, false, true)?,
-        level: 1,
-    })?;
-    let last = time(alloc, true, false)?;
-    Ok(run_of(alloc, &last, earlier.as_slice())?)
-}
-
-/// Whether the lines are of one value each, and these.
-fn are_lines(lines: &[Seq<bool>], values: [bool; 3]) -> bool {
-    match lines {
-        [one, two, three] => {
-            one.as_slice() == [values[0]].as_slice()
-                && two.as_slice() == [values[1]].as_slice()
-                && three.as_slice() == [values[2]].as_slice()
-        }
-        _ => false,
-    }
-}
-
-fn is_run(finding: &Finding) -> bool {
-    match finding {
-        Finding::Run { initial, inputs } => {
-            initial.as_slice() == [true].as_slice()
-                && are_lines(inputs.as_slice(), [false, true, false])
-        }
-        _ => false,
-    }
-}
-
 #[test]
-fn puts_a_run_in_order(rt: HostRuntime) -> Result<(), Fail> {
-    assert!(rt; is_run(&run(rt.alloc())?));
-    Ok(())
-}
-
-#[test]
-fn knows_initial_states(rt: HostRuntime) -> Result<(), Fail> {
-    assert!(rt; is_initial(&LATCHES, &[false, true, true]));
-    assert!(rt; is_initial(&LATCHES, &[false, true, false]));
-    assert!(rt; !is_initial(&LATCHES, &[true, true, true]));
-    assert!(rt; !is_initial(&LATCHES, &[false, false, true]));
+fn implies_what_has_a_clause_of_the_frame(rt: HostRuntime) -> Result<(), Fail> {
+    let frames = raised(rt.alloc(), 1)?;
+    assert!(rt; frames.implies(0, &[FIRST_LOW]));
+    assert!(rt; frames.implies(1, &[FIRST_LOW, SECOND_HIGH]));
+    assert!(rt; !frames.implies(1, &[FIRST_LOW]));
+    assert!(rt; !frames.implies(2, &[FIRST_LOW, SECOND_HIGH]));
     Ok(())
 }

@@ -1,5 +1,5 @@
 -- What the search's questions are answered (Bradley 2011).
-use Rattle.std.specs.Prelude.{◌≡◌, ℕ, ◌<◌, Bool, true, not, List, length, filter, All, Contains}
+use Rattle.std.specs.Prelude.{◌≡◌, ℕ, ◌≤◌, Bool, true, List, filter}
 use Rattle.base.specs.Budget.{Steps}
 use Rattle.graph.specs.declared.parts.Parts.{Parts}
 use Rattle.graph.specs.Valuation.{Valuation, value_of}
@@ -12,13 +12,14 @@ use Rattle.engine.specs.declared.finding.Reason.TheVariants.{Budget}
 use Rattle.transition.specs.declared.state.StateLit.{StateLit}
 use Rattle.transition.specs.declared.step.Consecution.{Consecution}
 use Rattle.transition.specs.declared.step.Consecution.TheVariants.{Held, Broken, GaveUp}
-use Rattle.transition.specs.States.{Denies, IsPartOf, IsAt, latch_at}
+use Rattle.transition.specs.States.{Denies, IsPartOf, IsAt}
 use Rattle.frames.specs.declared.frames.Entry.{Entry}
 use Rattle.frames.specs.Frames.{IsStateClause, HoldsInitially, HoldsAfter, HoldsToward, HoldsOnward, Excludes}
 use Rattle.ic3.specs.declared.bad.AtBad.{AtBad}
 use Rattle.ic3.specs.declared.bad.AtBad.TheVariants.{Set, Excluded, OutOfBudget}
 use Rattle.ic3.specs.declared.deny.Denial.{Denial}
-use Rattle.ic3.specs.declared.deny.Denial.TheVariants.{Denied, Led, Spent}
+use Rattle.ic3.specs.declared.deny.Denial.TheVariants.{Denied, Initial, Led, Spent}
+use Rattle.ic3.specs.declared.obligation.Obligation.{Obligation}
 
 -- some of the clause's literals, in their order
 abbrev pub IsPicked : List StateLit → List StateLit → Type 0
@@ -49,16 +50,17 @@ IsInductiveAnswer m entries k c after (Held part) = IsInductiveFrom m entries k 
 IsInductiveAnswer m entries k c after (Broken t) = (w : Valuation) × IsAt m w t × Denies (next_state m w) c
 IsInductiveAnswer m entries k c after GaveUp = after.left ≡ 0
 
--- the clause that is false in the one state
-pub record DeniesState (s : List Bool) (c : List StateLit) : Type 0 where
-  pub inside : All (λ a. a.latch < length s) c
-  pub each : (i : ℕ) → i < length s → Contains c (record { latch = i; value = not (latch_at s i) })
+-- an obligation of the frames up to the top: its clause is over the latches
+pub record IsObligation (m : Parts) (top : ℕ) (o : Obligation) : Type 0 where
+  pub below : o.level ≤ top
+  pub clause : IsStateClause m o.clause
 
--- the state is denied, or this time leads to it
-abbrev pub IsDenial : Parts → List Bool → Steps → Denial → Type 0
-IsDenial m s after Denied = Unit {0}
-IsDenial m s after (Led t) = (w : Valuation) × IsAt m w t × (next_state m w ≡ s)
-IsDenial m s after Spent = after.left ≡ 0
+-- the states in which the clause is false are denied, or no reset excludes them, or this time leads to one of them
+abbrev pub IsDenial : Parts → List StateLit → Steps → Denial → Type 0
+IsDenial m c after Denied = Unit {0}
+IsDenial m c after Initial = Unit {0}
+IsDenial m c after (Led t) = (w : Valuation) × IsAt m w t × Denies (next_state m w) c
+IsDenial m c after Spent = after.left ≡ 0
 
 -- a time in frame k at which the bad literal is true, or that there is none
 abbrev pub IsAtBad : Parts → List Entry → ℕ → Steps → AtBad → Type 0

@@ -1,17 +1,18 @@
 //! Times that lead to the bad literal, denied one after the other.
 
-ghost use Rattle.std.specs.Prelude.{◌≡◌, ◌≤◌, ◌++◌, ◌∷◌, [], length, IfOk, IfSome, OnOk};
+ghost use Rattle.std.specs.Prelude.{◌≡◌, ◌≤◌, ◌++◌, ◌∷◌, [], IfOk, IfSome, OnOk};
 ghost use Rattle.base.specs.Budget.{Spends};
-ghost use Rattle.cnf.specs.Formulas.{bad_literal};
-ghost use Rattle.engine.specs.Findings.{IsForBad};
-ghost use Rattle.frames.specs.Traces.{IsTrace};
+ghost use Rattle.graph.specs.Valuation.{Valuation};
+ghost use Rattle.transition.specs.States.{IsAt};
 ghost use Rattle.ic3.specs.Told.{IsSound};
-ghost use Rattle.ic3.specs.Answers.{IsDecided, IsFound};
+ghost use Rattle.ic3.specs.Answers.{IsFound};
 
 use crate::asker::Asker;
 use crate::deny::Denial;
+use crate::obligation::{Obligation, obligation_at, obligation_before};
+use crate::run::run_of;
 use engine::{EngineError, Finding, Reason};
-use frames::{Frames, Obligation, is_initial, run_of};
+use frames::Frames;
 use graph::{Budget, Model};
 use solver::Sat;
 use std::alloc::{AllocError, Global};
@@ -25,22 +26,12 @@ fn stack(earlier: &mut Vec<Obligation>, now: Obligation) -> Result<(), AllocErro
     Ok(())
 }
 
-/// The finding, if it is a run.
-fn as_run(finding: Finding) -> Option<Finding>
-    ensures same { IfSome result (λ run. run ≡ finding) }
-    ensures decided { IfSome result IsDecided }
-{
-    match finding {
-        Finding::Run { initial, inputs } => Some(Finding::Run { initial, inputs }),
-        _ => None,
-    }
-}
-
 impl<S: Sat> Asker<S> {
     /// Denies a time of the frame at `level` at which the bad literal is true, and before it all
-    /// that leads to it, or finds a run. A time that is denied is taken up again in the frames above,
-    /// so that all of a long way to the bad literal is denied at once (Een, Mishchenko, Brayton 2011).
-    /// Each time that is looked at costs a step of the budget.
+    /// that leads to it, or finds a run. Each time stands for all states that lead on as its own
+    /// does. What is denied is taken up again in the frames above, so that all of a long way to the
+    /// bad literal is denied at once (Een, Mishchenko, Brayton 2011). Each obligation that is looked
+    /// at costs a step of the budget.
     pub(crate) fn clear(
         &mut self,
         alloc: Global,
@@ -50,38 +41,29 @@ impl<S: Sat> Asker<S> {
         time: Time,
         budget: &mut Budget,
     ) -> Result<Option<Finding>, EngineError>
-        requires for_bad { IsForBad circuit.now }
         requires sound { IsSound circuit.now self.old frames.old }
         requires below { level ≤ frames.old.top }
-        requires trace { IsTrace circuit.now (bad_literal circuit.now 0) (time ∷ []) }
+        requires at { (w : Valuation) × IsAt circuit.now w time }
         ensures spends { Spends budget.old budget.new }
         ensures sound { OnOk result (IsSound circuit.now self.new frames.new) }
         ensures lawful { IfOk result (λ r. IfSome r (IsFound circuit.now budget.new)) }
     {
         let mut earlier: Vec<Obligation> = Vec::new(alloc);
-        let mut now = Obligation { time, level };
+        let mut now = obligation_at(alloc, circuit, time, level)?;
         'clearing: while budget.tick() {
-            if is_initial(circuit.latches(), now.time.state.as_slice()) {
-                return Ok(as_run(run_of(alloc, &now.time, earlier.as_slice())?));
-            }
             let level = now.level;
-            match self.deny(
-                alloc,
-                circuit,
-                frames,
-                level,
-                now.time.state.as_slice(),
-                budget,
-            )? {
+            let clause = now.clause.as_slice();
+            match self.deny(alloc, circuit, frames, level, clause, budget)? {
+                Denial::Initial => return run_of(alloc, circuit, &now.time, earlier.as_slice()),
                 Denial::Denied if level < frames.top() => now.level = level + 1,
                 Denial::Denied => match earlier.pop() {
                     Some(before) => now = before,
                     None => return Ok(None),
                 },
                 Denial::Led(time) => {
-                    let level = level.saturating_sub(1);
+                    let before = obligation_before(alloc, circuit, time, &now)?;
                     stack(&mut earlier, now)?;
-                    now = Obligation { time, level };
+                    now = before;
                 }
                 Denial::Spent => return Ok(Some(Finding::Unknown(Reason::Budget))),
             }

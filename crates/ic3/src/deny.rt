@@ -1,64 +1,31 @@
 //! States that the frames are to exclude.
 
-ghost use Rattle.std.specs.Prelude.{◌≡◌, ◌<◌, ◌≤◌, ◌^◌, length, IfOk, OnOk};
+ghost use Rattle.std.specs.Prelude.{◌≡◌, ◌<◌, ◌≤◌, IfOk, OnOk};
 ghost use Rattle.base.specs.Budget.{Spends};
 ghost use Rattle.frames.specs.Frames.{IsStateClause};
-ghost use Rattle.graph.specs.declared.parts.Parts.{Parts};
 ghost use Rattle.ic3.specs.Told.{IsSound};
-ghost use Rattle.ic3.specs.Answers.{IsInductiveFrom, DeniesState, IsDenial};
+ghost use Rattle.ic3.specs.Answers.{IsInductiveFrom, IsDenial};
 
 use crate::asker::Asker;
 use crate::reset::reset_literal;
 use engine::EngineError;
-use frames::{Entry, Frames};
+use frames::Frames;
 use graph::{Budget, Model, Seq};
 use solver::Sat;
-use std::alloc::{AllocError, Global};
+use std::alloc::Global;
 use transition::{Consecution, StateLit, Time};
 
-/// What became of a state that was to be denied.
+/// What became of states that were to be denied.
 #[derive(Debug, Drop)]
 pub(crate) enum Denial {
-    /// The frames exclude it.
+    /// The frames exclude them.
     Denied,
-    /// This time leads to it.
+    /// No reset of the circuit excludes them all.
+    Initial,
+    /// This time leads to one of them.
     Led(Time),
     /// The budget has nothing left.
     Spent,
-}
-
-/// Whether each literal of the clause is unset in the state.
-fn is_false(clause: &[StateLit], state: &[bool]) -> bool {
-    clause
-        .iter()
-        .all(|lit| state.get(lit.latch as usize) != Some(&lit.value))
-}
-
-/// Whether a clause of the frame at `level` is false in the state, so that nothing has to be asked. It
-/// costs the clauses of the frames.
-pub(crate) fn is_excluded(entries: &[Entry], level: u32, state: &[bool]) -> bool {
-    for entry in entries {
-        if level <= entry.level && is_false(entry.clause.as_slice(), state) {
-            return true;
-        }
-    }
-    false
-}
-
-/// The clause that is false in this state alone.
-fn clause_of(alloc: Global, state: &[bool]) -> Result<Seq<StateLit>, AllocError>
-    requires { length state.now < 2 ^ 32 }
-    ensures denies { IfOk result (DeniesState state.now) }
-    ensures clause { (m : Parts) → length m.latches ≡ length state.now → IfOk result (IsStateClause m) }
-{
-    let mut clause = Seq::new(alloc);
-    'denying: for i in 0..state.len() {
-        clause.push(StateLit {
-            latch: i as u32,
-            value: !state[i],
-        })?;
-    }
-    Ok(clause)
 }
 
 impl<S: Sat> Asker<S> {
@@ -84,42 +51,33 @@ impl<S: Sat> Asker<S> {
         self.block(alloc, circuit, frames, last, shorter)
     }
 
-    /// Denies a state in the frame at `level`, or finds a time that leads to it.
+    /// Denies the states in which the clause is false in the frame at `level`, or finds a time that leads
+    /// to one of them.
     pub(crate) fn deny(
         &mut self,
         alloc: Global,
         circuit: &Model,
         frames: &mut Frames,
         level: u32,
-        state: &[bool],
+        clause: &[StateLit],
         budget: &mut Budget,
     ) -> Result<Denial, EngineError>
         requires sound { IsSound circuit.now self.old frames.old }
         requires below { level ≤ frames.old.top }
-        requires state { length state.now ≡ length circuit.now.latches }
+        requires clause { IsStateClause circuit.now clause.now }
         ensures top { frames.new.top ≡ frames.old.top }
         ensures spends { Spends budget.old budget.new }
         ensures sound { OnOk result (IsSound circuit.now self.new frames.new) }
-        ensures lawful { IfOk result (IsDenial circuit.now state.now budget.new) }
+        ensures lawful { IfOk result (IsDenial circuit.now clause.now budget.new) }
     {
-        circuit.parts();
-        if level == 0 || is_excluded(frames.entries(), level, state) {
+        let Some(first) = reset_literal(circuit.latches(), clause) else {
+            return Ok(Denial::Initial);
+        };
+        if level == 0 || frames.implies(level, clause) {
             return Ok(Denial::Denied);
         }
         let before = level - 1;
-        let clause = clause_of(alloc, state)?;
-        let Some(first) = reset_literal(circuit.latches(), clause.as_slice()) else {
-            return Ok(Denial::Denied);
-        };
-        match self.inductive(
-            alloc,
-            circuit,
-            frames,
-            before,
-            clause.as_slice(),
-            first,
-            budget,
-        )? {
+        match self.inductive(alloc, circuit, frames, before, clause, first, budget)? {
             Consecution::Held(part) => {
                 self.learn(alloc, circuit, frames, before, part, budget)?;
                 Ok(Denial::Denied)

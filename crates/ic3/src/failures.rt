@@ -3,7 +3,6 @@
 //! As long as such a state lies in the frame, the clause does not move on, so it need not be asked for
 //! again.
 
-use crate::deny::is_excluded;
 use frames::Entry;
 use graph::Seq;
 use std::alloc::{AllocError, Global};
@@ -21,6 +20,23 @@ struct Failure {
 #[derive(Drop)]
 pub(crate) struct Failures {
     items: Vec<Failure>,
+}
+
+/// Whether each literal of the clause is unset in the state.
+fn is_false(clause: &[StateLit], state: &[bool]) -> bool {
+    clause
+        .iter()
+        .all(|lit| state.get(lit.latch as usize) != Some(&lit.value))
+}
+
+/// Whether a clause of the frame at `level` is false in the state. It costs the clauses of the frames.
+fn is_excluded(entries: &[Entry], level: u32, state: &[bool]) -> bool {
+    for entry in entries {
+        if level <= entry.level && is_false(entry.clause.as_slice(), state) {
+            return true;
+        }
+    }
+    false
 }
 
 impl Failures {

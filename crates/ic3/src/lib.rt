@@ -7,9 +7,11 @@
 //! the next; and all frames but the last exclude the bad literal. They are the fields of
 //! `AreFrames`, which stands in `IsSound`, and every call keeps that.
 //!
-//! A time of the last frame at which the bad literal is true is denied: by a clause that excludes
-//! its state and holds after each step from the frame before, or else by denying first what leads
-//! to it. The times still to be denied are a run, once the first is initial. Where the last frame
+//! A time of the last frame at which the bad literal is true stands for all states that lead on as
+//! its own does: those that agree with it in the latches on which the gates' values rest. They are
+//! denied: by a clause that excludes them and holds after each step from the frame before, or else
+//! by denying first what leads to one of them. What is still to be denied is a run, once it has an
+//! initial state; it is answered where its replay shows the bad literal. Where the last frame
 //! excludes the bad literal, the next is opened, and clauses that hold one step longer move on. A
 //! frame that is the same as the next is an invariant.
 //!
@@ -27,10 +29,13 @@ mod deny;
 mod failures;
 mod ic3;
 mod inductive;
+mod lift;
+mod obligation;
 mod order;
 mod picked;
 mod push;
 mod reset;
+mod run;
 mod search;
 #[cfg(test)]
 mod tests;

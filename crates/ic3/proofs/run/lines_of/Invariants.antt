@@ -1,5 +1,5 @@
 use Rattle.std.proofs.Common.{◌≡◌, ◌≤◌, ◌∷◌, map, reverse, drop, length}
-use Rattle.frames.proofs.obligation.lines_of.Given as goal
+use Rattle.ic3.proofs.run.lines_of.Given as goal
 
 abbrev pub invariant-listing : goal.invariant-listing
 invariant-listing l = (l.place ≤ length l.earlier) × (l.lines ≡ l.last.inputs ∷ map (λ o. o.time.inputs) (reverse (drop l.place l.earlier)))
