@@ -13,10 +13,6 @@ use solver::{Plain, Sat};
 use std::alloc::Global;
 use std::test::Fail;
 
-/// How many steps a run may have at most where `Plain` looks for it: it tries both values of each variable,
-/// of those too that the search has no clauses about.
-const FEW_STEPS: u8 = 6;
-
 /// Circuits, how many steps a run may have, and how many times the shortest one has that sets the bad
 /// literal, 0 where there is none.
 static WORKED: [(&[u8], u8, usize); 7] = [
@@ -78,8 +74,7 @@ fn by_backtracking(rt: HostRuntime) -> Result<(), Fail> {
     let alloc = rt.alloc();
     for (text, depth, wanted) in &WORKED {
         let circuit = circuit(alloc, text)?;
-        let depth = FEW_STEPS.min(*depth);
-        let found = times(Plain::new(alloc), alloc, &circuit, depth, 10_000_000)?;
+        let found = times(Plain::new(alloc), alloc, &circuit, *depth, 10_000_000)?;
         assert_eq!(rt; found, Some(*wanted));
     }
     Ok(())

@@ -1,12 +1,12 @@
 -- What a search has ruled out.
-use Rattle.std.proofs.Common.{◌≡◌, ◌<◌, ℕ, zero, suc, Bool, true, false, List, [], ◌∷◌, ◌++◌, length, take, get_or, All, Contains, ℤ, inl, inr, refl, sym, ap, ◌∙◌, subst, arith, append_assoc}
-use Rattle.std.specs.Prelude.{replicate}
+use Rattle.std.proofs.Common.{◌≡◌, ◌≢◌, ◌<◌, ◌+◌, ◌==◌, ℕ, zero, suc, Bool, true, false, not, if◌then◌else◌, List, [], ◌∷◌, ◌++◌, length, take, get_or, All, Contains, ℤ, pos, negsuc, unsigned_abs, inl, inr, refl, sym, ap, ◌∙◌, subst, arith, append_assoc}
 use Rattle.std.proofs.lemmas.List.{append-nil, take-append-le, take_at, get_or_append_left, get_or_push, length_push}
 use Rattle.std.proofs.lemmas.List.Elements.{All-contains}
-use Rattle.std.proofs.lemmas.Bool.{cases_lt, false≢true}
+use Rattle.std.proofs.lemmas.Bool.{cases_lt, eq-eqb, ne_eqb, false≢true}
 use Rattle.lrat.specs.Literals.{is_true, IsSatisfied}
 use Rattle.solver.specs.Answers.{AreTrue, IsRefuted}
-use Rattle.solver.specs.Branches.{IsNextBranch, IsLastBranch}
+use Rattle.solver.specs.Branches.{Lacks, IsFree, AreExhausted, IsNextBranch, IsLastBranch}
+use Rattle.solver.proofs.Looks.{among_all}
 
 -- v gives each variable that has a place in the list the value there
 abbrev pub Agrees : (ℕ → Bool) → List Bool → Type 0
@@ -59,32 +59,76 @@ ruled_back cs ls b off on v agrees sat all =
       | false ↦ λ e. off v (agrees_push v b false agrees e) sat all
     ] refl
 
+-- v, with another value for the variable n
+abbrev turned : (ℕ → Bool) → ℕ → Bool → ℕ → Bool
+turned v n x k = if k == n then x else v k
+
+turned_at : (v : ℕ → Bool) (n : ℕ) (x : Bool) → turned v n x n ≡ x
+turned_at v n x = rw (eq-eqb n n refl) refl
+
+turned_other : (v : ℕ → Bool) (n : ℕ) (x : Bool) (k : ℕ) → (k ≡ n → ⊥) → turned v n x k ≡ v k
+turned_other v n x k apart = rw (ne_eqb k n apart) refl
+
+-- a literal of another variable is what it was
+literal_turned : (v : ℕ → Bool) (n : ℕ) (x : Bool) (l : ℤ) → unsigned_abs l ≢ n → is_true (turned v n x) l ≡ is_true v l
+literal_turned v n x (pos zero) apart = refl
+literal_turned v n x (pos (suc k)) apart = turned_other v n x (suc k) apart
+literal_turned v n x (negsuc k) apart = ap not (turned_other v n x (suc k) apart)
+
+satisfied_turned : (v : ℕ → Bool) (n : ℕ) (x : Bool) (c : List ℤ) → Lacks n c → IsSatisfied v c → IsSatisfied (turned v n x) c
+satisfied_turned v n x c lacks sat = (sat.0, sat.1, literal_turned v n x sat.0 (All-contains (λ k. unsigned_abs k ≢ n) c sat.0 lacks sat.1) ∙ sat.2)
+
+-- where one value of a free variable is ruled out at the end, the list without it is
+ruled_free : (cs : List (List ℤ)) (ls : List ℤ) (b : List Bool) (x : Bool) → IsFree (length b) cs ls → IsRuledOut cs ls (b ++ x ∷ []) → IsRuledOut cs ls b
+ruled_free cs ls b x free out v agrees sat all =
+    let w : ℕ → Bool = turned v (length b) x in
+    out w (agrees_push w b x (λ k some h. turned_other v (length b) x k (λ e. omega (arith, e)) ∙ agrees k some h) (turned_at v (length b) x))
+    (λ k d h. satisfied_turned v (length b) x (get_or cs k d) (free.clauses k d h) (sat k d h))
+    (λ k d h. literal_turned v (length b) x (get_or ls k d) (free.literals k d h) ∙ all k d h)
+
+-- what all the assumptions lack, some of them lack
+free_among : (n : ℕ) (cs : List (List ℤ)) (assume ls : List ℤ) → All (Contains assume) ls → IsFree n cs assume → IsFree n cs ls
+free_among n cs assume ls among free = record {
+  clauses = free.clauses;
+  literals = among_all (λ l. unsigned_abs l ≢ n) assume ls free.literals among;
+}
+
 -- the false value before the last true one was tried
 tried_last : (cs : List (List ℤ)) (ls : List ℤ) (b : List Bool) → 0 < length b → IsTried cs ls (b ++ true ∷ []) → IsRuledOut cs ls (b ++ false ∷ [])
 tried_last cs ls b some tried =
     subst (λ t. IsRuledOut cs ls (t ++ false ∷ [])) (take_at b (true ∷ []) (length b) refl) (tried (length b) some (get_or_push b true false (length b) refl))
 
--- true values at the end go, where the whole is ruled out
-pub ruled_off : (cs : List (List ℤ)) (ls : List ℤ) (b : List Bool) (n : ℕ) → 0 < length b → IsTried cs ls (b ++ replicate n true) → IsRuledOut cs ls (b ++ replicate n true) → IsTried cs ls b × IsRuledOut cs ls b
-ruled_off cs ls b zero some tried out = (subst (IsTried cs ls) (append-nil b) tried, subst (IsRuledOut cs ls) (append-nil b) out)
-ruled_off cs ls b (suc n) some tried out =
-    let e : b ++ replicate (suc n) true ≡ (b ++ true ∷ []) ++ replicate n true = sym (append_assoc b (true ∷ []) (replicate n true)) in
-    let more : 0 < length (b ++ true ∷ []) = omega (arith, length_push b true) in
-    let got : IsTried cs ls (b ++ true ∷ []) × IsRuledOut cs ls (b ++ true ∷ []) = ruled_off cs ls (b ++ true ∷ []) n more (subst (IsTried cs ls) e tried) (subst (IsRuledOut cs ls) e out) in
-    (tried_front cs ls b (true ∷ []) got.0, ruled_back cs ls b (tried_last cs ls b some got.0) got.1)
+-- the value at the end is true and false was tried before it, or its variable is free: without it, all is ruled out too
+ruled_last : (cs : List (List ℤ)) (ls : List ℤ) (b : List Bool) (x : Bool) → 0 < length b → (x ≡ false → IsFree (length b) cs ls) → IsTried cs ls (b ++ x ∷ []) → IsRuledOut cs ls (b ++ x ∷ []) → IsRuledOut cs ls b
+ruled_last cs ls b true some free tried out = ruled_back cs ls b (tried_last cs ls b some tried) out
+ruled_last cs ls b false some free tried out = ruled_free cs ls b false (free refl) out
+
+-- values at the end that have no other one to try go, where the whole is ruled out
+pub ruled_off : (cs : List (List ℤ)) (assume ls : List ℤ) (b gone : List Bool) → 0 < length b → All (Contains assume) ls → AreExhausted cs assume (length b) gone →
+    IsTried cs ls (b ++ gone) → IsRuledOut cs ls (b ++ gone) → IsTried cs ls b × IsRuledOut cs ls b
+ruled_off cs assume ls b [] some among exhausted tried out = (subst (IsTried cs ls) (append-nil b) tried, subst (IsRuledOut cs ls) (append-nil b) out)
+ruled_off cs assume ls b (x ∷ gone) some among exhausted tried out =
+    let e : b ++ x ∷ gone ≡ (b ++ x ∷ []) ++ gone = sym (append_assoc b (x ∷ []) gone) in
+    let one : length (b ++ x ∷ []) ≡ length b + 1 = length_push b x in
+    let here : length b + 0 ≡ length b = omega arith in
+    let got : IsTried cs ls (b ++ x ∷ []) × IsRuledOut cs ls (b ++ x ∷ []) =
+    ruled_off cs assume ls (b ++ x ∷ []) gone (omega arith) among (λ k off. let same : length b + suc k ≡ length (b ++ x ∷ []) + k = omega arith in subst (λ n. IsFree n cs assume) same (exhausted (suc k) off))
+    (subst (IsTried cs ls) e tried) (subst (IsRuledOut cs ls) e out) in
+    (tried_front cs ls b (x ∷ []) got.0, ruled_last cs ls b x some (λ off. free_among (length b) cs assume ls among (subst (λ n. IsFree n cs assume) here (exhausted 0 off))) got.0 got.1)
 
 -- where a branch is ruled out, so is the false value before the next one
-pub tried_next : (cs : List (List ℤ)) (ls : List ℤ) (old new : List Bool) → IsTried cs ls old → IsRuledOut cs ls old → IsNextBranch old new → IsTried cs ls new
-tried_next cs ls old new tried out next =
-    let e : old ≡ (next.kept ++ false ∷ []) ++ replicate next.gone true = next.before ∙ sym (append_assoc next.kept (false ∷ []) (replicate next.gone true)) in
-    let more : 0 < length (next.kept ++ false ∷ []) = omega (arith, length_push next.kept false) in
-    let got : IsTried cs ls (next.kept ++ false ∷ []) × IsRuledOut cs ls (next.kept ++ false ∷ []) = ruled_off cs ls (next.kept ++ false ∷ []) next.gone more (subst (IsTried cs ls) e tried) (subst (IsRuledOut cs ls) e out) in
+pub tried_next : (cs : List (List ℤ)) (assume ls : List ℤ) (old new : List Bool) → All (Contains assume) ls → IsTried cs ls old → IsRuledOut cs ls old → IsNextBranch cs assume old new → IsTried cs ls new
+tried_next cs assume ls old new among tried out next =
+    let e : old ≡ (next.kept ++ false ∷ []) ++ next.gone = next.before ∙ sym (append_assoc next.kept (false ∷ []) next.gone) in
+    let one : length (next.kept ++ false ∷ []) ≡ length next.kept + 1 = length_push next.kept false in
+    let got : IsTried cs ls (next.kept ++ false ∷ []) × IsRuledOut cs ls (next.kept ++ false ∷ []) =
+    ruled_off cs assume ls (next.kept ++ false ∷ []) next.gone (omega arith) among (subst (λ n. AreExhausted cs assume n next.gone) (sym one) next.exhausted) (subst (IsTried cs ls) e tried) (subst (IsRuledOut cs ls) e out) in
     subst (IsTried cs ls) (sym next.after) (tried_push cs ls next.kept true (tried_front cs ls next.kept (false ∷ []) got.0) (λ _. got.1))
 
 -- and where it was the last, nothing is left
-pub refuted_last : (cs : List (List ℤ)) (ls : List ℤ) (old : List Bool) → IsTried cs ls old → IsRuledOut cs ls old → IsLastBranch old → IsRefuted cs ls
-refuted_last cs ls old tried out last v sat all =
-    let got : IsTried cs ls (last.first ∷ []) × IsRuledOut cs ls (last.first ∷ []) = ruled_off cs ls (last.first ∷ []) last.gone (omega arith) (subst (IsTried cs ls) last.only tried) (subst (IsRuledOut cs ls) last.only out) in
+pub refuted_last : (cs : List (List ℤ)) (assume ls : List ℤ) (old : List Bool) → All (Contains assume) ls → IsTried cs ls old → IsRuledOut cs ls old → IsLastBranch cs assume old → IsRefuted cs ls
+refuted_last cs assume ls old among tried out last v sat all =
+    let got : IsTried cs ls (last.first ∷ []) × IsRuledOut cs ls (last.first ∷ []) = ruled_off cs assume ls (last.first ∷ []) last.gone (omega arith) among last.exhausted (subst (IsTried cs ls) last.only tried) (subst (IsRuledOut cs ls) last.only out) in
     got.1 v (λ k some h. absurd (omega arith)) sat all
 
 -- a core that grows

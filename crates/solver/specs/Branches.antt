@@ -1,5 +1,5 @@
 -- Values of the first variables, and the branches of a search over them.
-use Rattle.std.specs.Prelude.{◌≡◌, ℕ, ◌<◌, ℤ, Bool, true, false, List, [], ◌∷◌, ◌++◌, length, replicate, All, Contains, ◌⊎◌, unsigned_abs}
+use Rattle.std.specs.Prelude.{◌≡◌, ◌≢◌, ℕ, ◌+◌, ◌<◌, ℤ, Bool, true, false, List, [], ◌∷◌, ◌++◌, length, slice_index_or, All, Contains, ◌⊎◌, unsigned_abs}
 use Rattle.base.specs.Budget.{Steps}
 use Rattle.lrat.specs.Literals.{is_true}
 use Rattle.solver.specs.Answers.{values}
@@ -29,16 +29,31 @@ Finds b cs assume core after Open = IsOpen b cs assume
 Finds b cs assume core after Closed = IsClosed b cs core
 Finds b cs assume core after Spent = after.left ≡ 0
 
--- the last false value becomes true, and what is behind it, all true, goes; place 0 stays
-pub record IsNextBranch (old new : List Bool) : Type 0 where
+-- none of the literals is of the variable n
+abbrev pub Lacks : ℕ → List ℤ → Type 0
+Lacks n ls = All (λ l. unsigned_abs l ≢ n) ls
+
+-- neither the clauses nor the literals have the variable n, whose value then changes nothing
+pub record IsFree (n : ℕ) (cs : List (List ℤ)) (ls : List ℤ) : Type 0 where
+  pub clauses : All (Lacks n) cs
+  pub literals : Lacks n ls
+
+-- each of the values, the first of which is of the variable n, is true or of a free variable
+abbrev pub AreExhausted : List (List ℤ) → List ℤ → ℕ → List Bool → Type 0
+AreExhausted cs ls n b = (k : ℕ) → slice_index_or b k true ≡ false → IsFree (n + k) cs ls
+
+-- a false value becomes true, and what is behind it, with no other value to try, goes; place 0 stays
+pub record IsNextBranch (cs : List (List ℤ)) (ls : List ℤ) (old new : List Bool) : Type 0 where
   pub kept : List Bool
-  pub gone : ℕ
+  pub gone : List Bool
   pub starts : 0 < length kept
-  pub before : old ≡ kept ++ false ∷ replicate gone true
+  pub before : old ≡ kept ++ false ∷ gone
+  pub exhausted : AreExhausted cs ls (length kept + 1) gone
   pub after : new ≡ kept ++ true ∷ []
 
--- behind place 0 all values are true
-pub record IsLastBranch (old : List Bool) : Type 0 where
+-- behind place 0 no value has another one to try
+pub record IsLastBranch (cs : List (List ℤ)) (ls : List ℤ) (old : List Bool) : Type 0 where
   pub first : Bool
-  pub gone : ℕ
-  pub only : old ≡ first ∷ replicate gone true
+  pub gone : List Bool
+  pub only : old ≡ first ∷ gone
+  pub exhausted : AreExhausted cs ls 1 gone

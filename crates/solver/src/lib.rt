@@ -11,6 +11,7 @@
 #![tactic(auto)]
 
 mod answer;
+mod free;
 mod look;
 mod plain;
 mod sat;

@@ -8,22 +8,23 @@ ghost use Rattle.solver.specs.declared.sat_error.SatError.TheVariants.{OutOfMemo
 ghost use Rattle.solver.specs.Branches.{IsNextBranch, IsLastBranch};
 
 use crate::answer::Answer;
+use crate::free::is_free;
 use crate::look::{Seen, look};
 use crate::sat_error::SatError;
 use base::Budget;
 use lrat::Clause;
 use std::alloc::Global;
 
-/// Goes on to the next branch: variables whose both values were tried have none any more, and the
-/// last of the others becomes true. Answers false where both values of each were tried.
-fn next_branch(values: &mut Vec<bool>) -> bool
+/// Goes on to the next branch: variables with no other value to try, as they are true or free, have
+/// none any more, and the last of the others becomes true. Answers false where there is no other.
+fn next_branch(values: &mut Vec<bool>, clauses: &[Clause], assume: &[i32]) -> bool
     requires { 0 < length values.old.items }
-    ensures next { result ≡ true → IsNextBranch values.old.items values.new.items }
-    ensures last { result ≡ false → IsLastBranch values.old.items }
+    ensures next { result ≡ true → IsNextBranch clauses.now assume.now values.old.items values.new.items }
+    ensures last { result ≡ false → IsLastBranch clauses.now assume.now values.old.items }
 {
     while values.len() > 1 {
         let last = values.len() - 1;
-        if !values[last] {
+        if !values[last] && !is_free(clauses, assume, last) {
             values[last] = true;
             return true;
         }
@@ -33,8 +34,9 @@ fn next_branch(values: &mut Vec<bool>) -> bool
 }
 
 /// Tries the values of the variables 1 to `vars` in order, false before true, and goes back where
-/// a clause or an assumption is false whatever the other variables are. The core has the
-/// assumptions that were found false. Each clause looked at and each branch is a step.
+/// a clause or an assumption is false whatever the other variables are. A variable that is in none
+/// of them stays false. The core has the assumptions that were found false. Each look at a clause
+/// for its values is a step, and so is each branch.
 pub fn search(
     alloc: Global,
     vars: u32,
@@ -54,7 +56,7 @@ pub fn search(
         match look(values.as_slice(), clauses, assume, &mut core, budget)? {
             Seen::Spent => return Ok(Answer::Spent),
             Seen::Closed => {
-                if !next_branch(&mut values) {
+                if !next_branch(&mut values, clauses, assume) {
                     return Ok(Answer::Core(core));
                 }
             }

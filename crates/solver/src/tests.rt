@@ -13,10 +13,12 @@ use std::process::Abort;
 use std::test::Fail;
 
 /// Formulas that nothing satisfies, with their greatest variables.
-static REFUTED: [(u16, &[&[i32]]); 4] = [
+static REFUTED: [(u16, &[&[i32]]); 5] = [
     (0, &[&[]]),
     (2, &[&[1, 2], &[1, -2], &[-1, 2], &[-1, -2]]),
     (3, &[&[1], &[-1, 2], &[-2, 3], &[-3]]),
+    // most variables are in no clause
+    (60, &[&[59, 60], &[59, -60], &[-59, 60], &[-59, -60]]),
     (
         6,
         &[

@@ -1,10 +1,11 @@
-use Rattle.std.proofs.Common.{◌≡◌, ◌<◌, ◌-◌, ◌++◌, length, replicate, true}
+use Rattle.std.proofs.Common.{◌<◌, length}
+use Rattle.solver.proofs.Branching.{AreGone}
 use Rattle.solver.proofs.search.next_branch.Given as goal
 
 abbrev pub invariant-loop-values : goal.invariant-loop-values
 invariant-loop-values l = record {
   starts : 0 < length l.values.items;
-  whole : l.fn.values.items ≡ l.values.items ++ replicate (length l.fn.values.items - length l.values.items) true;
+  went : AreGone l.clauses l.assume l.fn.values.items l.values.items;
 }
 
 abbrev pub decreases-loop-values : goal.decreases-loop-values

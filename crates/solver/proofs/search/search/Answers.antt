@@ -15,7 +15,7 @@ returns-then-not-next_branch-clause-lawful c =
     let out : IsRuledOut c.args.clauses.now c.look.new.core.items c.searching.values.items = closed_out _ _ _ (not_zeros c.args.vars _ c.requires.clauses) (not_zero c.args.vars _ (among_all (IsLiteral c.args.vars) _ _ c.requires.assumed c.look.ensures.among)) closed in
     record {
       among = c.look.ensures.among;
-      refuted = refuted_last _ _ c.searching.values.items (tried_more _ _ _ _ c.look.ensures.more c.searching.invariant.tried) out (c.next_branch.ensures.last c.if-not-next_branch.true);
+      refuted = refuted_last _ _ _ c.searching.values.items c.look.ensures.among (tried_more _ _ _ _ c.look.ensures.more c.searching.invariant.tried) out (c.next_branch.ensures.last c.if-not-next_branch.true);
     }
 
 pub searching-preserved-else-not-next_branch : goal.searching-preserved-else-not-next_branch
@@ -26,9 +26,9 @@ searching-preserved-else-not-next_branch c =
     record {
       spends = search rules;
       among = c.look.ensures.among;
-      few = omega (arith, next_length _ _ next);
-      none = next_first _ _ true next ∙ c.searching.invariant.none;
-      tried = tried_next _ _ _ _ (tried_more _ _ _ _ c.look.ensures.more c.searching.invariant.tried) out next;
+      few = omega (arith, next_length _ _ _ _ next);
+      none = next_first _ _ _ _ true next ∙ c.searching.invariant.none;
+      tried = tried_next _ _ _ _ _ c.look.ensures.among (tried_more _ _ _ _ c.look.ensures.more c.searching.invariant.tried) out next;
     }
 
 pub returns-then-len-vars-clause-lawful : goal.returns-then-len-vars-clause-lawful
