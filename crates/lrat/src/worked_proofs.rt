@@ -17,6 +17,15 @@ use std::test::Fail;
 /// number and the line of the refusal.
 type Edit<'a> = (usize, usize, &'a [u8], (u8, u64));
 
+/// A formula over the variables 1 to `vars`, whose clauses are those that the lines of a text add,
+/// with an accepted proof and edits of it.
+struct Worked<'a> {
+    vars: u16,
+    clauses: &'a [u8],
+    proof: &'a [u8],
+    edits: &'a [Edit<'a>],
+}
+
 /// The formula of the clauses that the lines of a text add, where their literals are in range.
 fn formula(alloc: Global, vars: u16, text: &[u8]) -> Result<Formula, LratError>
     ensures { IfOk result IsFormula }
@@ -49,22 +58,15 @@ fn edited(alloc: Global, text: &[u8], edit: Edit) -> Result<Vec<u8>, AllocError>
     Ok(whole)
 }
 
-/// Reads and checks a proof, which is to be accepted, and then each edited copy of it.
-fn compare(
-    rt: &impl Abort,
-    alloc: Global,
-    formula: &Formula,
-    text: &[u8],
-    edits: &[Edit],
-) -> Result<(), Fail>
-    requires { IsFormula formula.now }
-{
-    let proof = read(alloc, text)?;
-    assert_eq!(rt; refutes(alloc, formula, &proof), Ok(()));
-    for edit in edits {
-        let changed = edited(alloc, text, *edit)?;
+/// Reads and checks the proof, which is to be accepted, and then each edited copy of it.
+fn compare(rt: &impl Abort, alloc: Global, worked: &Worked) -> Result<(), Fail> {
+    let formula = formula(alloc, worked.vars, worked.clauses)?;
+    let proof = read(alloc, worked.proof)?;
+    assert_eq!(rt; refutes(alloc, &formula, &proof), Ok(()));
+    for edit in worked.edits {
+        let changed = edited(alloc, worked.proof, *edit)?;
         let proof = read(alloc, changed.as_slice())?;
-        let refusal = match refutes(alloc, formula, &proof) {
+        let refusal = match refutes(alloc, &formula, &proof) {
             Ok(()) => None,
             Err(e) => Some((e.number(), e.place())),
         };
@@ -73,25 +75,27 @@ fn compare(
     Ok(())
 }
 
-#[test]
-fn an_empty_clause(rt: HostRuntime) -> Result<(), Fail> {
-    let clauses = b"1 0 0\n";
-    let proof = b"2 0 1 0\n";
-    let formula = formula(rt.alloc(), 0, clauses)?;
-    let edits: &[Edit] = &[
+static EMPTY_CLAUSE: Worked<'static> = Worked {
+    vars: 0,
+    clauses: b"1 0 0\n",
+    proof: b"2 0 1 0\n",
+    edits: &[
         (4, 2, b"", (46, 0)),
         (6, 0, b"1 ", (45, 0)),
         (4, 0, b"-", (47, 0)),
-    ];
-    compare(&rt, rt.alloc(), &formula, proof, edits)
-}
+    ],
+};
 
 #[test]
-fn all_four_clauses_over_two_variables(rt: HostRuntime) -> Result<(), Fail> {
-    let clauses = b"1 1 2 0 0\n2 1 -2 0 0\n3 -1 2 0 0\n4 -1 -2 0 0\n";
-    let proof = b"5 1 0 1 2 0\n6 0 5 3 4 0\n";
-    let formula = formula(rt.alloc(), 2, clauses)?;
-    let edits: &[Edit] = &[
+fn an_empty_clause(rt: HostRuntime) -> Result<(), Fail> {
+    compare(&rt, rt.alloc(), &EMPTY_CLAUSE)
+}
+
+static FOUR_CLAUSES: Worked<'static> = Worked {
+    vars: 2,
+    clauses: b"1 1 2 0 0\n2 1 -2 0 0\n3 -1 2 0 0\n4 -1 -2 0 0\n",
+    proof: b"5 1 0 1 2 0\n6 0 5 3 4 0\n",
+    edits: &[
         (20, 2, b"", (44, 1)),
         (16, 2, b"", (42, 1)),
         (22, 0, b"4 ", (45, 1)),
@@ -103,16 +107,19 @@ fn all_four_clauses_over_two_variables(rt: HostRuntime) -> Result<(), Fail> {
         (2, 2, b"", (42, 0)),
         (12, 1, b"5", (41, 1)),
         (16, 0, b"-", (47, 1)),
-    ];
-    compare(&rt, rt.alloc(), &formula, proof, edits)
-}
+    ],
+};
 
 #[test]
-fn a_chain_of_units(rt: HostRuntime) -> Result<(), Fail> {
-    let clauses = b"1 1 0 0\n2 -1 2 0 0\n3 -2 3 0 0\n4 -3 0 0\n";
-    let proof = b"5 0 1 2 3 4 0\n";
-    let formula = formula(rt.alloc(), 3, clauses)?;
-    let edits: &[Edit] = &[
+fn all_four_clauses_over_two_variables(rt: HostRuntime) -> Result<(), Fail> {
+    compare(&rt, rt.alloc(), &FOUR_CLAUSES)
+}
+
+static UNITS: Worked<'static> = Worked {
+    vars: 3,
+    clauses: b"1 1 0 0\n2 -1 2 0 0\n3 -2 3 0 0\n4 -3 0 0\n",
+    proof: b"5 0 1 2 3 4 0\n",
+    edits: &[
         (8, 2, b"", (44, 0)),
         (6, 2, b"", (42, 0)),
         (8, 0, b"1 ", (43, 0)),
@@ -120,13 +127,17 @@ fn a_chain_of_units(rt: HostRuntime) -> Result<(), Fail> {
         (12, 0, b"4 ", (45, 0)),
         (6, 3, b"3 2", (42, 0)),
         (4, 0, b"-", (47, 0)),
-    ];
-    compare(&rt, rt.alloc(), &formula, proof, edits)
-}
+    ],
+};
 
 #[test]
-fn three_pigeons_in_two_holes(rt: HostRuntime) -> Result<(), Fail> {
-    let clauses = b"\
+fn a_chain_of_units(rt: HostRuntime) -> Result<(), Fail> {
+    compare(&rt, rt.alloc(), &UNITS)
+}
+
+static THREE_PIGEONS: Worked<'static> = Worked {
+    vars: 6,
+    clauses: b"\
         1 1 2 0 0\n\
         2 3 4 0 0\n\
         3 5 6 0 0\n\
@@ -136,10 +147,9 @@ fn three_pigeons_in_two_holes(rt: HostRuntime) -> Result<(), Fail> {
         7 -4 -2 0 0\n\
         8 -6 -2 0 0\n\
         9 -6 -4 0 0\n\
-        ";
-    let proof = b"10 -2 0 7 8 2 3 6 0\n11 0 10 1 4 5 2 3 9 0\n";
-    let formula = formula(rt.alloc(), 6, clauses)?;
-    let edits: &[Edit] = &[
+        ",
+    proof: b"10 -2 0 7 8 2 3 6 0\n11 0 10 1 4 5 2 3 9 0\n",
+    edits: &[
         (14, 2, b"", (44, 0)),
         (10, 2, b"", (42, 0)),
         (8, 0, b"2 ", (42, 0)),
@@ -150,13 +160,17 @@ fn three_pigeons_in_two_holes(rt: HostRuntime) -> Result<(), Fail> {
         (3, 3, b"", (42, 0)),
         (21, 1, b"0", (41, 1)),
         (25, 0, b"-", (47, 1)),
-    ];
-    compare(&rt, rt.alloc(), &formula, proof, edits)
-}
+    ],
+};
 
 #[test]
-fn four_pigeons_in_three_holes(rt: HostRuntime) -> Result<(), Fail> {
-    let clauses = b"\
+fn three_pigeons_in_two_holes(rt: HostRuntime) -> Result<(), Fail> {
+    compare(&rt, rt.alloc(), &THREE_PIGEONS)
+}
+
+static FOUR_PIGEONS: Worked<'static> = Worked {
+    vars: 12,
+    clauses: b"\
         1 1 2 3 0 0\n\
         2 4 5 6 0 0\n\
         3 7 8 9 0 0\n\
@@ -179,8 +193,8 @@ fn four_pigeons_in_three_holes(rt: HostRuntime) -> Result<(), Fail> {
         20 -12 -3 0 0\n\
         21 -12 -6 0 0\n\
         22 -12 -9 0 0\n\
-        ";
-    let proof = b"\
+        ",
+    proof: b"\
         23 -5 12 9 0 13 15 3 4 10 0\n\
         24 -3 0 17 18 20 23 2 7 9 3 4 16 0\n\
         25 -9 5 0 24 19 22 2 5 9 1 4 14 0\n\
@@ -188,9 +202,8 @@ fn four_pigeons_in_three_holes(rt: HostRuntime) -> Result<(), Fail> {
         27 -8 12 0 24 12 16 1 4 8 0\n\
         28 5 0 24 25 26 2 21 27 3 6 10 1 4 14 0\n\
         29 0 24 28 11 13 15 1 6 8 3 4 22 0\n\
-        ";
-    let formula = formula(rt.alloc(), 12, clauses)?;
-    let edits: &[Edit] = &[
+        ",
+    edits: &[
         (73, 3, b"", (42, 2)),
         (90, 2, b"", (44, 2)),
         (13, 0, b"4 ", (42, 0)),
@@ -202,6 +215,10 @@ fn four_pigeons_in_three_holes(rt: HostRuntime) -> Result<(), Fail> {
         (100, 3, b"", (42, 3)),
         (192, 1, b"8", (41, 6)),
         (36, 0, b"-", (47, 1)),
-    ];
-    compare(&rt, rt.alloc(), &formula, proof, edits)
+    ],
+};
+
+#[test]
+fn four_pigeons_in_three_holes(rt: HostRuntime) -> Result<(), Fail> {
+    compare(&rt, rt.alloc(), &FOUR_PIGEONS)
 }

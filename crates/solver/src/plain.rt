@@ -15,7 +15,7 @@ use lrat::{Clause, Formula};
 use std::alloc::Global;
 use std::marker::Model;
 
-/// A solver that tries all values of the variables in order, and goes back where a clause or an
+/// A solver that tries the values of the variables in order, and goes back where a clause or an
 /// assumption is false. It is short, to check faster solvers by; it remembers nothing but the
 /// clauses from one call to the next.
 #[derive(Drop)]

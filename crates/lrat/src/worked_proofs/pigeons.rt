@@ -1,11 +1,11 @@
 //! Proofs that pigeons do not fit into one hole less.
 
-use super::{Edit, compare, formula};
+use super::{Worked, compare};
 use std::test::Fail;
 
-#[test]
-fn five_pigeons_in_four_holes(rt: HostRuntime) -> Result<(), Fail> {
-    let clauses = b"\
+static FIVE_PIGEONS: Worked<'static> = Worked {
+    vars: 20,
+    clauses: b"\
         1 1 2 3 4 0 0\n\
         2 5 6 7 8 0 0\n\
         3 9 10 11 12 0 0\n\
@@ -51,8 +51,8 @@ fn five_pigeons_in_four_holes(rt: HostRuntime) -> Result<(), Fail> {
         43 -20 -8 0 0\n\
         44 -20 -12 0 0\n\
         45 -20 -16 0 0\n\
-        ";
-    let proof = b"\
+        ",
+    proof: b"\
         46 -10 19 15 20 16 0 21 24 4 5 15 0\n\
         47 -7 20 16 12 0 28 30 33 46 3 11 14 4 5 25 0\n\
         48 -15 10 7 20 12 8 0 31 35 3 8 14 2 5 23 0\n\
@@ -80,9 +80,8 @@ fn five_pigeons_in_four_holes(rt: HostRuntime) -> Result<(), Fail> {
         70 20 10 0 52 68 26 28 30 33 59 3 41 69 1 9 12 4 5 25 0\n\
         71 10 0 52 68 26 28 30 70 44 45 3 7 11 1 4 19 0\n\
         72 0 52 68 26 30 33 71 17 21 24 1 9 12 4 5 45 0\n\
-        ";
-    let formula = formula(rt.alloc(), 20, clauses)?;
-    let edits: &[Edit] = &[
+        ",
+    edits: &[
         (649, 2, b"", (42, 14)),
         (374, 2, b"", (44, 8)),
         (511, 0, b"6 ", (42, 11)),
@@ -92,13 +91,17 @@ fn five_pigeons_in_four_holes(rt: HostRuntime) -> Result<(), Fail> {
         (1128, 3, b"", (42, 25)),
         (842, 1, b"4", (41, 19)),
         (503, 0, b"-", (47, 11)),
-    ];
-    compare(&rt, rt.alloc(), &formula, proof, edits)
-}
+    ],
+};
 
 #[test]
-fn six_pigeons_in_five_holes(rt: HostRuntime) -> Result<(), Fail> {
-    let clauses = b"\
+fn five_pigeons_in_four_holes(rt: HostRuntime) -> Result<(), Fail> {
+    compare(&rt, rt.alloc(), &FIVE_PIGEONS)
+}
+
+static SIX_PIGEONS: Worked<'static> = Worked {
+    vars: 30,
+    clauses: b"\
         1 1 2 3 4 5 0 0\n\
         2 6 7 8 9 10 0 0\n\
         3 11 12 13 14 15 0 0\n\
@@ -180,8 +183,8 @@ fn six_pigeons_in_five_holes(rt: HostRuntime) -> Result<(), Fail> {
         79 -30 -15 0 0\n\
         80 -30 -20 0 0\n\
         81 -30 -25 0 0\n\
-        ";
-    let proof = b"\
+        ",
+    proof: b"\
         82 -17 28 23 29 24 30 25 0 31 35 5 6 21 0\n\
         83 -13 29 24 19 30 25 20 0 42 45 49 82 4 16 20 5 6 36 0\n\
         84 -23 17 13 29 19 14 30 20 15 0 46 51 4 12 20 3 6 34 0\n\
@@ -336,9 +339,8 @@ fn six_pigeons_in_five_holes(rt: HostRuntime) -> Result<(), Fail> {
         216 -2 0 198 63 64 65 214 44 45 46 22 23 25 215 4 71 72 2 3 9 0\n\
         217 -10 0 108 198 62 64 65 214 43 45 46 216 1 8 10 69 71 3 4 27 0\n\
         218 0 108 198 62 63 64 65 214 43 44 45 46 216 1 7 8 10 217 2 24 26 3 4 72 0\n\
-        ";
-    let formula = formula(rt.alloc(), 30, clauses)?;
-    let edits: &[Edit] = &[
+        ",
+    edits: &[
         (3680, 4, b"", (42, 60)),
         (3632, 3, b"", (44, 59)),
         (7086, 0, b"2 ", (43, 115)),
@@ -348,6 +350,10 @@ fn six_pigeons_in_five_holes(rt: HostRuntime) -> Result<(), Fail> {
         (6378, 3, b"", (42, 103)),
         (6490, 1, b"6", (41, 105)),
         (4010, 0, b"-", (47, 65)),
-    ];
-    compare(&rt, rt.alloc(), &formula, proof, edits)
+    ],
+};
+
+#[test]
+fn six_pigeons_in_five_holes(rt: HostRuntime) -> Result<(), Fail> {
+    compare(&rt, rt.alloc(), &SIX_PIGEONS)
 }

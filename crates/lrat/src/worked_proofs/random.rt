@@ -1,11 +1,11 @@
 //! Proofs that random formulas have no solution.
 
-use super::{Edit, compare, formula};
+use super::{Worked, compare};
 use std::test::Fail;
 
-#[test]
-fn a_random_formula_over_ten_variables(rt: HostRuntime) -> Result<(), Fail> {
-    let clauses = b"\
+static RANDOM_10: Worked<'static> = Worked {
+    vars: 10,
+    clauses: b"\
         1 3 -2 5 0 0\n\
         2 7 -4 2 0 0\n\
         3 10 -1 -8 0 0\n\
@@ -66,16 +66,15 @@ fn a_random_formula_over_ten_variables(rt: HostRuntime) -> Result<(), Fail> {
         58 -5 9 2 0 0\n\
         59 -6 8 -9 0 0\n\
         60 6 2 3 0 0\n\
-        ";
-    let proof = b"\
+        ",
+    proof: b"\
         61 2 1 0 4 21 60 58 23 0\n\
         62 1 0 61 39 20 8 10 40 29 0\n\
         63 3 -10 5 2 0 60 13 41 18 0\n\
         64 2 0 62 45 50 63 23 49 40 19 0\n\
         65 0 62 64 30 7 52 8 47 12 14 0\n\
-        ";
-    let formula = formula(rt.alloc(), 10, clauses)?;
-    let edits: &[Edit] = &[
+        ",
+    edits: &[
         (9, 2, b"", (42, 0)),
         (46, 3, b"", (44, 1)),
         (32, 0, b"20 ", (42, 1)),
@@ -87,13 +86,17 @@ fn a_random_formula_over_ten_variables(rt: HostRuntime) -> Result<(), Fail> {
         (86, 2, b"", (42, 3)),
         (117, 1, b"4", (41, 4)),
         (69, 0, b"-", (47, 2)),
-    ];
-    compare(&rt, rt.alloc(), &formula, proof, edits)
-}
+    ],
+};
 
 #[test]
-fn a_random_formula_over_twenty_variables(rt: HostRuntime) -> Result<(), Fail> {
-    let clauses = b"\
+fn a_random_formula_over_ten_variables(rt: HostRuntime) -> Result<(), Fail> {
+    compare(&rt, rt.alloc(), &RANDOM_10)
+}
+
+static RANDOM_20: Worked<'static> = Worked {
+    vars: 20,
+    clauses: b"\
         1 2 3 -19 0 0\n\
         2 -10 -9 7 0 0\n\
         3 -14 -13 17 0 0\n\
@@ -204,8 +207,8 @@ fn a_random_formula_over_twenty_variables(rt: HostRuntime) -> Result<(), Fail> {
         108 -18 -6 3 0 0\n\
         109 -10 -7 6 0 0\n\
         110 17 19 -3 0 0\n\
-        ";
-    let proof = b"\
+        ",
+    proof: b"\
         111 5 2 1 0 31 80 0\n\
         112 -17 1 0 33 63 0\n\
         113 3 17 1 0 70 97 40 67 103 37 30 84 0\n\
@@ -214,9 +217,8 @@ fn a_random_formula_over_twenty_variables(rt: HostRuntime) -> Result<(), Fail> {
         116 17 0 114 36 115 110 69 62 9 83 91 0\n\
         117 3 0 114 39 1 4 105 16 88 0\n\
         118 0 114 116 117 61 10 41 48 21 4 16 0\n\
-        ";
-    let formula = formula(rt.alloc(), 20, clauses)?;
-    let edits: &[Edit] = &[
+        ",
+    edits: &[
         (201, 4, b"", (44, 6)),
         (90, 4, b"", (42, 3)),
         (96, 0, b"87 ", (42, 3)),
@@ -228,6 +230,10 @@ fn a_random_formula_over_twenty_variables(rt: HostRuntime) -> Result<(), Fail> {
         (185, 2, b"", (42, 6)),
         (42, 1, b"2", (41, 2)),
         (32, 0, b"-", (47, 1)),
-    ];
-    compare(&rt, rt.alloc(), &formula, proof, edits)
+    ],
+};
+
+#[test]
+fn a_random_formula_over_twenty_variables(rt: HostRuntime) -> Result<(), Fail> {
+    compare(&rt, rt.alloc(), &RANDOM_20)
 }
