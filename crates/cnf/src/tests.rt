@@ -201,6 +201,36 @@ fn bad_of(
     bad_case(alloc, &model, invariant.as_slice(), bad)
 }
 
+/// The gates of a time, with the constant.
+fn frame_of(alloc: Global, circuit: &Circuit) -> Result<Formula, CnfError> {
+    frame(alloc, &model(alloc, circuit)?)
+}
+
+/// The resets, with the constant.
+fn start_of(alloc: Global, circuit: &Circuit) -> Result<Formula, CnfError> {
+    start_base(alloc, &model(alloc, circuit)?)
+}
+
+/// So many steps.
+fn unrolled(alloc: Global, circuit: &Circuit, steps: u32) -> Result<Formula, CnfError> {
+    unroll(alloc, &model(alloc, circuit)?, steps)
+}
+
+/// What so many steps add, over the variables of three times.
+fn extension_of(alloc: Global, circuit: &Circuit, steps: u32) -> Result<Formula, CnfError> {
+    let clauses = extension(alloc, &model(alloc, circuit)?, steps)?;
+    Ok(Formula { vars: 6, clauses })
+}
+
+/// The unit of a bad literal that the circuit has.
+fn bad_unit_of(alloc: Global, circuit: &Circuit, bad: u32) -> Result<i32, CnfError> {
+    let model = model(alloc, circuit)?;
+    if model.bad().len() <= bad as usize {
+        return Err(CnfError::Limit);
+    }
+    Ok(bad_unit(&model, bad))
+}
+
 /// What the step and bad cases begin with.
 fn shared_of(alloc: Global, circuit: &Circuit, clauses: &[&[u32]]) -> Result<Formula, CnfError> {
     let model = model(alloc, circuit)?;
@@ -286,11 +316,10 @@ fn a_latch_that_holds(rt: HostRuntime) -> Result<(), Fail> {
 /// The gates, and resets to 1, to 0 and to nothing.
 #[test]
 fn frames_each_kind(rt: HostRuntime) -> Result<(), Fail> {
-    let mixed = model(rt.alloc(), &MIXED)?;
     let gates: &[&[i32]] = &[&[6], &[-5, -2], &[-5, 3], &[5, 2, -3]];
-    compare(&rt, &frame(rt.alloc(), &mixed)?, 6, gates);
+    compare(&rt, &frame_of(rt.alloc(), &MIXED)?, 6, gates);
     let resets: &[&[i32]] = &[&[6], &[2], &[-3]];
-    compare(&rt, &start_base(rt.alloc(), &mixed)?, 6, resets);
+    compare(&rt, &start_of(rt.alloc(), &MIXED)?, 6, resets);
     Ok(())
 }
 
@@ -334,9 +363,8 @@ fn denies_by_units(rt: HostRuntime) -> Result<(), Fail> {
 
 #[test]
 fn sets_a_bad_literal(rt: HostRuntime) -> Result<(), Fail> {
-    let mixed = model(rt.alloc(), &MIXED)?;
-    assert_eq!(rt; mixed.bad().len(), 2);
-    assert_eq!(rt; (bad_unit(&mixed, 0), bad_unit(&mixed, 1)), (-5, -6));
+    assert_eq!(rt; bad_unit_of(rt.alloc(), &MIXED, 0), Ok(-5));
+    assert_eq!(rt; bad_unit_of(rt.alloc(), &MIXED, 1), Ok(-6));
     Ok(())
 }
 
@@ -344,7 +372,6 @@ fn sets_a_bad_literal(rt: HostRuntime) -> Result<(), Fail> {
 #[test]
 fn unrolls_a_latch_that_holds(rt: HostRuntime) -> Result<(), Fail> {
     let alloc = rt.alloc();
-    let hold = model(alloc, &HOLD)?;
     let want: &[&[i32]] = &[
         &[-1],
         &[2],
@@ -355,18 +382,16 @@ fn unrolls_a_latch_that_holds(rt: HostRuntime) -> Result<(), Fail> {
         &[5, -3],
         &[6],
     ];
-    compare(&rt, &unroll(alloc, &hold, 2)?, 6, want);
-    let longest = unroll(alloc, &hold, 255)?;
+    compare(&rt, &unrolled(alloc, &HOLD, 2)?, 6, want);
+    let longest = unrolled(alloc, &HOLD, 255)?;
     assert_eq!(rt; (longest.vars, longest.clauses.len()), (512, 767));
-    assert!(rt; matches!(unroll(alloc, &hold, 256), Err(CnfError::Limit)));
+    assert!(rt; matches!(unrolled(alloc, &HOLD, 256), Err(CnfError::Limit)));
     Ok(())
 }
 
 /// Latches of each kind, over two times.
 #[test]
 fn unrolls_each_kind(rt: HostRuntime) -> Result<(), Fail> {
-    let alloc = rt.alloc();
-    let mixed = model(alloc, &MIXED)?;
     let want: &[&[i32]] = &[
         &[2],
         &[-3],
@@ -389,7 +414,7 @@ fn unrolls_each_kind(rt: HostRuntime) -> Result<(), Fail> {
         &[-7],
         &[10],
     ];
-    compare(&rt, &unroll(alloc, &mixed, 1)?, 12, want);
+    compare(&rt, &unrolled(rt.alloc(), &MIXED, 1)?, 12, want);
     Ok(())
 }
 
@@ -429,21 +454,14 @@ fn tells_refusals_by_number(rt: HostRuntime) -> Result<(), Fail> {
     Ok(())
 }
 
-/// What so many steps add, over the variables of three times.
-fn extension_of(alloc: Global, model: &Model, steps: u32) -> Result<Formula, CnfError> {
-    let clauses = extension(alloc, model, steps)?;
-    Ok(Formula { vars: 6, clauses })
-}
-
 /// A latch that holds: what the first time has, and what the third adds to the first two.
 #[test]
 fn extends_an_unrolling(rt: HostRuntime) -> Result<(), Fail> {
     let alloc = rt.alloc();
-    let hold = model(alloc, &HOLD)?;
     let first: &[&[i32]] = &[&[-1], &[2]];
-    compare(&rt, &extension_of(alloc, &hold, 0)?, 6, first);
+    compare(&rt, &extension_of(alloc, &HOLD, 0)?, 6, first);
     let third: &[&[i32]] = &[&[-5, 3], &[5, -3], &[6]];
-    compare(&rt, &extension_of(alloc, &hold, 2)?, 6, third);
-    assert!(rt; matches!(extension(alloc, &hold, 256), Err(CnfError::Limit)));
+    compare(&rt, &extension_of(alloc, &HOLD, 2)?, 6, third);
+    assert!(rt; matches!(extension_of(alloc, &HOLD, 256), Err(CnfError::Limit)));
     Ok(())
 }
