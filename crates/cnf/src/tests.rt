@@ -365,6 +365,7 @@ fn denies_by_units(rt: HostRuntime) -> Result<(), Fail> {
 fn sets_a_bad_literal(rt: HostRuntime) -> Result<(), Fail> {
     assert_eq!(rt; bad_unit_of(rt.alloc(), &MIXED, 0), Ok(-5));
     assert_eq!(rt; bad_unit_of(rt.alloc(), &MIXED, 1), Ok(-6));
+    assert!(rt; bad_unit_of(rt.alloc(), &MIXED, 2).is_err());
     Ok(())
 }
 

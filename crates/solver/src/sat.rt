@@ -41,8 +41,8 @@ pub trait Sat: Drop {
         ensures err { OnErr result (clauses self.new ≡ clauses self.old) };
 
     /// Finds values that satisfy the clauses and the assumptions, or part of the assumptions that
-    /// nothing satisfies together with the clauses. Each clause looked at and each decision is a
-    /// step of the budget. The clauses stay, whatever it answers.
+    /// nothing satisfies together with the clauses. Each look at a clause for its values and each
+    /// decision is a step of the budget. The clauses stay, whatever it answers.
     fn solve(
         &mut self,
         alloc: Global,

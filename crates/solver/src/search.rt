@@ -36,7 +36,7 @@ fn next_branch(values: &mut Vec<bool>, clauses: &[Clause], assume: &[i32]) -> bo
 /// Tries the values of the variables 1 to `vars` in order, false before true, and goes back where
 /// a clause or an assumption is false whatever the other variables are. A variable that is in none
 /// of them stays false. The core has the assumptions that were found false. Each look at a clause
-/// for its values is a step, and so is each branch.
+/// for its values is a step, and so is each branch; a look for a variable is none.
 pub fn search(
     alloc: Global,
     vars: u32,
