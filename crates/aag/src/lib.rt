@@ -46,8 +46,3 @@ pub use refusal::{LayoutRefusal, Refusal, told};
 pub use symbol::symbols;
 pub use uses::{Uses, read_uses};
 pub use writing::{put_comment, put_header, put_uses, write};
-
-#[cfg(test)]
-mod tests;
-#[cfg(test)]
-mod write_tests;

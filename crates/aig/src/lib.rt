@@ -31,8 +31,3 @@ mod writing;
 pub use aig_write_error::AigWriteError;
 pub use reading::read;
 pub use writing::write;
-
-#[cfg(test)]
-mod tests;
-#[cfg(test)]
-mod write_tests;

@@ -12,6 +12,3 @@ mod reading;
 pub use load_error::LoadError;
 pub use loading::load;
 pub use reading::read;
-
-#[cfg(test)]
-mod tests;

@@ -1,17 +1,21 @@
 //! The command `check`.
 
-use crate::command_line::{EngineKind, Search, asked_search};
 use crate::files::{circuit, keep, print};
 use crate::stop::Stop;
+use arguments::{EngineKind, Search};
 use bmc::Bmc;
 use cdcl::Cdcl;
-use clap::ArgMatches;
 use cli::{CliError, Verdict, decide, property_named};
 use engine::Engine;
 use graph::{AigerFile, Budget, Property};
 use ic3::Ic3;
 use random::Random;
 use std::alloc::Global;
+
+/// What was got, or out of memory, which is the one thing that may have stood in the way.
+fn or_memory<T, E: Drop>(got: Result<T, E>) -> Result<T, CliError> {
+    got.map_err(|_| CliError::OutOfMemory)
+}
 
 /// Asks the engines for evidence about the property.
 fn ask(
@@ -24,20 +28,18 @@ fn ask(
     let mut engines: Vec<Box<dyn Engine>> = Vec::new(alloc);
     if search.engine.has_bounded() {
         let bounded = Bmc::new(Cdcl::new(alloc), depth);
-        let engine: Box<dyn Engine> = Box::new(alloc, bounded).map_err(|_| CliError::OutOfMemory)?;
-        engines.push(engine).map_err(|_| CliError::OutOfMemory)?;
+        let engine: Box<dyn Engine> = or_memory(Box::new(alloc, bounded))?;
+        or_memory(engines.push(engine))?;
     }
     if search.engine.has_inductive() {
         let inductive = Ic3::new(Cdcl::new(alloc));
-        let engine: Box<dyn Engine> = Box::new(alloc, inductive).map_err(
-            |_| CliError::OutOfMemory,
-        )?;
-        engines.push(engine).map_err(|_| CliError::OutOfMemory)?;
+        let engine: Box<dyn Engine> = or_memory(Box::new(alloc, inductive))?;
+        or_memory(engines.push(engine))?;
     }
     if search.engine == EngineKind::Random {
         let random = Random::new(search.seed, depth);
-        let engine: Box<dyn Engine> = Box::new(alloc, random).map_err(|_| CliError::OutOfMemory)?;
-        engines.push(engine).map_err(|_| CliError::OutOfMemory)?;
+        let engine: Box<dyn Engine> = or_memory(Box::new(alloc, random))?;
+        or_memory(engines.push(engine))?;
     }
     let mut budget = Budget::new(search.budget);
     let engines = engines.as_mut_slice();
@@ -45,15 +47,29 @@ fn ask(
     Ok(verdict)
 }
 
-/// Looks for evidence about a property, keeps a certificate where a file for it is named, and prints
-/// the verdict.
-pub fn check(rt: &HostRuntime, words: &ArgMatches<'_>) -> Result<u8, Stop> {
-    let name = words.get_str("property").unwrap_or("");
-    let property = property_named(name).ok_or(Stop::BadArgument)?;
-    let file = circuit(rt, words.get_str("FILE").unwrap_or(""))?;
-    let verdict = ask(rt.alloc(), &file, property, asked_search(words))?;
-    if let (Verdict::Safe(certificate), Some(name)) = (&verdict, words.get_str("cert")) {
-        keep(rt, name, certificate)?;
+/// Keeps a certificate where a file for it is named, and then prints the verdict.
+fn report(
+    rt: &HostRuntime,
+    property: Property,
+    verdict: &Verdict,
+    certificate: Option<&str>,
+) -> Result<u8, Stop> {
+    if let (Verdict::Safe(found), Some(name)) = (verdict, certificate) {
+        keep(rt, name, found)?;
     }
-    print(rt, property, &verdict)
+    print(rt, property, verdict)
+}
+
+/// Looks for evidence about the property of this name, and reports the verdict.
+pub fn check(
+    rt: &HostRuntime,
+    name: &str,
+    property: &str,
+    certificate: Option<&str>,
+    search: Search,
+) -> Result<u8, Stop> {
+    let property = property_named(property).ok_or(Stop::BadArgument)?;
+    let file = circuit(rt, name)?;
+    let verdict = ask(rt.alloc(), &file, property, search)?;
+    report(rt, property, &verdict, certificate)
 }

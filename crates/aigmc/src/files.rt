@@ -1,43 +1,61 @@
 //! The files that commands read and make.
 
-use crate::stop::{Stop, unopened};
+use crate::stop::{Stop, finished};
 use certificate::Certificate;
-use cli::{CliError, Layout, Verdict, load, put_certificate, put_file, show};
+use cli::{
+    CliError, Layout, Verdict, load, load_stimulus, put_certificate, put_file, put_table, show,
+};
 use graph::{AigerFile, FromRead, Property, ToWrite};
 use std::fs::File;
 use std::io;
 use std::io::{BufWriter, Write};
+use stimulus::Stimulus;
 
 /// The circuit's file of this name.
 pub fn circuit(rt: &HostRuntime, name: &str) -> Result<AigerFile, Stop> {
-    let file = File::open(rt, name).map_err(|e| unopened(&e))?;
+    let file = finished(File::open(rt, name))?;
     let file = load(rt.alloc(), &mut FromRead::new(file)).map_err(CliError::Load)?;
     Ok(file)
 }
 
+/// The stimulus in the file of this name.
+pub fn stimulus_of(rt: &HostRuntime, name: &str) -> Result<Stimulus, Stop> {
+    let file = finished(File::open(rt, name))?;
+    let stimulus = load_stimulus(rt.alloc(), &mut FromRead::new(file))?;
+    Ok(stimulus)
+}
+
 /// Makes the file of this name, and puts the circuit's text to it.
 pub fn make(rt: &HostRuntime, name: &str, file: &AigerFile, layout: Layout) -> Result<(), Stop> {
-    let out = File::create(rt, name).map_err(|e| unopened(&e))?;
-    let out = BufWriter::new(rt.alloc(), out).map_err(|e| unopened(&e))?;
+    let out = finished(File::create(rt, name))?;
+    let out = finished(BufWriter::new(rt.alloc(), out))?;
     let mut out = ToWrite::new(out);
     put_file(file, layout, &mut out)?;
-    out.into_inner().flush().map_err(|e| unopened(&e))
+    finished(out.into_inner().flush())
 }
 
 /// Makes the file of this name, and puts the certificate's text to it.
 pub fn keep(rt: &HostRuntime, name: &str, certificate: &Certificate) -> Result<(), Stop> {
-    let out = File::create(rt, name).map_err(|e| unopened(&e))?;
-    let out = BufWriter::new(rt.alloc(), out).map_err(|e| unopened(&e))?;
+    let out = finished(File::create(rt, name))?;
+    let out = finished(BufWriter::new(rt.alloc(), out))?;
     let mut out = ToWrite::new(out);
     put_certificate(certificate, &mut out).map_err(CliError::from)?;
-    out.into_inner().flush().map_err(|e| unopened(&e))
+    finished(out.into_inner().flush())
+}
+
+/// Prints the values in the replay of a stimulus.
+pub fn print_table(rt: &HostRuntime, file: &AigerFile, stimulus: &Stimulus) -> Result<(), Stop> {
+    let out = finished(BufWriter::new(rt.alloc(), io::writer(rt)))?;
+    let mut out = ToWrite::new(out);
+    put_table(rt.alloc(), file.model(), stimulus, &mut out).map_err(CliError::from)?;
+    finished(out.into_inner().flush())
 }
 
 /// Prints a verdict, and answers its status.
 pub fn print(rt: &HostRuntime, property: Property, verdict: &Verdict) -> Result<u8, Stop> {
-    let out = BufWriter::new(rt.alloc(), io::writer(rt)).map_err(|e| unopened(&e))?;
+    let out = finished(BufWriter::new(rt.alloc(), io::writer(rt)))?;
     let mut out = ToWrite::new(out);
     let status = show(property, verdict, &mut out).map_err(CliError::from)?;
-    out.into_inner().flush().map_err(|e| unopened(&e))?;
+    finished(out.into_inner().flush())?;
     Ok(status)
 }

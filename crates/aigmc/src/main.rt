@@ -22,73 +22,84 @@
 #![tactic(auto)]
 
 mod checking;
-mod command_line;
 mod files;
 mod stop;
 
+use arguments::{Request, Wrong, parse};
 use checking::check;
-use clap::error::ErrorKind;
-use clap::{ArgMatches, Error};
-use cli::{CliError, Layout, load_stimulus, put_table, ready};
-use command_line::command;
-use files::{circuit, make};
-use graph::{FromRead, ToWrite};
-use std::fs::File;
-use std::io::{BufWriter, Write};
+use cli::{CliError, Layout, ready};
+use files::{circuit, make, print_table, stimulus_of};
+use graph::AigerFile;
+use std::alloc::Global;
+use std::env;
 use std::process::ExitCode;
-use std::{env, io};
-use stop::{DONE, FAULT, Stop, tell, unopened};
+use stop::{DONE, FAULT, Stop, tell};
+
+/// The circuit as the layout takes it: for the binary one in its numbering.
+fn fitting(alloc: Global, file: AigerFile, layout: Layout) -> Result<AigerFile, CliError> {
+    match layout {
+        Layout::Ascii => Ok(file),
+        Layout::Binary => ready(alloc, file).map_err(CliError::from),
+    }
+}
 
 /// Writes a circuit in the layout that the name of the file to make asks for.
-fn convert(rt: &HostRuntime, words: &ArgMatches<'_>) -> Result<u8, Stop> {
-    let name = words.get_str("OUT").unwrap_or("");
-    let layout = Layout::of_name(name).ok_or(Stop::BadArgument)?;
-    let file = circuit(rt, words.get_str("FILE").unwrap_or(""))?;
-    let file = match layout {
-        Layout::Ascii => file,
-        Layout::Binary => ready(rt.alloc(), file).map_err(CliError::from)?,
-    };
-    make(rt, name, &file, layout)?;
+fn convert(rt: &HostRuntime, name: &str, out: &str) -> Result<u8, Stop> {
+    let layout = Layout::of_name(out).ok_or(Stop::BadArgument)?;
+    let file = circuit(rt, name)?;
+    let file = fitting(rt.alloc(), file, layout)?;
+    make(rt, out, &file, layout)?;
     Ok(DONE)
 }
 
 /// Prints the values in the replay of a stimulus.
-fn sim(rt: &HostRuntime, words: &ArgMatches<'_>) -> Result<u8, Stop> {
-    let file = circuit(rt, words.get_str("FILE").unwrap_or(""))?;
-    let source = File::open(rt, words.get_str("STIM").unwrap_or("")).map_err(|e| unopened(&e))?;
-    let stimulus = load_stimulus(rt.alloc(), &mut FromRead::new(source))?;
-    let out = BufWriter::new(rt.alloc(), io::writer(rt)).map_err(|e| unopened(&e))?;
-    let mut out = ToWrite::new(out);
-    put_table(rt.alloc(), file.model(), &stimulus, &mut out).map_err(CliError::from)?;
-    out.into_inner().flush().map_err(|e| unopened(&e))?;
+fn sim(rt: &HostRuntime, name: &str, stimulus: &str) -> Result<u8, Stop> {
+    let file = circuit(rt, name)?;
+    let stimulus = stimulus_of(rt, stimulus)?;
+    print_table(rt, &file, &stimulus)?;
     Ok(DONE)
 }
 
-/// Does what the words ask for.
-fn answer(rt: &HostRuntime, matches: &ArgMatches<'_>) -> ExitCode {
-    let done = match matches.subcommand() {
-        Some(("check", words)) => check(rt, words),
-        Some(("convert", words)) => convert(rt, words),
-        Some(("sim", words)) => sim(rt, words),
-        _ => Err(Stop::BadArgument),
+/// Does what is asked for.
+fn done(rt: &HostRuntime, request: &Request) -> Result<u8, Stop> {
+    match request {
+        Request::Convert { file, out } => convert(rt, file.as_str(), out.as_str()),
+        Request::Sim { file, stimulus } => sim(rt, file.as_str(), stimulus.as_str()),
+        Request::Check {
+            file,
+            property,
+            certificate,
+            search,
+        } => {
+            let certificate = certificate.as_ref().map(|name| name.as_str());
+            check(rt, file.as_str(), property.as_str(), certificate, *search)
+        }
+    }
+}
+
+/// Tells what is wrong with the words, or the help that they ask for.
+fn refuse(rt: &HostRuntime, wrong: &Wrong) -> ExitCode {
+    if wrong.is_out_of_memory() {
+        return tell(rt, Stop::Refused(CliError::OutOfMemory));
+    }
+    wrong.print(rt);
+    ExitCode::from(if wrong.is_help() { DONE } else { FAULT })
+}
+
+/// Does what the words ask for, and answers the status.
+fn answer(rt: &HostRuntime, words: &[String]) -> ExitCode {
+    let request = match parse(rt.alloc(), words) {
+        Ok(Some(request)) => request,
+        Ok(None) => return tell(rt, Stop::BadArgument),
+        Err(error) => return refuse(rt, &error),
     };
-    match done {
+    match done(rt, &request) {
         Ok(status) => ExitCode::from(status),
         Err(stop) => tell(rt, stop),
     }
 }
 
-/// Tells what is wrong with the words, or the help that they ask for.
-fn wrong(rt: &HostRuntime, error: &Error) -> ExitCode {
-    if error.kind() == ErrorKind::OutOfMemory {
-        return tell(rt, Stop::Refused(CliError::OutOfMemory));
-    }
-    let _ = error.print(rt);
-    ExitCode::from(if error.exit_code() == 0 { DONE } else { FAULT })
-}
-
 fn main(rt: HostRuntime) -> ExitCode {
-    let alloc = rt.alloc();
     let args = match env::args(&rt) {
         Ok(args) => args,
         Err(error) => {
@@ -96,17 +107,11 @@ fn main(rt: HostRuntime) -> ExitCode {
             return ExitCode::from(FAULT);
         }
     };
-    let mut words: Vec<String> = Vec::new(alloc);
+    let mut words: Vec<String> = Vec::new(rt.alloc());
     for word in args {
         if words.push(word).is_err() {
             return tell(&rt, Stop::Refused(CliError::OutOfMemory));
         }
     }
-    let Ok(command) = command(alloc) else {
-        return tell(&rt, Stop::Refused(CliError::OutOfMemory));
-    };
-    match command.try_get_matches_from(words.as_slice()) {
-        Ok(matches) => answer(&rt, &matches),
-        Err(error) => wrong(&rt, &error),
-    }
+    answer(&rt, words.as_slice())
 }

@@ -28,12 +28,15 @@ impl From<CliError> for Stop {
     }
 }
 
-/// The fault of a file that is not opened, made or finished.
-pub fn unopened(error: &io::Error) -> Stop {
-    Stop::Refused(match error.kind() {
-        io::ErrorKind::OutOfMemory => CliError::OutOfMemory,
-        _ => CliError::Device,
-    })
+/// What a file's call gave, or the fault of a file that was not opened, made or finished.
+pub fn finished<T>(given: io::Result<T>) -> Result<T, Stop> {
+    match given {
+        Ok(value) => Ok(value),
+        Err(error) => Err(Stop::Refused(match error.kind() {
+            io::ErrorKind::OutOfMemory => CliError::OutOfMemory,
+            _ => CliError::Device,
+        })),
+    }
 }
 
 /// Tells why a command was not done.

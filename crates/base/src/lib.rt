@@ -20,6 +20,3 @@ pub use seq::Seq;
 pub use sink::{Sink, ToVec, ToWrite};
 pub use source::{Failed, FromBytes, FromRead, Source};
 pub use transfer::{ReadAllError, put_all, read_all};
-
-#[cfg(test)]
-mod tests;

@@ -20,7 +20,5 @@ mod reading;
 mod search;
 mod shown;
 mod stating;
-#[cfg(test)]
-mod tests;
 
 pub use search::Bmc;

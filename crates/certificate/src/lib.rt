@@ -27,6 +27,3 @@ pub use cert_write_error::CertWriteError;
 pub use certificate::Certificate;
 pub use reading::read;
 pub use writing::write;
-
-#[cfg(test)]
-mod tests;

@@ -20,6 +20,3 @@ mod proving;
 pub use certified::Certified;
 pub use certify_error::CertifyError;
 pub use certifying::certify;
-
-#[cfg(test)]
-mod tests;

@@ -34,6 +34,3 @@ pub use check_error::CheckError;
 pub use invariant::check_clauses;
 pub use replayed::run_stimulus;
 pub use run_error::RunError;
-
-#[cfg(test)]
-mod tests;

@@ -25,6 +25,3 @@ pub use numbering::ready;
 pub use property_name::property_named;
 pub use stimulus::put_table;
 pub use verdict::{DecideError, Verdict, decide, show};
-
-#[cfg(test)]
-mod tests;

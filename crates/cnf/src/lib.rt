@@ -20,8 +20,6 @@ mod cases;
 mod error;
 mod next_table;
 mod push;
-#[cfg(test)]
-mod tests;
 mod time;
 mod units;
 mod unrolling;

@@ -12,7 +12,5 @@ mod frames;
 mod invariant;
 mod needless;
 mod resets;
-#[cfg(test)]
-mod tests;
 
 pub use frames::{Entry, Frames};

@@ -57,7 +57,8 @@ pub fn conjunction(gate: Gate, values: &[bool]) -> bool
     requires { (variable gate.rhs0 < length values.now) × (variable gate.rhs1 < length values.now) }
     ensures { result ≡ (value_of values.now gate.rhs0 && value_of values.now gate.rhs1) }
 {
-    literal_value(gate.rhs0, values) && literal_value(gate.rhs1, values)
+    // `&` reads both values: that costs less than a branch on the first.
+    literal_value(gate.rhs0, values) & literal_value(gate.rhs1, values)
 }
 
 /// Gives the gates their values, in an order in which each comes after those that it reads.

@@ -37,7 +37,5 @@ mod push;
 mod reset;
 mod run;
 mod search;
-#[cfg(test)]
-mod tests;
 
 pub use ic3::Ic3;

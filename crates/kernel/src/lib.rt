@@ -22,8 +22,6 @@ mod origin;
 mod place;
 mod sorted;
 mod store;
-#[cfg(test)]
-mod tests;
 mod verdict;
 
 pub use found::Found;

@@ -24,6 +24,3 @@ mod wanted;
 pub use error::LiveError;
 pub use lasso::lasso_of;
 pub use safety::to_safety;
-
-#[cfg(test)]
-mod tests;

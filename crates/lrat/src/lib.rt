@@ -33,14 +33,8 @@ mod refutation;
 mod refuter;
 mod stack;
 mod step_error;
-#[cfg(test)]
-mod tests;
 mod text;
-#[cfg(test)]
-mod text_tests;
 mod trail;
-#[cfg(test)]
-mod worked_proofs;
 mod writing;
 
 pub use clause::Clause;

@@ -17,6 +17,3 @@ mod random;
 
 pub use drawing::draw;
 pub use random::Random;
-
-#[cfg(test)]
-mod tests;

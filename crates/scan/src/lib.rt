@@ -61,8 +61,6 @@ mod item_kind;
 mod line_kind;
 mod numbers;
 mod signs;
-#[cfg(test)]
-mod tests;
 mod words;
 
 pub use bytes::{byte, tag};

@@ -18,6 +18,3 @@ mod shrink_error;
 
 pub use hashing::shrink;
 pub use shrink_error::ShrinkError;
-
-#[cfg(test)]
-mod tests;

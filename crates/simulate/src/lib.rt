@@ -14,6 +14,3 @@ mod replay_error;
 
 pub use replay::Replay;
 pub use replay_error::ReplayError;
-
-#[cfg(test)]
-mod tests;

@@ -17,8 +17,6 @@ mod plain;
 mod sat;
 mod sat_error;
 mod search;
-#[cfg(test)]
-mod tests;
 
 pub use answer::Answer;
 pub use plain::Plain;

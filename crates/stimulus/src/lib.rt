@@ -33,6 +33,3 @@ pub use stim_write_error::StimWriteError;
 pub use table::put_table;
 pub use value::Stimulus;
 pub use writing::write;
-
-#[cfg(test)]
-mod tests;

@@ -19,8 +19,6 @@ mod reading;
 mod reply;
 mod state;
 mod step;
-#[cfg(test)]
-mod tests;
 mod transition;
 
 pub use reply::Reply;

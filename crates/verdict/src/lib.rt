@@ -18,6 +18,3 @@ pub use decide_error::DecideError;
 pub use deciding::decide;
 pub use showing::show;
 pub use verdict::Verdict;
-
-#[cfg(test)]
-mod tests;

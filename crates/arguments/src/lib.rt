@@ -1,0 +1,12 @@
+//! The command line of `aigmc`: its commands, their words, and what they ask for.
+//!
+//! A crate of its own, so that it is proved beside the engines and not after them, and so that the
+//! program itself handles plain values.
+#![tactic(auto)]
+
+mod grammar;
+mod request;
+mod wrong;
+
+pub use request::{EngineKind, Request, Search, parse};
+pub use wrong::Wrong;

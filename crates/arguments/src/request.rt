@@ -1,0 +1,145 @@
+//! What the words of a command line ask for.
+
+use crate::grammar::command;
+use crate::wrong::Wrong;
+use clap::ArgMatches;
+use std::alloc::{AllocError, Global};
+
+/// What looks for evidence.
+#[derive(Clone, Copy, Debug, PartialEq, Eq)]
+pub enum EngineKind {
+    /// Bounded search, and then IC3.
+    All,
+    /// Bounded search.
+    Bounded,
+    /// IC3.
+    Inductive,
+    /// Random simulation.
+    Random,
+}
+
+impl EngineKind {
+    /// Whether bounded search is asked.
+    pub fn has_bounded(self) -> bool {
+        matches!(self, EngineKind::All | EngineKind::Bounded)
+    }
+
+    /// Whether IC3 is asked.
+    pub fn has_inductive(self) -> bool {
+        matches!(self, EngineKind::All | EngineKind::Inductive)
+    }
+}
+
+/// How a search is to go.
+#[derive(Clone, Copy, Debug)]
+pub struct Search {
+    /// what looks for evidence
+    pub engine: EngineKind,
+    /// how many steps a run may have that bounded search or random simulation looks at
+    pub depth: u8,
+    /// how many steps the search may cost
+    pub budget: u64,
+    /// where random simulation begins
+    pub seed: u64,
+}
+
+/// What is to be done. Files go by their names.
+#[derive(Drop)]
+pub enum Request {
+    /// Write a circuit in another layout.
+    Convert {
+        /// the circuit's file
+        file: String,
+        /// the file to make
+        out: String,
+    },
+    /// Print the values in a stimulus's replay.
+    Sim {
+        /// the circuit's file
+        file: String,
+        /// the stimulus's file
+        stimulus: String,
+    },
+    /// Look for evidence about a property.
+    Check {
+        /// the circuit's file
+        file: String,
+        /// the property's name
+        property: String,
+        /// the file to make of a certificate, where one is named
+        certificate: Option<String>,
+        /// how the search is to go
+        search: Search,
+    },
+}
+
+/// The engine that the words name.
+fn engine_kind(words: &ArgMatches<'_>) -> EngineKind {
+    match words.get_str("engine") {
+        Some("bmc") => EngineKind::Bounded,
+        Some("ic3") => EngineKind::Inductive,
+        Some("random") => EngineKind::Random,
+        _ => EngineKind::All,
+    }
+}
+
+/// What the words say of the search.
+fn asked_search(words: &ArgMatches<'_>) -> Search {
+    let depth = words.get_one::<u8>("depth").unwrap_or(20);
+    let budget = words.get_one::<u64>("budget").unwrap_or(10_000_000);
+    let seed = words.get_one::<u64>("seed").unwrap_or(0);
+    Search {
+        engine: engine_kind(words),
+        depth,
+        budget,
+        seed,
+    }
+}
+
+/// The word given for an argument that has to be there.
+fn word(alloc: Global, words: &ArgMatches<'_>, name: &str) -> Result<String, AllocError> {
+    String::from_str(alloc, words.get_str(name).unwrap_or(""))
+}
+
+/// What `check` asks for.
+fn asked_check(alloc: Global, words: &ArgMatches<'_>) -> Result<Request, AllocError> {
+    let certificate = match words.get_str("cert") {
+        Some(name) => Some(String::from_str(alloc, name)?),
+        None => None,
+    };
+    Ok(Request::Check {
+        file: word(alloc, words, "FILE")?,
+        property: word(alloc, words, "property")?,
+        certificate,
+        search: asked_search(words),
+    })
+}
+
+/// What `convert` asks for.
+fn asked_convert(alloc: Global, words: &ArgMatches<'_>) -> Result<Request, AllocError> {
+    Ok(Request::Convert {
+        file: word(alloc, words, "FILE")?,
+        out: word(alloc, words, "OUT")?,
+    })
+}
+
+/// What `sim` asks for.
+fn asked_sim(alloc: Global, words: &ArgMatches<'_>) -> Result<Request, AllocError> {
+    Ok(Request::Sim {
+        file: word(alloc, words, "FILE")?,
+        stimulus: word(alloc, words, "STIM")?,
+    })
+}
+
+/// What a command line's words ask for, of which the first is the program's name. There is nothing
+/// where they name no command.
+pub fn parse(alloc: Global, words: &[String]) -> Result<Option<Request>, Wrong> {
+    let matches = command(alloc)?.try_get_matches_from(words)?;
+    let request = match matches.subcommand() {
+        Some(("check", words)) => asked_check(alloc, words)?,
+        Some(("convert", words)) => asked_convert(alloc, words)?,
+        Some(("sim", words)) => asked_sim(alloc, words)?,
+        _ => return Ok(None),
+    };
+    Ok(Some(request))
+}

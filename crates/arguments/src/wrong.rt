@@ -1,0 +1,42 @@
+//! What is wrong with the words of a command line.
+
+use clap::Error;
+use clap::error::ErrorKind;
+use std::alloc::AllocError;
+
+/// Why words ask for nothing that is to be done: they are wrong, or they ask for help.
+#[derive(Drop)]
+pub struct Wrong {
+    error: Error,
+}
+
+impl From<Error> for Wrong {
+    fn from(error: Error) -> Wrong {
+        Wrong { error }
+    }
+}
+
+impl From<AllocError> for Wrong {
+    fn from(e: AllocError) -> Wrong {
+        Wrong {
+            error: Error::from(e),
+        }
+    }
+}
+
+impl Wrong {
+    /// Whether memory ran out.
+    pub fn is_out_of_memory(&self) -> bool {
+        self.error.kind() == ErrorKind::OutOfMemory
+    }
+
+    /// Whether help was asked for.
+    pub fn is_help(&self) -> bool {
+        self.error.exit_code() == 0
+    }
+
+    /// Prints the help to the output, or what is wrong to the error output.
+    pub fn print(&self, rt: &HostRuntime) {
+        let _ = self.error.print(rt);
+    }
+}

@@ -1,0 +1,27 @@
+//! Tests of circuits and of what is made of them: values, clauses, shadow circuits, certificates, verdicts.
+//!
+//! They stand over the public calls alone, in a crate of their own, so that no library is proved twice.
+#![tactic(auto)]
+
+#[cfg(test)]
+mod certifying;
+#[cfg(test)]
+mod checks;
+#[cfg(test)]
+mod circuits;
+#[cfg(test)]
+mod commands;
+#[cfg(test)]
+mod encodings;
+#[cfg(test)]
+mod literals;
+#[cfg(test)]
+mod refutations;
+#[cfg(test)]
+mod replays;
+#[cfg(test)]
+mod shadow_circuits;
+#[cfg(test)]
+mod shrinking;
+#[cfg(test)]
+mod verdicts;

@@ -1,0 +1,27 @@
+//! Tests of the solvers and of the engines.
+//!
+//! They stand over the public calls alone, in a crate of their own, so that no library is proved twice.
+#![tactic(auto)]
+
+#[cfg(test)]
+mod backtracking;
+#[cfg(test)]
+mod bounded;
+#[cfg(test)]
+mod depths;
+#[cfg(test)]
+mod inductive;
+#[cfg(test)]
+mod invariants;
+#[cfg(test)]
+mod levels;
+#[cfg(test)]
+mod literals;
+#[cfg(test)]
+mod random_runs;
+#[cfg(test)]
+mod solvers;
+#[cfg(test)]
+mod trails;
+#[cfg(test)]
+mod transitions;

@@ -1,5 +1,0 @@
-use Rattle.std.proofs.Common.{◌≡◌}
-use Rattle.searches.proofs.solvers.add.Given as goal
-
-abbrev pub invariant-loop-clause : goal.invariant-loop-clause
-invariant-loop-clause g l = g.S.Sat.vars l.solver ≡ g.S.Sat.vars l.initial.solver
