@@ -1,141 +1,14 @@
-//! Texts with their answers, and refusals of certificates with their places.
+//! Refusals of certificates with their places.
 
 use certificate::Certificate;
-use checker::{CheckError, RunError, check, run_safe, run_stimulus};
-use graph::{AigerFile, FromBytes, Lit, Property, Seq, ToVec};
+use checker::{CheckError, check};
+use graph::{AigerFile, Lit, Property, Seq};
 use lrat::Proof;
 use std::alloc::{AllocError, Global};
 use std::test::Fail;
 
 /// A latch that keeps its value 0.
 static HOLD: &[u8] = b"aag 1 0 1 0 0 1\n2 2\n2\n";
-
-/// Circuits, certificates, and the lines that are put: a latch that keeps its value, two latches that are
-/// never both 1, constants, a constraint, and a justice property.
-static ANSWERS: [(&[u8], &[u8], &[u8]); 13] = [
-    (
-        b"aag 1 0 1 0 0 1\n2 2\n2\n",
-        b"aigcert 1\nb0\n1\n1 3\ni\n4 0 2 3 0\n.\ns\n4 0 2 3 0\n.\nb\n4 0 2 3 0\n.\n",
-        b"yes safe b0\n",
-    ),
-    (
-        b"aag 5 0 2 0 3 1\n2 6\n4 8\n10\n6 3 5\n8 2 5\n10 2 4\n",
-        b"aigcert 1\nb0\n1\n2 3 5\ni\n6 0 2 4 0\n.\ns\n14 0 12 13 2 5 0\n.\nb\n13 0 12 8 9 11 0\n.\n",
-        b"yes safe b0\n",
-    ),
-    (
-        b"aag 0 0 0 0 0 1\n0\n",
-        b"aigcert 1\nb0\n0\nb\n3 0 1 2 0\n.\n",
-        b"yes safe b0\n",
-    ),
-    (
-        b"aag 1 1 0 0 0 1 1\n2\n2\n3\n",
-        b"aigcert 1\nb0\n0\nb\n4 0 2 3 0\n.\n",
-        b"yes safe b0\n",
-    ),
-    (
-        b"aag 0 0 0 0 0 1\n1\n",
-        b"aigcert 1\nb0\n0\nb\n3 0 1 2 0\n.\n",
-        b"no 44\n",
-    ),
-    (
-        b"aag 1 0 1 0 0 1\n2 2\n2\n",
-        b"aigcert 1\nb1\n0\nb\n.\n",
-        b"no 30\n",
-    ),
-    (
-        b"aag 1 0 1 0 0 1\n2 2\n2\n",
-        b"aigcert 1\nj0\n0\nb\n.\n",
-        b"no 30\n",
-    ),
-    (
-        b"aag 1 0 1 0 0 1\n2 2\n2\n",
-        b"aigcert 1\nb0\n1\n1 1\ni\n.\ns\n.\nb\n.\n",
-        b"no 32\n",
-    ),
-    (
-        b"aag 1 0 1 0 0 1\n2 2\n2\n",
-        b"aigcert 1\nb0\n1\n2 3 2\ni\n.\ns\n.\nb\n.\n",
-        b"no 33\n",
-    ),
-    (
-        b"aag 1 0 1 0 0 1\n2 2\n2\n",
-        b"aigcert 1\nb0\n1\n2 3 2\ni\n.\ns\n.\nb\n.\nx",
-        b"no 72\n",
-    ),
-    (b"aag 1 0 1 0 0 1\n2 2\n", b"", b"no 6\n"),
-    (
-        b"aag 1 0 1 0 0 0 0 1\n2 2\n1\n2\n",
-        b"aigcert 1\nj0\n2\n1 3\n1 11\ni\n7 0 2 6 0\n.\ni\n7 0 5 6 0\n.\ns\n41 0 38 40 0\n.\ns\n41 0 40 30 38 39 28 0\n.\nb\n41 0 39 40 36 0\n.\n",
-        b"yes safe j0\n",
-    ),
-    (
-        b"aag 1 0 1 0 0 0 0 1\n2 2\n1\n2\n",
-        b"aigcert 1\nj0\n2\n1 3\n1 11\ni\n7 0 2 6 0\n.\ni\n7 0 5 6 0\n.\ns\n41 0 38 40 0\n.\ns\n41 0 30 40 38 39 28 0\n.\nb\n41 0 39 40 36 0\n.\n",
-        b"no 42\n",
-    ),
-];
-
-#[test]
-fn lines_that_are_put(rt: HostRuntime) -> Result<(), RunError> {
-    for (circuit, certificate, line) in &ANSWERS {
-        let mut out = ToVec::new(rt.alloc());
-        let yes = run_safe(
-            rt.alloc(),
-            &mut FromBytes::new(circuit),
-            &mut FromBytes::new(certificate),
-            &mut out,
-        )?;
-        assert_eq!(rt; out.as_slice(), *line);
-        assert_eq!(rt; yes, line.starts_with(b"yes"));
-    }
-    Ok(())
-}
-
-/// Circuits, one of them binary, stimuli, and the lines that are put: a latch that toggles, one that
-/// begins with any value, a constraint, and constants.
-static REPLAYED: [(&[u8], &[u8], &[u8]); 8] = [
-    (
-        b"aag 1 0 1 0 0 1\n2 3\n2\n",
-        b"1\nb0\n0\n\n\n.\n",
-        b"yes run b0\n",
-    ),
-    (
-        b"aig 1 0 1 0 0 0 0 1\n3\n1\n2\n",
-        b"1\nj0\n0\n\n\n.\n",
-        b"yes run j0\n",
-    ),
-    (
-        b"aag 1 0 1 0 0 1\n2 2 2\n2\n",
-        b"1\nb0\n0\n\n.\n",
-        b"no 62\n",
-    ),
-    (
-        b"aag 1 1 0 0 0 1 1\n2\n2\n3\n",
-        b"1\nb0\n\n1\n.\n",
-        b"no 61\n",
-    ),
-    (b"aag 0 0 0 0 0 1\n1\n", b"0\nb0\n.\n", b"no 65\n"),
-    (b"aag 0 0 0 0 0 1\n1\n", b"1\nb0\n\n.\n", b"no 64\n"),
-    (b"aag 0 0 0 0 0 1\n1\n", b"1\nb0\n\n", b"no 84\n"),
-    (b"aag 0 0 0 0 0 1\n", b"", b"no 6\n"),
-];
-
-#[test]
-fn stimuli_that_are_replayed(rt: HostRuntime) -> Result<(), RunError> {
-    for (circuit, stimulus, line) in &REPLAYED {
-        let mut out = ToVec::new(rt.alloc());
-        let yes = run_stimulus(
-            rt.alloc(),
-            &mut FromBytes::new(circuit),
-            &mut FromBytes::new(stimulus),
-            &mut out,
-        )?;
-        assert_eq!(rt; out.as_slice(), *line);
-        assert_eq!(rt; yes, line.starts_with(b"yes"));
-    }
-    Ok(())
-}
 
 /// What `check` says of a certificate for the latch that keeps its value, by number, place and
 /// section.
@@ -149,7 +22,7 @@ fn refusal(alloc: Global, certificate: &[u8]) -> Option<(u8, u64, u64)> {
 }
 
 /// Certificates for the latch that keeps its value, with number, place and section of the refusal.
-static REFUSED: [(&[u8], (u8, u64, u64)); 6] = [
+static REFUSED: [(&[u8], (u8, u64, u64)); 15] = [
     (
         b"aigcert 1\nb0\n1\n1 3\ni\n4 0 2 3 0\n.\ns\n4 0 2 0\n.\nb\n4 0 2 3 0\n.\n",
         (44, 0, 1),
@@ -161,6 +34,42 @@ static REFUSED: [(&[u8], (u8, u64, u64)); 6] = [
     (
         b"aigcert 1\nb0\n1\n1 3\ni\n4 0 2 3 0\n.\ns\n4 0 2 3 0\n.\nb\n.\n",
         (49, 0, 2),
+    ),
+    (
+        b"aigcert 1\nb0\n1\n1 3\ni\n4 0 2 3 0\n.\ns\n4 0 2 3 0\n.\nb\n3 d 2 2 0\n4 0 2 3 0\n.\n",
+        (40, 0, 2),
+    ),
+    (
+        b"aigcert 1\nb0\n1\n1 3\ni\n4 0 2 3 0\n.\ns\n4 0 2 3 0\n.\nb\n3 0 2 3 0\n.\n",
+        (41, 0, 2),
+    ),
+    (
+        b"aigcert 1\nb0\n1\n1 3\ni\n4 0 2 3 0\n.\ns\n4 0 2 3 0\n.\nb\n4 0 1 1 2 3 0\n.\n",
+        (43, 0, 2),
+    ),
+    (
+        b"aigcert 1\nb0\n1\n1 3\ni\n4 0 2 3 0\n.\ns\n4 0 2 3 0\n.\nb\n4 0 2 3 1 0\n.\n",
+        (45, 0, 2),
+    ),
+    (
+        b"aigcert 1\nb0\n1\n1 3\ni\n4 0 2 3 0\n.\ns\n4 0 2 3 0\n.\nb\n4 0 0\n.\n",
+        (46, 0, 2),
+    ),
+    (
+        b"aigcert 1\nb0\n1\n1 3\ni\n4 0 2 3 0\n.\ns\n4 0 2 3 0\n.\nb\n4 0 -2 3 0\n.\n",
+        (47, 0, 2),
+    ),
+    (
+        b"aigcert 1\nb0\n1\n1 3\ni\n4 0 2 3 0\n.\ns\n4 0 2 3 0\n.\nb\n4 2 -2 0 2 3 0\n.\n",
+        (48, 0, 2),
+    ),
+    (
+        b"aigcert 1\nb0\n1\n1 3\ni\n4 0 2 3 0\n.\ns\n4 0 2 3 0\n.\nb\n4 0 2 3 0\n5 0 2 3 0\n.\n",
+        (50, 1, 2),
+    ),
+    (
+        b"aigcert 1\nb0\n1\n1 3\ni\n4 0 2 3 0\n.\ns\n4 0 2 3 0\n.\nb\n4 3 0 2 3 0\n.\n",
+        (51, 0, 2),
     ),
     (
         b"aigcert 1\nb0\n2\n1 3\n2 3 3\ni\n.\ni\n.\ns\n.\ns\n.\nb\n.\n",

@@ -1,8 +1,8 @@
-//! Circuits: that calls succeed where there is memory, what the numbers and places of refusals are, and
-//! that a deep chain of gates costs no stack.
+//! Circuits that no text spells: refusals of parts and of lists of symbols, and that a deep chain of gates
+//! costs no stack.
 
 use graph::{
-    AigerFile, Gate, Latch, Lit, Model, Parts, ReadError, Seq, Symbol, SymbolKind, Symbols, is_name,
+    AigerFile, Gate, Latch, Lit, Model, Parts, ReadError, Seq, Symbol, SymbolKind, is_name,
 };
 use std::alloc::{AllocError, Global};
 use std::test::Fail;
@@ -80,124 +80,24 @@ fn refusal(alloc: Global, plain: &Plain<'_>) -> Result<Option<(u8, u64)>, Fail> 
     }
 }
 
-/// The toggle's gates as they are evaluated: positions in its list, each after what it reads.
-static ORDER: [u32; 3] = [2, 1, 0];
-
-#[test]
-fn gates_in_their_order(rt: HostRuntime) -> Result<(), Fail> {
-    let parts = parts_of(rt.alloc(), &TOGGLE)?;
-    let model = Model::build(rt.alloc(), &parts)?;
-    assert_eq!(rt; model.order(), ORDER.as_slice());
-    Ok(())
-}
-
-/// How many outputs, bad literals, constraints, justice properties and fairness literals there are.
-fn shown(model: &Model) -> (usize, usize, usize, usize, usize) {
-    (
-        model.outputs().len(),
-        model.bad().len(),
-        model.constraints().len(),
-        model.justice().len(),
-        model.fairness().len(),
-    )
-}
-
-#[test]
-fn the_lists_of_a_circuit(rt: HostRuntime) -> Result<(), Fail> {
-    let model = model_of(rt.alloc(), &TOGGLE)?;
-    assert_eq!(rt; shown(&model), (0, 2, 0, 0, 0));
-    Ok(())
-}
-
-/// The bad literal of the circuit for one of the toggle's alone, or the refusal's number and place.
-fn alone(alloc: Global, n: u32) -> Result<Result<Option<Lit>, (u8, u64)>, Fail> {
+/// The number and place of the refusal of one of the toggle's bad literals alone.
+fn alone(alloc: Global, n: u32) -> Result<Option<(u8, u64)>, Fail> {
     let model = model_of(alloc, &TOGGLE)?;
     match model.for_bad(alloc, n) {
-        Ok(one) => Ok(Ok(one.bad().first().copied())),
-        Err(e) => Ok(Err((e.number(), e.place()))),
+        Ok(_) => Ok(None),
+        Err(e) => Ok(Some((e.number(), e.place()))),
     }
 }
 
 #[test]
-fn one_bad_literal_alone(rt: HostRuntime) -> Result<(), Fail> {
-    assert_eq!(rt; alone(rt.alloc(), 1)?, Ok(Some(Lit(5))));
-    assert_eq!(rt; alone(rt.alloc(), 2)?, Err((30, 2)));
+fn no_such_bad_literal_alone(rt: HostRuntime) -> Result<(), Fail> {
+    assert_eq!(rt; alone(rt.alloc(), 2)?, Some((30, 2)));
     Ok(())
 }
 
-/// The toggle's valuation for a value of its latch and one of its input.
-fn valuation(alloc: Global, latch: bool, input: bool) -> Result<Vec<bool>, Fail> {
-    let model = model_of(alloc, &TOGGLE)?;
-    let state = vec![in alloc; latch; model.latches().len()]?;
-    let inputs = vec![in alloc; input; model.inputs().len()]?;
-    let mut out = vec![in alloc; true; model.max_var() as usize + 1]?;
-    model.eval(&state, &inputs, &mut out);
-    Ok(out)
-}
-
-/// The values of the toggle's variables 0 to 5 for each value of its latch and its input.
-static VALUATIONS: [(bool, bool, [bool; 6]); 4] = [
-    (false, false, [false, false, false, false, true, false]),
-    (false, true, [false, true, false, false, false, true]),
-    (true, false, [false, false, true, false, false, true]),
-    (true, true, [false, true, true, true, false, false]),
-];
-
-#[test]
-fn the_one_agreeing_valuation(rt: HostRuntime) -> Result<(), Fail> {
-    for (latch, input, values) in &VALUATIONS {
-        let found = valuation(rt.alloc(), *latch, *input)?;
-        assert_eq!(rt; found.as_slice(), values.as_slice());
-    }
-    Ok(())
-}
-
-/// A latch that is an input's copy, with a gate over both: ordered, not ordered, and with a
-/// variable that nothing defines.
-static NUMBERED: [(Plain<'static>, bool); 3] = [
-    (
-        Plain {
-            max_var: 3,
-            inputs: &[2],
-            latches: &[(4, 6, 0)],
-            bad: &[],
-            gates: &[(6, 4, 2)],
-        },
-        true,
-    ),
-    (
-        Plain {
-            max_var: 3,
-            inputs: &[2],
-            latches: &[(4, 6, 0)],
-            bad: &[],
-            gates: &[(6, 2, 4)],
-        },
-        false,
-    ),
-    (
-        Plain {
-            max_var: 4,
-            inputs: &[2],
-            latches: &[(4, 6, 0)],
-            bad: &[],
-            gates: &[(6, 4, 2)],
-        },
-        false,
-    ),
-];
-
-#[test]
-fn the_binary_numbering(rt: HostRuntime) -> Result<(), Fail> {
-    for (plain, wanted) in &NUMBERED {
-        let model = model_of(rt.alloc(), plain)?;
-        assert_eq!(rt; model.is_ordered(), *wanted);
-    }
-    Ok(())
-}
-
-/// Parts that make no circuit, with the number and place of the refusal.
-static REFUSED: [(Plain<'static>, u8, u64); 16] = [
+/// Parts that make no circuit and that no text spells, or of which a text has another place, with the
+/// number and place of the refusal.
+static REFUSED: [(Plain<'static>, u8, u64); 10] = [
     (
         Plain {
             max_var: 4_194_304,
@@ -300,17 +200,6 @@ static REFUSED: [(Plain<'static>, u8, u64); 16] = [
     (
         Plain {
             max_var: 3,
-            inputs: &[2],
-            latches: &[(2, 3, 0)],
-            bad: &[4],
-            gates: &[(6, 4, 2)],
-        },
-        9,
-        1,
-    ),
-    (
-        Plain {
-            max_var: 3,
             inputs: &[6, 6, 2],
             latches: &[(2, 3, 0)],
             bad: &[4],
@@ -319,61 +208,6 @@ static REFUSED: [(Plain<'static>, u8, u64); 16] = [
         9,
         1,
     ),
-    (
-        Plain {
-            max_var: 3,
-            inputs: &[],
-            latches: &[(4, 3, 0)],
-            bad: &[4],
-            gates: &[(6, 4, 2)],
-        },
-        10,
-        1,
-    ),
-    (
-        Plain {
-            max_var: 3,
-            inputs: &[2],
-            latches: &[(4, 3, 0)],
-            bad: &[7, 4],
-            gates: &[],
-        },
-        10,
-        3,
-    ),
-    (
-        Plain {
-            max_var: 3,
-            inputs: &[2],
-            latches: &[(4, 3, 0)],
-            bad: &[4],
-            gates: &[(6, 6, 2)],
-        },
-        11,
-        3,
-    ),
-    (
-        Plain {
-            max_var: 2,
-            inputs: &[],
-            latches: &[],
-            bad: &[],
-            gates: &[(2, 4, 4), (4, 2, 2)],
-        },
-        11,
-        1,
-    ),
-    (
-        Plain {
-            max_var: 5,
-            inputs: &[2],
-            latches: &[(4, 3, 0)],
-            bad: &[],
-            gates: &[(8, 2, 10), (10, 9, 2), (6, 10, 2)],
-        },
-        11,
-        3,
-    ),
 ];
 
 #[test]
@@ -381,22 +215,6 @@ fn refusals_with_number_and_place(rt: HostRuntime) -> Result<(), Fail> {
     for (plain, number, place) in &REFUSED {
         assert_eq!(rt; refusal(rt.alloc(), plain)?, Some((*number, *place)));
     }
-    Ok(())
-}
-
-/// An input of the greatest variable that there may be.
-static WIDEST: Plain<'static> = Plain {
-    max_var: 4_194_303,
-    inputs: &[8_388_606],
-    latches: &[],
-    bad: &[8_388_607],
-    gates: &[],
-};
-
-#[test]
-fn the_greatest_variable(rt: HostRuntime) -> Result<(), Fail> {
-    let model = model_of(rt.alloc(), &WIDEST)?;
-    assert_eq!(rt; model.max_var(), 4_194_303);
     Ok(())
 }
 
@@ -508,27 +326,6 @@ fn symbols_that_name_nothing(rt: HostRuntime) -> Result<(), Fail> {
         let refused = file_with(rt.alloc(), *kind, *position, name)?.err();
         assert_eq!(rt; refused, Some((14, 1)));
     }
-    Ok(())
-}
-
-/// Whether a symbol of the latch is added to the toggle's.
-fn added(symbols: &mut Symbols, symbol: Symbol) -> Result<Option<bool>, AllocError> {
-    if !is_name(symbol.name.as_slice()) {
-        return Ok(None);
-    }
-    let added = symbols.add(symbol)?;
-    Ok(Some(added))
-}
-
-#[test]
-fn symbols_are_added_once(rt: HostRuntime) -> Result<(), Fail> {
-    let parts = parts_of(rt.alloc(), &TOGGLE)?;
-    let mut symbols = Symbols::new(rt.alloc(), &parts)?;
-    let first = symbol(rt.alloc(), SymbolKind::Latch, 0, b"q")?;
-    let second = symbol(rt.alloc(), SymbolKind::Latch, 0, b"r")?;
-    assert_eq!(rt; added(&mut symbols, first)?, Some(true));
-    assert_eq!(rt; added(&mut symbols, second)?, Some(false));
-    assert_eq!(rt; symbols.into_list().len(), 1);
     Ok(())
 }
 

@@ -86,39 +86,6 @@ fn compare(
     Ok(())
 }
 
-/// A latch that holds its value never sets it: the bad state's clauses, with the accepted proof
-/// and one proof for each refusal.
-#[test]
-fn refuses_what_a_latch_that_holds_cannot_show(rt: HostRuntime) -> Result<(), Fail> {
-    let hold = formula(rt.alloc(), 2, &[&[2], &[-1], &[1]])?;
-    compare(
-        &rt,
-        rt.alloc(),
-        &hold,
-        &[
-            (&[Row::Add(4, &[], &[2, 3])], None),
-            (
-                &[Row::Delete(3, &[2]), Row::Add(4, &[], &[2, 3])],
-                Some((40, 1)),
-            ),
-            (&[Row::Delete(3, &[2, 2])], Some((40, 0))),
-            (&[Row::Add(3, &[], &[2, 3])], Some((41, 0))),
-            (&[Row::Add(4, &[], &[1, 1, 2, 3])], Some((43, 0))),
-            (&[Row::Add(4, &[], &[2])], Some((44, 0))),
-            (&[Row::Add(4, &[], &[2, 3, 1])], Some((45, 0))),
-            (&[Row::Add(4, &[], &[])], Some((46, 0))),
-            (&[Row::Add(4, &[], &[-2, 3])], Some((47, 0))),
-            (&[Row::Add(4, &[2, -2], &[2, 3])], Some((48, 0))),
-            (&[], Some((49, 0))),
-            (
-                &[Row::Add(4, &[], &[2, 3]), Row::Add(5, &[], &[2, 3])],
-                Some((50, 1)),
-            ),
-            (&[Row::Add(4, &[3], &[2, 3])], Some((51, 0))),
-        ],
-    )
-}
-
 /// All four clauses over two variables, with the accepted proof and changed copies of it.
 #[test]
 fn refuses_changed_proofs_over_two_variables(rt: HostRuntime) -> Result<(), Fail> {

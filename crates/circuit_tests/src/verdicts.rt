@@ -1,6 +1,5 @@
 //! What no clause says: which runs and invariants are believed, and that calls succeed where there is memory.
 
-use certificate::Certificate;
 use checker::check;
 use engine::{Engine, EngineError, Finding, Reason};
 use graph::{Budget, Latch, Lit, Model, Parts, Property, Seq, ToVec};
@@ -235,20 +234,5 @@ fn invariants_are_certified(rt: HostRuntime) -> Result<(), Fail> {
     for (next, literal, steps, wanted) in &CLAIMS {
         assert_eq!(rt; claimed(rt.alloc(), *next, *literal, *steps)?, *wanted);
     }
-    Ok(())
-}
-
-#[test]
-fn what_holds_is_told(rt: HostRuntime) -> Result<(), Fail> {
-    let property = Property::Bad(3);
-    let certificate = Certificate {
-        property,
-        invariant: Seq::new(rt.alloc()),
-        sections: Seq::new(rt.alloc()),
-    };
-    let mut out = ToVec::new(rt.alloc());
-    let status = show(property, &Verdict::Safe(certificate), &mut out)?;
-    assert_eq!(rt; status, 0);
-    assert_eq!(rt; out.as_slice(), b"0\nb3\n.\n".as_slice());
     Ok(())
 }

@@ -1,12 +1,11 @@
-//! Worked circuits: bounded search by either solver finds runs of the same length, or none, and the
-//! faster one wastes no budget.
+//! Worked circuits: bounded search by backtracking finds the shortest runs, or none. `cases/texts.tsv` has
+//! the same by the solver of `aigmc`.
 
 ghost use Rattle.std.specs.Prelude.{◌≤◌, IfOk};
 ghost use Rattle.engine.specs.Findings.{IsForBad};
 
 use aag::read;
 use bmc::Bmc;
-use cdcl::Cdcl;
 use engine::{Engine, EngineError, Finding, Reason};
 use graph::{Budget, Model};
 use solver::{Plain, Sat};
@@ -80,13 +79,12 @@ fn by_backtracking(rt: HostRuntime) -> Result<(), Fail> {
     Ok(())
 }
 
+/// The whole unrolling is not asked where the plan says enough: a budget that only the plan is within suffices.
 #[test]
-fn by_learning_within_few_steps(rt: HostRuntime) -> Result<(), Fail> {
+fn needs_the_plan_alone(rt: HostRuntime) -> Result<(), Fail> {
     let alloc = rt.alloc();
-    for (text, depth, wanted) in &WORKED {
-        let circuit = circuit(alloc, text)?;
-        let found = times(Cdcl::new(alloc), alloc, &circuit, *depth, 10_000)?;
-        assert_eq!(rt; found, Some(*wanted));
-    }
+    let counter = circuit(alloc, WORKED[3].0)?;
+    let found = times(Plain::new(alloc), alloc, &counter, 3, 2262)?;
+    assert_eq!(rt; found, Some(4));
     Ok(())
 }

@@ -8,11 +8,7 @@ mod backtracking;
 #[cfg(test)]
 mod bounded;
 #[cfg(test)]
-mod depths;
-#[cfg(test)]
 mod inductive;
-#[cfg(test)]
-mod invariants;
 #[cfg(test)]
 mod levels;
 #[cfg(test)]

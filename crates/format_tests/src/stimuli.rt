@@ -1,40 +1,10 @@
-//! What no clause says: that calls succeed where there is memory, which refusals come where, and
-//! what worked examples show.
+//! What no worked case shows of stimuli: that each is written as it was read, texts that are cut, and the
+//! places of what `judge` refuses.
 
 use graph::{Latch, Lit, Model, Parts, Seq, ToVec};
 use std::alloc::{AllocError, Global};
 use std::test::Fail;
-use stimulus::{judge, put_table, read, write};
-
-/// Texts with the number and the place of their refusal.
-static REFUSED: [(&[u8], (u8, u64)); 26] = [
-    (b"", (84, 0)),
-    (b"3\nb0\n.\n", (80, 0)),
-    (b"x", (80, 0)),
-    (b"1", (84, 1)),
-    (b"1 \nb0\n", (80, 1)),
-    (b"1\nx0\n", (81, 2)),
-    (b"1\n\n", (81, 2)),
-    (b"1\no0\n0\n\n\n.\n", (81, 2)),
-    (b"1\no", (81, 2)),
-    (b"1\nb\n", (81, 3)),
-    (b"1\nb", (84, 3)),
-    (b"1\nb00\n", (81, 3)),
-    (b"1\nb4294967296\n", (81, 3)),
-    (b"1\nb0 \n", (81, 4)),
-    (b"1\nb0", (84, 4)),
-    (b"1\nb0\nx\n\n.\n", (83, 5)),
-    (b"1\nb0\n.\n", (83, 5)),
-    (b"1\nb0\n0\n1.\n", (83, 8)),
-    (b"1\nb0\n0\n2\n.\n", (83, 7)),
-    (b"1\nb0\n0\n.x", (83, 8)),
-    (b"1\nb0\n0\n.", (84, 8)),
-    (b"1\nb0\n0\n.\n.\n", (85, 9)),
-    (b"0\nb0\n1\n.\n", (83, 5)),
-    (b"0\nb0\n.\n\n", (85, 7)),
-    (b"2\nj4294967295\n.1\n", (83, 15)),
-    (b"2\nj7\n.", (84, 6)),
-];
+use stimulus::{JudgeError, judge, read, write};
 
 /// Texts that spell a stimulus.
 static SPELLED: [&[u8]; 14] = [
@@ -68,22 +38,6 @@ struct Plain<'a> {
     fairness: &'a [u32],
 }
 
-static TRUE: Plain<'static> = Plain {
-    inputs: &[],
-    latches: &[],
-    outputs: &[],
-    bad: &[1],
-    constraints: &[],
-    justice: &[&[]],
-    fairness: &[],
-};
-
-static TRUE_ANSWERS: [(&[u8], (u8, u64)); 3] = [
-    (b"1\nb0\n\n\n.\n", (0, 0)),
-    (b"1\nj0\n\n\n.\n", (0, 0)),
-    (b"1\nb0\n\n.\n", (64, 0)),
-];
-
 /// An input, which is bad and which the constraint forbids.
 static FORBIDDEN: Plain<'static> = Plain {
     inputs: &[2],
@@ -99,22 +53,6 @@ static FORBIDDEN_ANSWERS: [(&[u8], (u8, u64)); 3] = [
     (b"1\nb0\n\n1\n.\n", (61, 0)),
     (b"1\nb0\n\n0\n1\n.\n", (61, 1)),
     (b"1\nb0\n\n0\n0\n.\n", (62, 0)),
-];
-
-/// A latch that holds what it begins with, and may begin with anything.
-static OPEN: Plain<'static> = Plain {
-    inputs: &[],
-    latches: &[(2, 2, 2)],
-    outputs: &[],
-    bad: &[2],
-    constraints: &[],
-    justice: &[],
-    fairness: &[],
-};
-
-static OPEN_ANSWERS: [(&[u8], (u8, u64)); 2] = [
-    (b"1\nb0\n1\n\n.\n", (0, 0)),
-    (b"1\nb0\n0\n\n.\n", (62, 0)),
 ];
 
 /// A latch that holds 0.
@@ -138,49 +76,12 @@ static HOLD_ANSWERS: [(&[u8], (u8, u64)); 7] = [
     (b"1\nb0\n1\n\n.\n", (60, 0)),
 ];
 
-/// A latch that changes at each step, and a justice property that wants it both set and not set.
-static TOGGLE: Plain<'static> = Plain {
-    inputs: &[],
-    latches: &[(2, 3, 0)],
-    outputs: &[],
-    bad: &[2],
-    constraints: &[],
-    justice: &[&[2]],
-    fairness: &[3],
-};
-
-static TOGGLE_ANSWERS: [(&[u8], (u8, u64)); 4] = [
-    (b"1\nb0\n0\n\n\n.\n", (0, 0)),
-    (b"1\nb0\n0\n\n\n\n.\n", (62, 0)),
-    (b"1\nj0\n0\n\n\n.\n", (0, 0)),
-    (b"1\nj0\n0\n\n.\n", (63, 0)),
-];
-
-/// A latch that goes from 0 to 1 and stays: the first justice property wants 1, the second 0. The
-/// outputs are its negation and the latch.
-static RISE: Plain<'static> = Plain {
-    inputs: &[],
-    latches: &[(2, 1, 0)],
-    outputs: &[3, 2],
-    bad: &[2],
-    constraints: &[],
-    justice: &[&[2], &[3]],
-    fairness: &[],
-};
-
-static RISE_ANSWERS: [(&[u8], (u8, u64)); 2] = [
-    (b"1\nj0\n0\n\n\n.\n", (0, 0)),
-    (b"1\nj1\n0\n\n\n.\n", (63, 0)),
-];
-
-/// Texts for which there is no table of `HOLD`, with the number and the place of the refusal. The
-/// property is not looked at.
-static HOLD_REFUSED: [(&[u8], (u8, u64)); 5] = [
-    (b"0\nb9\n.\n", (65, 0)),
-    (b"1\nb9\n11\n.\n", (66, 0)),
-    (b"1\nb0\n1\n\n1\n.\n", (66, 2)),
-    (b"1\nb0\n1\n.\n", (64, 0)),
-    (b"1\nb0\n1\n\n.\n", (60, 0)),
+/// Refusals without a place, with their numbers.
+static PLACELESS: [(JudgeError, u8); 4] = [
+    (JudgeError::BadNotSet, 62),
+    (JudgeError::NoLasso, 63),
+    (JudgeError::NoInputLine, 64),
+    (JudgeError::NotViolated, 65),
 ];
 
 fn literals(alloc: Global, numbers: &[u32]) -> Result<Seq<Lit>, AllocError> {
@@ -246,22 +147,6 @@ fn first_other(
     Ok(None)
 }
 
-/// The first text that is read, or refused by another number or at another place than stands
-/// beside it.
-fn first_misread(alloc: Global, texts: &[(&[u8], (u8, u64))]) -> Option<usize> {
-    for (i, (text, wanted)) in texts.iter().enumerate() {
-        match read(alloc, text) {
-            Ok(_) => return Some(i),
-            Err(e) => {
-                if (e.number(), e.place()) != *wanted {
-                    return Some(i);
-                }
-            }
-        }
-    }
-    None
-}
-
 /// The first length at which the text is cut and not refused as truncated there.
 fn first_uncut(alloc: Global, text: &[u8]) -> Option<usize> {
     for length in 0..text.len() {
@@ -277,52 +162,12 @@ fn first_uncut(alloc: Global, text: &[u8]) -> Option<usize> {
     None
 }
 
-/// What `put_table` puts of the stimulus that a text spells, and the number and the place with which
-/// it refuses that; 0 stands for a table.
-fn tabled(alloc: Global, model: &Model, text: &[u8]) -> Result<(Vec<u8>, (u8, u64)), Fail> {
-    let stimulus = read(alloc, text)?;
-    let mut out = ToVec::new(alloc);
-    let answer = match put_table(alloc, model, &stimulus, &mut out) {
-        Ok(()) => (0, 0),
-        Err(e) => (e.number(), e.place()),
-    };
-    Ok((out.into_vec(), answer))
-}
-
-/// Whether this is the table of the stimulus that a text spells.
-fn is_table(alloc: Global, plain: &Plain<'_>, text: &[u8], table: &[u8]) -> Result<bool, Fail> {
-    let model = model_of(alloc, plain)?;
-    let (out, answer) = tabled(alloc, &model, text)?;
-    Ok(answer == (0, 0) && out.as_slice() == table)
-}
-
-/// The first text for which something is put, or something else is answered than stands beside it.
-fn first_tabled(
-    alloc: Global,
-    plain: &Plain<'_>,
-    answers: &[(&[u8], (u8, u64))],
-) -> Result<Option<usize>, Fail> {
-    let model = model_of(alloc, plain)?;
-    for (i, (text, wanted)) in answers.iter().enumerate() {
-        let (out, answer) = tabled(alloc, &model, text)?;
-        if answer != *wanted || !out.is_empty() {
-            return Ok(Some(i));
-        }
-    }
-    Ok(None)
-}
-
 /// Whether the stimulus that a text spells is written as that text.
 fn is_rewritten(alloc: Global, text: &[u8]) -> Result<bool, Fail> {
     let stimulus = read(alloc, text)?;
     let mut out = ToVec::new(alloc);
     write(&stimulus, &mut out)?;
     Ok(out.as_slice() == text)
-}
-
-#[test]
-fn texts_are_refused_at_their_first_fault(rt: HostRuntime) {
-    assert_eq!(rt; first_misread(rt.alloc(), &REFUSED), None);
 }
 
 #[test]
@@ -341,20 +186,6 @@ fn texts_that_are_cut_are_truncated(rt: HostRuntime) {
 }
 
 #[test]
-fn bad_literals(rt: HostRuntime) -> Result<(), Fail> {
-    assert_eq!(rt; first_other(rt.alloc(), &TRUE, &TRUE_ANSWERS)?, None);
-    assert_eq!(rt; first_other(rt.alloc(), &OPEN, &OPEN_ANSWERS)?, None);
-    Ok(())
-}
-
-#[test]
-fn lassos(rt: HostRuntime) -> Result<(), Fail> {
-    assert_eq!(rt; first_other(rt.alloc(), &TOGGLE, &TOGGLE_ANSWERS)?, None);
-    assert_eq!(rt; first_other(rt.alloc(), &RISE, &RISE_ANSWERS)?, None);
-    Ok(())
-}
-
-#[test]
 fn causes_in_their_order(rt: HostRuntime) -> Result<(), Fail> {
     assert_eq!(rt; first_other(rt.alloc(), &HOLD, &HOLD_ANSWERS)?, None);
     Ok(())
@@ -370,42 +201,8 @@ fn constraints_hold_at_the_last_time_too(rt: HostRuntime) -> Result<(), Fail> {
 }
 
 #[test]
-fn tables_of_latches(rt: HostRuntime) -> Result<(), Fail> {
-    assert!(rt;
-        is_table(
-            rt.alloc(),
-            &TOGGLE,
-            b"1\nb0\n0\n\n\n.\n",
-            b"0 0 - - 0\n1 1 - - 1\n2 0\n"
-        )?
-    );
-    assert!(rt; is_table(rt.alloc(), &OPEN, b"1\nb0\n1\n\n.\n", b"0 1 - - 1\n1 1\n")?);
-    Ok(())
-}
-
-#[test]
-fn tables_of_inputs_and_outputs(rt: HostRuntime) -> Result<(), Fail> {
-    assert!(rt;
-        is_table(
-            rt.alloc(),
-            &FORBIDDEN,
-            b"1\nb0\n\n1\n.\n",
-            b"0 - 1 - 1\n1 -\n"
-        )?
-    );
-    assert!(rt;
-        is_table(
-            rt.alloc(),
-            &RISE,
-            b"1\nb7\n0\n\n\n.\n",
-            b"0 0 - 10 0\n1 1 - 01 1\n2 1\n"
-        )?
-    );
-    Ok(())
-}
-
-#[test]
-fn tables_are_refused_with_nothing_put(rt: HostRuntime) -> Result<(), Fail> {
-    assert_eq!(rt; first_tabled(rt.alloc(), &HOLD, &HOLD_REFUSED)?, None);
-    Ok(())
+fn refusals_without_a_place(rt: HostRuntime) {
+    for (e, number) in &PLACELESS {
+        assert_eq!(rt; (e.number(), e.place()), (*number, 0));
+    }
 }
