@@ -25,3 +25,5 @@ mod shadow_circuits;
 mod shrinking;
 #[cfg(test)]
 mod verdicts;
+#[cfg(test)]
+mod worked_proofs;
