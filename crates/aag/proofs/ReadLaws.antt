@@ -77,7 +77,7 @@ cause_number m (SymbolFault p) cause = absurd cause
 cause_number m (Counts p) cause = absurd cause
 cause_number m (NoProperty n) cause = absurd cause
 
--- a circuit that is well formed is refused only for want of memory
+-- a circuit that is well formed is refused only when out of memory
 pub memory_or_cause : (m : Parts) (e : ReadError) → HasCause m e → (e ≢ OutOfMemory → ⊥) → e ≡ OutOfMemory
 memory_or_cause m OutOfMemory cause h = refl
 memory_or_cause m (Limit k) cause h = absurd (h (λ q. absurd cc))

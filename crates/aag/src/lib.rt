@@ -6,7 +6,7 @@
 //!
 //! - `SpellsAscii` (`specs/Ascii.antt`) says which texts spell which files, as a relation between
 //!   a whole text and a file. `read` answers `Ok` exactly on the texts that spell one, with that
-//!   file; only want of memory can keep it from one.
+//!   file; only running out of memory can keep it from one.
 //! - A text that spells none is refused at its first fault, by the byte. A fault of a number is
 //!   told before what follows it. What no single line shows, as a cycle of gates, is told after
 //!   the last byte.

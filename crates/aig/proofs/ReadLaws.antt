@@ -63,7 +63,7 @@ fault_number length (Text kind left) = byte_number kind (length - left)
 
 -- ---- a fault of the circuit
 
--- a circuit that was read is well formed, and so refused only for want of memory
+-- a circuit that was read is well formed, and so refused only when out of memory
 pub refused_memory : (text : List ℕ) (parts : Parts) (xs : List Symbol) (o : Option (List ℕ)) (e : ReadError) → text_at text ≡ Some (file_of parts xs o) → AreSymbols (symbol_counts parts) xs → length text ≤ 67108864
     → HasCause parts e → (e ≢ OutOfMemory → IsWellFormed parts → ⊥) → e ≡ OutOfMemory
 refused_memory text parts xs o e read are short cause exact =

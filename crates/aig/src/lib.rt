@@ -6,7 +6,7 @@
 //!
 //! - `SpellsBinary` (`specs/Binary.antt`) says which texts spell which files, as a relation between
 //!   a whole text and a file. `read` answers `Ok` exactly on the texts that spell one, with that
-//!   file; only want of memory can keep it from one.
+//!   file; only running out of memory can keep it from one.
 //! - A text that spells none is refused at its first fault, by the byte. There is one form for each
 //!   difference. What is read is always a well-formed circuit, so nothing is refused behind the last
 //!   byte.

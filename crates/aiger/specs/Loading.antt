@@ -11,13 +11,13 @@ pub record IsFileOf (xs : List ℕ) (f : File) : Type 0 where
   pub spells : SpellsFile xs f
   pub only : (g : File) → SpellsFile xs g → g ≡ f
 
--- the text spells no file, and the number is one of its reader's refusals, but not want of memory
+-- the text spells no file, and the number is one of its reader's refusals, but not out of memory
 pub record SpellsNoFile (xs : List ℕ) (n : ℕ) : Type 0 where
   pub none : (f : File) → SpellsFile xs f → ⊥
   pub number : IsRefusalNumber xs n
   pub other : n ≢ 20
 
--- why a text is refused: it spells no file, but for want of memory
+-- why a text is refused: it spells no file, but for out of memory
 abbrev pub IsRefusal : List ℕ → LoadError → Type 0
 IsRefusal xs (Refused e) = number_of e ≢ 20 → SpellsNoFile xs (number_of e)
 IsRefusal xs Device = Unit {0}

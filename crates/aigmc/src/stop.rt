@@ -8,7 +8,7 @@ use std::process::ExitCode;
 pub const DONE: u8 = 0;
 /// The status of a command that failed.
 pub const FAULT: u8 = 3;
-/// The number of want of memory.
+/// The number of out of memory.
 const OUT_OF_MEMORY: u8 = 20;
 /// The number of a device's fault.
 const DEVICE: u8 = 21;

@@ -2,7 +2,7 @@
 //!
 //! `Cdcl` keeps to `solver`'s `Sat`: a model satisfies the clauses and the assumptions, a core is
 //! part of the assumptions that nothing satisfies with the clauses, and `Spent` is answered only
-//! where the budget has nothing left.
+//! where the budget is exhausted.
 //!
 //! `refute` gives a proof of a formula that nothing satisfies, which lrat's `refutes` accepts.
 //!

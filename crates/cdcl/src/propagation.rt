@@ -23,7 +23,7 @@ pub enum Propagated {
     Quiet,
     /// the clause is false
     Conflict(u32),
-    /// the budget has nothing left
+    /// the budget is exhausted
     Spent,
 }
 

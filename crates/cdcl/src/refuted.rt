@@ -9,6 +9,6 @@ pub enum Refuted {
     Proof(Proof),
     /// values that satisfy the formula: place `v` is the variable `v`, and place 0 is false
     Model(Vec<bool>),
-    /// the budget has nothing left
+    /// the budget is exhausted
     Spent,
 }

@@ -28,7 +28,7 @@ pub enum CertError {
     /// another section is due, or none
     #[error("byte {place}: not the section that is due")]
     Section { place: u64 },
-    /// want of memory
+    /// out of memory
     #[error("out of memory")]
     OutOfMemory,
 }
@@ -65,7 +65,7 @@ impl CertError {
         }
     }
 
-    /// The refusal's place, 0 for want of memory.
+    /// The refusal's place, 0 for out of memory.
     pub fn place(self) -> u64
         ensures { result ≡ place_of self }
     {

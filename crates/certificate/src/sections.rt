@@ -29,7 +29,7 @@ fn item(alloc: Global, text: &[u8]) -> Result<(Option<Line>, &[u8]), Fault<Refus
 }
 
 /// The lines of a section, and what follows the line with a dot behind them. Each goes into the
-/// proof as it is read; a line that was read is in its limits, so only want of memory keeps it out.
+/// proof as it is read; a line that was read is in its limits, so only running out of memory keeps it out.
 fn section_lines(alloc: Global, text: &[u8]) -> Result<(Proof, &[u8]), Fault<Refusal>>
     ensures { Gives (λ x. (x.0, x.1.now)) result (items_at item_at text.now) }
 {

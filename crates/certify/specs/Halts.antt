@@ -20,7 +20,7 @@ abbrev pub of_cnf : CnfError → Halt
 of_cnf cnf.Limit = Limit
 of_cnf cnf.OutOfMemory = OutOfMemory
 
--- something satisfies one of the formulas, or the budget has nothing left; a limit and memory can stop anything
+-- something satisfies one of the formulas, or the budget is exhausted; a limit and memory can stop anything
 abbrev pub IsHalt : List Formula → Steps → Halt → Type 0
 IsHalt fs after NotInvariant = HasSatisfied fs
 IsHalt fs after Spent = after.left ≡ 0

@@ -10,6 +10,6 @@ pub enum Certified {
     /// something satisfies one of the cases: the clauses are not inductive, or do not exclude the
     /// bad literal
     NotInvariant,
-    /// the budget has nothing left
+    /// the budget is exhausted
     Spent,
 }

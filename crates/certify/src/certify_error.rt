@@ -22,7 +22,7 @@ pub enum CertifyError {
     /// the clause, from 0, has a literal that is repeated or opposed
     #[error("clause {clause}: a literal is repeated or opposed")]
     Repeated { clause: u64 },
-    /// want of memory
+    /// out of memory
     #[error("out of memory")]
     OutOfMemory,
 }

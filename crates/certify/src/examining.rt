@@ -32,7 +32,7 @@ pub fn examine(alloc: Global, model: &Model, invariant: &[Seq<Lit>]) -> Result<(
         Ok(()) => Ok(()),
         Err(CheckError::NotLatch { clause }) => Err(CertifyError::NotLatch { clause }),
         Err(CheckError::Repeated { clause }) => Err(CertifyError::Repeated { clause }),
-        // there is no other cause but want of memory
+        // there is no other cause but out of memory
         Err(_) => Err(CertifyError::OutOfMemory),
     }
 }

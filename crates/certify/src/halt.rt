@@ -12,7 +12,7 @@ use std::alloc::AllocFailed;
 pub enum Halt {
     /// Something satisfies a case.
     NotInvariant,
-    /// The budget has nothing left.
+    /// The budget is exhausted.
     Spent,
     /// A solver has used up its ids.
     Limit,

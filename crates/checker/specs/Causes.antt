@@ -56,7 +56,7 @@ pub record IsFirstRefused (fs : List Formula) (ps : List (List Line)) (e : StepE
   pub refused : (f : Formula) (p : List Line) → IsRefusedProof (slice_index_or fs k f) (slice_index_or ps k p) e
   pub other : e.fault ≢ NoMemory
 
--- how the refusal of a proof is told of the section at k: want of memory has no section
+-- how the refusal of a proof is told of the section at k: out of memory has no section
 abbrev pub IsSectionError : StepError → ℕ → CheckError → Type 0
 IsSectionError e k r = ((e.fault ≡ NoMemory) × (r ≡ OutOfMemory)) ⊎ ((e.fault ≢ NoMemory) × (r ≡ Section e k))
 

@@ -31,7 +31,7 @@ pub record IsStimulusOf (ys : List ℕ) (s : Stimulus) : Type 0 where
   pub spells : SpellsStimulus ys s
   pub only : (t : Stimulus) → SpellsStimulus ys t → t ≡ s
 
--- the text spells no stimulus, and the number is one of its reader's refusals, but not want of memory
+-- the text spells no stimulus, and the number is one of its reader's refusals, but not out of memory
 pub record SpellsNoStimulus (ys : List ℕ) (n : ℕ) : Type 0 where
   pub none : (s : Stimulus) → SpellsStimulus ys s → ⊥
   pub error : StimError

@@ -6,7 +6,7 @@ use Rattle.aiger.specs.declared.load_error.LoadError.TheVariants.{Refused, Devic
 use Rattle.checker.specs.declared.stop.Stop.{Stop}
 use Rattle.checker.specs.declared.stop.Stop.TheVariants.{No, OutOfMemory, Device}
 
--- a refusal is a no with its number, but for want of memory
+-- a refusal is a no with its number, but for out of memory
 abbrev pub stop_of : ℕ → Stop
 stop_of n = if n == 20 then OutOfMemory else No n
 

@@ -37,7 +37,7 @@ pub record IsCertificateOf (ys : List ℕ) (c : Certificate) : Type 0 where
   pub spells : SpellsCertificate ys c
   pub only : (d : Certificate) → SpellsCertificate ys d → d ≡ c
 
--- the text spells no certificate, and the number is one of its reader's refusals, but not want of memory
+-- the text spells no certificate, and the number is one of its reader's refusals, but not out of memory
 pub record SpellsNoCertificate (ys : List ℕ) (n : ℕ) : Type 0 where
   pub none : (c : Certificate) → SpellsCertificate ys c → ⊥
   pub error : CertError

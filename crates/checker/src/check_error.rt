@@ -30,7 +30,7 @@ pub enum CheckError {
     /// the section, from 0, is no proof of its case
     #[error("section {section}: {error}")]
     Section { error: StepError, section: u64 },
-    /// want of memory
+    /// out of memory
     #[error("out of memory")]
     OutOfMemory,
 }

@@ -1,6 +1,6 @@
 //! The judge of certificates.
 //!
-//! - `check` answers Ok exactly where a certificate is accepted for a circuit, want of memory
+//! - `check` answers Ok exactly where a certificate is accepted for a circuit, out of memory
 //!   aside. Then no run of the circuit that keeps the constraints sets the bad literal at any time or,
 //!   for a justice property, holds more rounds of it than the circuit has states. A refusal has the
 //!   first cause.

@@ -11,7 +11,7 @@ use thiserror::Error;
 /// Why neither yes nor no is answered.
 #[derive(Clone, Copy, Debug, PartialEq, Eq, Error)]
 pub enum RunError {
-    /// want of memory
+    /// out of memory
     #[error("out of memory")]
     OutOfMemory,
     /// a source or the sink failed

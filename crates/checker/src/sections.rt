@@ -50,7 +50,7 @@ fn refute(
     Ok(())
 }
 
-/// The refusal of a section; want of memory has no section.
+/// The refusal of a section; out of memory has no section.
 fn section_error(error: StepError, section: usize) -> CheckError
     ensures { IsSectionError error section result }
 {

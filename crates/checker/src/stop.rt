@@ -24,11 +24,11 @@ pub enum Stop {
     Device,
 }
 
-/// The number of want of memory.
+/// The number of out of memory.
 const OUT_OF_MEMORY: u8 = 20;
 
 impl Stop {
-    /// Where the refusal with this number stops: want of memory has its own, and all others are a no.
+    /// Where the refusal with this number stops: out of memory has its own, and all others are a no.
     fn of_refusal(number: u8) -> Stop
         ensures { result ≡ stop_of number }
     {

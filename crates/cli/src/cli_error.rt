@@ -34,7 +34,7 @@ pub enum CliError {
     /// the circuit is not in the numbering of the binary layout
     #[error("the circuit is not ordered")]
     Unordered,
-    /// want of memory
+    /// out of memory
     #[error("out of memory")]
     OutOfMemory,
     /// a device failed

@@ -12,7 +12,7 @@ pub enum CnfError {
     /// more steps than an unrolling may have
     #[error("more than 255 steps")]
     Limit,
-    /// want of memory
+    /// out of memory
     #[error("out of memory")]
     OutOfMemory,
 }

@@ -13,7 +13,7 @@ pub enum EngineError {
     /// its solver has used up its ids
     #[error("over a limit")]
     Limit,
-    /// want of memory
+    /// out of memory
     #[error("out of memory")]
     OutOfMemory,
 }

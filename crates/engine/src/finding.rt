@@ -5,7 +5,7 @@ use graph::{Lit, Seq};
 /// Why nothing is known.
 #[derive(Clone, Copy, Debug, PartialEq, Eq)]
 pub enum Reason {
-    /// The budget has nothing left.
+    /// The budget is exhausted.
     Budget,
     /// No run of at most one time more than this that keeps the constraints sets the bad literal.
     Depth(u32),

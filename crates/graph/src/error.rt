@@ -90,7 +90,7 @@ impl ReadError {
         }
     }
 
-    /// The refusal's place: 67108864 for a text that is too long, and 0 for want of memory.
+    /// The refusal's place: 67108864 for a text that is too long, and 0 for out of memory.
     pub fn place(&self) -> u64
         ensures { result ≡ place_of self.now }
     {

@@ -68,7 +68,7 @@ IsAtBad m entries k after (Set t) = (w : Valuation) × IsAt m w t × (value_of w
 IsAtBad m entries k after Excluded = Excludes m (bad_literal m 0) entries k
 IsAtBad m entries k after OutOfBudget = after.left ≡ 0
 
--- a run, an invariant, or that the budget has nothing left
+-- a run, an invariant, or that the budget is exhausted
 abbrev pub IsDecided : Finding → Type 0
 IsDecided (Run initial inputs) = Unit {0}
 IsDecided (Invariant inv) = Unit {0}

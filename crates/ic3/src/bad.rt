@@ -21,7 +21,7 @@ pub(crate) enum AtBad {
     Set(Time),
     /// It is false at every time that keeps the constraints.
     Excluded,
-    /// The budget has nothing left.
+    /// The budget is exhausted.
     OutOfBudget,
 }
 

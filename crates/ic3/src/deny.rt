@@ -24,7 +24,7 @@ pub(crate) enum Denial {
     Initial,
     /// This time leads to one of them.
     Led(Time),
-    /// The budget has nothing left.
+    /// The budget is exhausted.
     Spent,
 }
 

@@ -30,7 +30,7 @@ impl<S: Sat> Engine for Ic3<S> {
     ghost honest = { λ _. Unit {0} };
 
     /// Looks for an invariant that excludes the bad literal, or for a run that sets it. It knows
-    /// nothing only where the budget has nothing left. Each frame that is opened, each time that is
+    /// nothing only where the budget is exhausted. Each frame that is opened, each time that is
     /// denied, each clause that is looked at and each question takes from the budget, besides what
     /// the solver spends.
     fn find(

@@ -80,7 +80,7 @@ read_stuck text rest lines others h lt e s =
     let r = each_rest SpellsLine line_reads line_takes h.front rest lines others h.spelled (subst (λ (w : List ℕ). SpellsProof w others) h.whole s) in
     stuck rest r.0 lt e r.2
 
--- only for want of memory
+-- only when out of memory
 pub read_fails : (text rest : List ℕ) (lines others : List Line) (e : Fault Refusal) → HasRead text rest lines → 0 < length rest → Fails e (line_at rest) → SpellsProof text others → e ≡ Memory
 read_fails text rest lines others Memory h lt f s = refl
 read_fails text rest lines others (Text kind left) h lt f s = absurd (read_stuck text rest lines others h lt f s)

@@ -46,7 +46,7 @@ pub record StaysOpen (n : ℕ) (s : Stage) (ls : List Line) (k : ℕ) : Type 0 w
   pub open_end : reached.closed ≡ false
   pub place : k ≡ length ls
 
--- want of memory, the first line that is refused, or the want of the empty clause
+-- out of memory, the first line that is refused, or the want of the empty clause
 abbrev pub IsRefusedProof : Formula → List Line → StepError → Type 0
 IsRefusedProof f ls e =
     (e ≡ record { fault = OutOfMemory; line = 0 })

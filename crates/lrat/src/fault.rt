@@ -10,7 +10,7 @@ use thiserror::Error;
 /// Why a line of a proof, or a whole proof, is refused.
 #[derive(Clone, Copy, Debug, PartialEq, Eq, Error)]
 pub enum Fault {
-    /// want of memory
+    /// out of memory
     #[error("out of memory")]
     OutOfMemory,
     /// a hint or a deletion names no clause that is present

@@ -19,7 +19,7 @@ pub enum LratError {
     /// the text ends too early
     #[error("byte {place}: the text ends too early")]
     Truncated { place: u64 },
-    /// want of memory
+    /// out of memory
     #[error("out of memory")]
     OutOfMemory,
 }
@@ -53,7 +53,7 @@ impl LratError {
         }
     }
 
-    /// The refusal's place, 0 for want of memory.
+    /// The refusal's place, 0 for out of memory.
     pub fn place(self) -> u64
         ensures { result ≡ lrat_place_of self }
     {

@@ -43,7 +43,7 @@ impl Proof {
     }
 
     /// Adds a line at the end. It is refused exactly where a number of it is 0 or over its limit,
-    /// or for want of memory, and then the proof stays.
+    /// or when out of memory, and then the proof stays.
     pub fn push(&mut self, line: Line) -> Result<(), LratError>
         ensures ok { OnOk result (IsLine line × (self.new ≡ self.old ++ line ∷ [])) }
         ensures err { OnErr result (self.new ≡ self.old) }

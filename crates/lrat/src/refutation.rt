@@ -13,7 +13,7 @@ use crate::step_error::StepError;
 use std::alloc::Global;
 
 /// Checks a proof that nothing satisfies the formula (LRAT 2017, without RAT steps). It answers
-/// Ok exactly where the proof is accepted, want of memory aside, and a refusal has the first
+/// Ok exactly where the proof is accepted, out of memory aside, and a refusal has the first
 /// cause and its line. It costs the literals of the formula, of the lines, and of the clauses
 /// that they hint, and the logarithm of the number of clauses for each id.
 pub fn refutes(alloc: Global, formula: &Formula, proof: &Proof) -> Result<(), StepError>

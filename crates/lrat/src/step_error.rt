@@ -8,7 +8,7 @@ use crate::fault::Fault;
 use thiserror::Error;
 
 /// A refusal with the line of the proof at which it came, from 0. The line is how many lines
-/// there are where none adds the empty clause, and 0 for want of memory.
+/// there are where none adds the empty clause, and 0 for out of memory.
 #[derive(Clone, Copy, Debug, PartialEq, Eq, Error)]
 #[error("line {line}: {fault}")]
 pub struct StepError {
@@ -17,7 +17,7 @@ pub struct StepError {
 }
 
 impl StepError {
-    /// The refusal of a line; want of memory has none.
+    /// The refusal of a line; out of memory has none.
     pub fn at(fault: Fault, line: u64) -> StepError
         ensures fault { result.fault ≡ fault }
         ensures line { fault ≢ OutOfMemory → result.line ≡ line }

@@ -1,7 +1,7 @@
 //! Random simulation of 256 runs at once.
 //!
 //! - `Random` is an engine. Each run that it finds was judged (`stimulus::judge`), and so shows the
-//!   bad literal; where it finds none, the budget has nothing left. It has no other answer.
+//!   bad literal; where it finds none, the budget is exhausted. It has no other answer.
 //! - `draw` gives a generator's next four words (PCG XSL RR 128/64, O'Neill 2014, as `rand_pcg` has
 //!   it), one bit for each run: that of run `r` is bit `r mod 64` of word `r / 64`.
 //!

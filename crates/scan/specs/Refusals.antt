@@ -7,13 +7,13 @@ use Rattle.scan.specs.Reading.{Read}
 use Rattle.scan.specs.Numbers.{begins_number, number_at}
 use Rattle.scan.specs.Bytes.{byte_at}
 
--- no want of memory, and a place from which at most so much is left
+-- no out of memory, and a place from which at most so much is left
 abbrev pub IsWithin : {K X : Type 0} → ℕ → Result X (Fault K) → Type 0
 IsWithin most (Ok x) = Unit {0}
 IsWithin most (Err Memory) = ⊥
 IsWithin most (Err (Text kind left)) = left ≤ most
 
--- no want of memory, and a place in the text
+-- no out of memory, and a place in the text
 abbrev pub IsPlaced : {K X : Type 0} → List ℕ → Result X (Fault K) → Type 0
 IsPlaced text result = IsWithin (length text) result
 

@@ -1,7 +1,7 @@
 //! The toolkit of the readers: what every reader of a text shares.
 //!
 //! A text is read from left to right. Each step takes the bytes that are left and answers a value
-//! and the bytes behind it, or a `Fault`: want of memory, or one of the reader's own refusals with
+//! and the bytes behind it, or a `Fault`: out of memory, or one of the reader's own refusals with
 //! the place where the text is refused. One pass, one byte at a time, and no memory beside the
 //! lists that are built; a list grows item by item, whatever count the text states.
 //!

@@ -9,7 +9,7 @@ use thiserror::Error;
 /// Why a circuit is not made smaller.
 #[derive(Clone, Copy, Debug, PartialEq, Eq, Error)]
 pub enum ShrinkError {
-    /// want of memory
+    /// out of memory
     #[error("out of memory")]
     OutOfMemory,
 }

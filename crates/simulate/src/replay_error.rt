@@ -38,7 +38,7 @@ impl ReplayError {
         }
     }
 
-    /// The refusal's place: the latch, and 0 for want of memory.
+    /// The refusal's place: the latch, and 0 for out of memory.
     pub fn place(&self) -> u64
         ensures { result ≡ place_of self.now }
     {

@@ -8,6 +8,6 @@ pub enum Answer {
     Model(Vec<bool>),
     /// Part of the assumptions. Nothing satisfies it together with the clauses.
     Core(Vec<i32>),
-    /// The budget has nothing left.
+    /// The budget is exhausted.
     Spent,
 }

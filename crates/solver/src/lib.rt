@@ -2,8 +2,8 @@
 //!
 //! - `Sat` is what every solver keeps to: a model satisfies the clauses that were added since the
 //!   last `reset` and the assumptions; a core is part of the assumptions, and nothing satisfies
-//!   it together with the clauses; `Spent` is answered only where the budget has nothing left.
-//!   A refusal, for want of memory or of ids, leaves the clauses as they were.
+//!   it together with the clauses; `Spent` is answered only where the budget is exhausted.
+//!   A refusal, for lack of memory or of ids, leaves the clauses as they were.
 //! - `Plain` is a solver by backtracking, short rather than fast.
 //!
 //! Literals are integers: `n` is the variable `n`, and `-n` says that it is false. What is said

@@ -14,7 +14,7 @@ pub enum Seen {
     Open,
     /// a clause or an assumption is false, whatever the other variables are
     Closed,
-    /// the budget has nothing left
+    /// the budget is exhausted
     Spent,
 }
 

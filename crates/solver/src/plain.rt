@@ -82,7 +82,7 @@ impl Sat for Plain {
         Ok(())
     }
 
-    /// Finds a model or a core. The only refusal is want of memory.
+    /// Finds a model or a core. The only refusal is out of memory.
     fn solve(
         &mut self,
         alloc: Global,

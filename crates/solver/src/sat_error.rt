@@ -12,7 +12,7 @@ pub enum SatError {
     /// the id of a clause would pass 4,294,967,295
     #[error("more than 4294967295 clauses")]
     Limit,
-    /// want of memory
+    /// out of memory
     #[error("out of memory")]
     OutOfMemory,
 }

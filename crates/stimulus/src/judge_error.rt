@@ -35,7 +35,7 @@ pub enum JudgeError {
     /// no time has the state after the last line and then each wanted literal
     #[error("there is no lasso")]
     NoLasso,
-    /// want of memory
+    /// out of memory
     #[error("out of memory")]
     OutOfMemory,
 }

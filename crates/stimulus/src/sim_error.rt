@@ -26,7 +26,7 @@ pub enum SimError {
     /// the sink failed
     #[error("the device failed")]
     Device,
-    /// want of memory
+    /// out of memory
     #[error("out of memory")]
     OutOfMemory,
 }

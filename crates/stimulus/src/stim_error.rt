@@ -23,7 +23,7 @@ pub enum StimError {
     /// more bytes follow the last line
     #[error("byte {place}: bytes behind the last line")]
     AfterEnd { place: u64 },
-    /// want of memory
+    /// out of memory
     #[error("out of memory")]
     OutOfMemory,
 }
@@ -43,7 +43,7 @@ impl StimError {
         }
     }
 
-    /// The refusal's place, 0 for want of memory.
+    /// The refusal's place, 0 for out of memory.
     pub fn place(self) -> u64
         ensures { result ≡ stim_place_of self }
     {

@@ -13,7 +13,7 @@ use Rattle.transition.specs.declared.step.Consecution.TheVariants.{Held, Broken,
 use Rattle.transition.specs.States.{Guarded, HoldsGuarded, Holds, Denies, IsPartOf, IsTime, IsAt}
 
 -- what is known of the steps from times in whose state the clauses of these guards hold: a part of the clause holds after
--- each, the clause doesn't hold after one, or the budget has nothing left
+-- each, the clause doesn't hold after one, or the budget is exhausted
 abbrev pub IsConsecution : Parts → List Guarded → List ℕ → List StateLit → Steps → Consecution → Type 0
 IsConsecution m gs guards c after (Held part) =
     IsPartOf part c × ((w : Valuation) → IsTime m w → HoldsGuarded gs guards (state_of m w) → Holds (next_state m w) part)

@@ -10,6 +10,6 @@ pub enum Reply {
     Found(Time),
     /// There is none at which these of the literals are true.
     Core(Seq<Lit>),
-    /// The budget has nothing left.
+    /// The budget is exhausted.
     Spent,
 }

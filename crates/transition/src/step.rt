@@ -23,7 +23,7 @@ pub enum Consecution {
     Held(Seq<StateLit>),
     /// The clause does not hold after the step from a time with this state and these inputs.
     Broken(Time),
-    /// The budget has nothing left.
+    /// The budget is exhausted.
     GaveUp,
 }
 

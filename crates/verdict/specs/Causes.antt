@@ -18,7 +18,7 @@ HasCause m p (NoProperty n) = (n ≡ position_of p) × (HasProperty m p → ⊥)
 HasCause m p Limit = HasProperty m p
 HasCause m p OutOfMemory = HasProperty m p
 
--- what comes of clauses of which no certificate is made: a limit and want of memory end the asking, and clauses with a
+-- what comes of clauses of which no certificate is made: a limit and out of memory end the asking, and clauses with a
 -- fault are no evidence
 abbrev pub of_certify : CertifyError → Result Verdict DecideError
 of_certify certify.Limit = Err Limit

@@ -3,7 +3,7 @@ use Rattle.std.specs.Prelude.{max}
 use Rattle.engine.specs.declared.finding.Reason.{Reason}
 use Rattle.engine.specs.declared.finding.Reason.TheVariants.{Budget, Depth, NoEvidence}
 
--- that the budget has nothing left, or else the greater depth, or else that there was no evidence
+-- that the budget is exhausted, or else the greater depth, or else that there was no evidence
 abbrev pub weightier_of : Reason → Reason → Reason
 weightier_of Budget found = Budget
 weightier_of (Depth steps) Budget = Budget

@@ -33,7 +33,7 @@ abbrev pub IsFreeOf : Parts → Property → ℕ → Type 0
 IsFreeOf m (Bad n) steps = IsClear m n steps
 IsFreeOf m (Justice n) steps = HasNoLasso m n steps
 
--- why nothing is known of a property: the budget has nothing left, or nothing violates it so far; that there was no
+-- why nothing is known of a property: the budget is exhausted, or nothing violates it so far; that there was no
 -- evidence is no reason
 abbrev pub IsWhy : Parts → Property → Steps → Reason → Type 0
 IsWhy m p after Budget = after.left ≡ 0

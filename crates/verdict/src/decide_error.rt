@@ -15,7 +15,7 @@ pub enum DecideError {
     /// an engine is over a limit
     #[error("over a limit")]
     Limit,
-    /// want of memory
+    /// out of memory
     #[error("out of memory")]
     OutOfMemory,
 }

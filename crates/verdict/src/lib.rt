@@ -3,7 +3,7 @@
 //! - `decide` asks each engine once, in order. Whoever wrote the engines, a violation is answered only
 //!   where its replay shows it, and that a property holds only with a certificate that is accepted
 //!   (`IsBacked`). If all of them are honest, what is not known means what
-//!   it says (`IsMeant`): that the budget has nothing left, or how far no run sets the bad literal.
+//!   it says (`IsMeant`): that the budget is exhausted, or how far no run sets the bad literal.
 //! - `show` puts a verdict as the text of a stimulus, and answers its status: 0, 1 or 2.
 #![tactic(auto)]
 

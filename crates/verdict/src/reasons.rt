@@ -5,7 +5,7 @@ ghost use Rattle.verdict.specs.Reasons.{weightier_of};
 
 use engine::Reason;
 
-/// The reason that is told where there are two: that the budget has nothing left, or else the
+/// The reason that is told where there are two: that the budget is exhausted, or else the
 /// greater depth, or else that there was no evidence.
 pub fn weightier(told: Reason, found: Reason) -> Reason
     ensures { result ≡ weightier_of told found }
