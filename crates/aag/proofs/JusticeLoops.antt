@@ -24,7 +24,7 @@ sizes_more front room count i bytes size after total lt h so_far =
 pub sizes_fail : {K : Type 0} (e : Fault K) (front : List ℕ) (room count i : ℕ) (bytes : List ℕ) (total : Read (List ℕ)) → i < count → Fails e (field_at room any 10 bytes)
     → with_front front (sizes_at room (count - i) bytes) ≡ total → Fails e total
 unfolding sizes_at
-sizes_fail Memory front room count i bytes total lt h so_far = tt
+sizes_fail (Memory refused) front room count i bytes total lt h so_far = tt
 sizes_fail (Text kind left) front room count i bytes total lt h so_far =
     let k : count - i ≡ suc (count - (i + 1)) = omega arith in
     let step : with_front front (sizes_at room (count - i) bytes) ≡ None = rw (k, h) refl in
@@ -52,7 +52,7 @@ pub properties_fail : {K : Type 0} (e : Fault K) (front : List (List Lit)) (max 
     → Fails e (many_at (literal_at max any 10) (get_or sizes i 0) bytes)
     → with_front front (properties_at max (drop i sizes) bytes) ≡ total → Fails e total
 unfolding properties_at
-properties_fail Memory front max sizes i bytes total lt h so_far = tt
+properties_fail (Memory refused) front max sizes i bytes total lt h so_far = tt
 properties_fail (Text kind left) front max sizes i bytes total lt h so_far =
     let step : with_front front (properties_at max (drop i sizes) bytes) ≡ None = rw (drop_more sizes i 0 lt, h) refl in
     sym so_far ∙ step

@@ -1,4 +1,5 @@
 -- What reading a whole text answers.
+use Rattle.base.specs.Witness.{witness}
 use Rattle.std.proofs.Common.{◌≡◌, ◌≢◌, ℕ, ◌-◌, ◌≤◌, List, length, Option, Some, refl, sym, ap, ◌∙◌, arith}
 use Rattle.std.specs.Prelude.{Contains}
 use Rattle.std.proofs.lemmas.Option.{same_Some}
@@ -36,8 +37,8 @@ is_only text f g m parts xs o whole same read spells =
 -- ---- a fault of the text
 
 pub only_memory : {L : Type 0} → (own : L → ℕ → ReadError) (length : ℕ) (text : List ℕ) (fault : Fault (Refusal L)) → Refuses (λ f. AreSymbols (symbol_counts f.model) f.symbols) fault (text_at text)
-    → (f : File) → SpellsAscii text f → error_of own length fault ≡ OutOfMemory
-only_memory own length text Memory refuses f spells = refl
+    → (f : File) → SpellsAscii text f → error_of own length fault ≡ OutOfMemory witness
+only_memory own length text (Memory refused) refuses f spells = refl
 only_memory own length text (Text kind left) refuses f spells = absurd (refuses f (text_again text f spells) spells.are_symbols)
 
 byte_number : (kind : Refusal NotDefining) (p : ℕ) → Contains refusal_numbers (number_of (at_byte (λ _ place. Defining place) kind p))
@@ -53,7 +54,7 @@ byte_number refusal.Symbol p = (12, omega arith, refl)
 byte_number (refusal.Layout own) p = (7, omega arith, refl)
 
 pub fault_number : (length : ℕ) (fault : Fault (Refusal NotDefining)) → Contains refusal_numbers (number_of (error_of (λ _ place. Defining place) length fault))
-fault_number length Memory = (14, omega arith, refl)
+fault_number length (Memory refused) = (14, omega arith, refl)
 fault_number length (Text kind left) = byte_number kind (length - left)
 
 -- ---- a fault of the circuit
@@ -66,7 +67,7 @@ cause_number m (DefinedTwice v) cause = (8, omega arith, refl)
 cause_number m (Undefined v) cause = (9, omega arith, refl)
 cause_number m (Cyclic v) cause = (10, omega arith, refl)
 cause_number m (Reset k) cause = (11, omega arith, refl)
-cause_number m OutOfMemory cause = (14, omega arith, refl)
+cause_number m (OutOfMemory refused) cause = (14, omega arith, refl)
 cause_number m TooLong cause = absurd cause
 cause_number m (Header p) cause = absurd cause
 cause_number m (Number p) cause = absurd cause
@@ -78,8 +79,8 @@ cause_number m (Counts p) cause = absurd cause
 cause_number m (NoProperty n) cause = absurd cause
 
 -- a circuit that is well formed is refused only when out of memory
-pub memory_or_cause : (m : Parts) (e : ReadError) → HasCause m e → (e ≢ OutOfMemory → ⊥) → e ≡ OutOfMemory
-memory_or_cause m OutOfMemory cause h = refl
+pub memory_or_cause : (m : Parts) (e : ReadError) → HasCause m e → (e ≢ OutOfMemory witness → ⊥) → e ≡ OutOfMemory witness
+memory_or_cause m (OutOfMemory refused) cause h = refl
 memory_or_cause m (Limit k) cause h = absurd (h (λ q. absurd cc))
 memory_or_cause m (LiteralRange k) cause h = absurd (h (λ q. absurd cc))
 memory_or_cause m (Defining k) cause h = absurd (h (λ q. absurd cc))
@@ -97,8 +98,8 @@ memory_or_cause m (SymbolFault p) cause h = absurd cause
 memory_or_cause m (Counts p) cause h = absurd cause
 memory_or_cause m (NoProperty n) cause h = absurd cause
 
-pub refused_circuit : (text : List ℕ) (parts : Parts) (xs : List Symbol) (o : Option (List ℕ)) (e : ReadError) → text_at text ≡ Some (file_of parts xs o) → HasCause parts e → (e ≢ OutOfMemory → IsWellFormed parts → ⊥)
-    → (f : File) → SpellsAscii text f → e ≡ OutOfMemory
+pub refused_circuit : (text : List ℕ) (parts : Parts) (xs : List Symbol) (o : Option (List ℕ)) (e : ReadError) → text_at text ≡ Some (file_of parts xs o) → HasCause parts e → (e ≢ OutOfMemory witness → IsWellFormed parts → ⊥)
+    → (f : File) → SpellsAscii text f → e ≡ OutOfMemory witness
 refused_circuit text parts xs o e read cause exact f spells =
     let same : f ≡ file_of parts xs o = same_Some f (file_of parts xs o) (sym (text_again text f spells) ∙ read) in
     let well_formed : IsWellFormed parts = rw (ap (λ (g : File). g.model) same) at spells.well_formed in

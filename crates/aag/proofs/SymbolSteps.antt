@@ -46,21 +46,21 @@ no_value y e = absurd cc
 
 -- where nothing is read, anything is refused
 pub refuses_none : {K Y : Type 0} (P : Y → Type 0) (e : Fault K) (read : Option Y) → Fails e read → Refuses P e read
-refuses_none P Memory read fails = tt
+refuses_none P (Memory refused) read fails = tt
 refuses_none {K} {Y} P (Text kind left) read fails = λ y is keeps. no_value y (sym fails ∙ is)
 
 pub fails_kind : {K : Type 0} (e : Fault K) (t : List ℕ) → Fails e (kind_at t) → Fails e (symbol_at t)
 unfolding symbol_at
-fails_kind Memory t fails = tt
+fails_kind (Memory refused) t fails = tt
 fails_kind (Text kind left) t fails = rw fails refl
 
 pub fails_number : {K : Type 0} (e : Fault K) (t a : List ℕ) (kind : SymbolKind) → kind_at t ≡ Some (kind, a) → Fails e (number_at (2 ^ 32 - 1) a) → Fails e (symbol_at t)
 unfolding symbol_at field_at
-fails_number Memory t a kind letter fails = tt
+fails_number (Memory refused) t a kind letter fails = tt
 fails_number (Text k left) t a kind letter fails = rw (letter, fails) refl
 
 pub fails_label : {K : Type 0} (e : Fault K) (t a b : List ℕ) (kind : SymbolKind) (n : ℕ) → kind_at t ≡ Some (kind, a) → number_at (2 ^ 32 - 1) a ≡ Some (n, b) → Fails e (label_at b) → Fails e (symbol_at t)
-fails_label Memory t a b kind n letter number fails = tt
+fails_label (Memory refused) t a b kind n letter number fails = tt
 fails_label (Text k left) t a b kind n letter number fails = symbol_parts t a b kind n letter number ∙ ap (λ o. o >>= λ name. Some (named kind n name)) fails
 
 pub symbol_made : (t a b name rest : List ℕ) (kind : SymbolKind) (n : ℕ) → kind_at t ≡ Some (kind, a) → number_at (2 ^ 32 - 1) a ≡ Some (n, b) → label_at b ≡ Some (name, rest) → symbol_at t ≡ Some (record { kind = kind; position = n; name = name }, rest)
@@ -161,7 +161,7 @@ refuses_front counts front n rest more refuses y is are =
 
 pub refuses : {K : Type 0} (m : Parts) (text : List ℕ) (labels : Labels) (counter : ℕ) (rest : List ℕ) (e : Fault K) → counter < suc (length text) → ends_symbols rest ≡ false
     → Refuses (λ s. IsFree labels.counts labels.symbols s.0) e (symbol_at rest) → SoFar m text labels counter rest → Refuses (λ x. AreSymbols (symbol_counts m) x.0) e (symbols_at text)
-refuses m text labels counter rest Memory lt more one so_far = tt
+refuses m text labels counter rest (Memory refused) lt more one so_far = tt
 refuses m text labels counter rest (Text kind left) lt more one so_far =
     let k : suc (length text) - counter ≡ suc (suc (length text) - (counter + 1)) = omega arith in
     λ y is are. refuses_front (symbol_counts m) labels.symbols (suc (length text) - (counter + 1)) rest more (rw so_far.counts at one) y (rw (← k) (so_far.reading ∙ is)) are

@@ -1,5 +1,6 @@
 -- Which texts spell a file (AIGER 1.9).
 use Rattle.std.specs.Prelude.{◌≡◌, ℕ, ◌≤◌, List, ◌++◌, length, Option, Result, Ok, Err}
+use Rattle.base.specs.Witness.{witness}
 use Rattle.scan.specs.Lists.{Each}
 use Rattle.graph.specs.declared.error.ReadError.{ReadError}
 use Rattle.graph.specs.declared.error.ReadError.TheVariants.{OutOfMemory}
@@ -32,4 +33,4 @@ pub record SpellsAscii (text : List ℕ) (f : File) : Type 0 where
 -- this file, unless memory ran out
 abbrev pub IsRead : Result File ReadError → File → Type 0
 IsRead (Ok g) f = g ≡ f
-IsRead (Err e) f = e ≡ OutOfMemory
+IsRead (Err e) f = e ≡ OutOfMemory witness

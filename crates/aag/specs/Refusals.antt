@@ -1,5 +1,6 @@
 -- What is told of a text that is refused.
 use Rattle.std.specs.Prelude.{ℕ, ◌-◌, List, [], ◌∷◌}
+use Rattle.base.specs.Witness.{witness}
 use Rattle.scan.specs.declared.fault.Fault.{Fault}
 use Rattle.scan.specs.declared.fault.Fault.TheVariants.{Memory, Text}
 use Rattle.graph.specs.declared.error.ReadError.{ReadError}
@@ -22,7 +23,7 @@ at_byte own (Layout refusal) p = own refusal p
 
 -- the error that a fault is in a text of this length
 abbrev pub error_of : {L : Type 0} → (L → ℕ → ReadError) → ℕ → Fault (Refusal L) → ReadError
-error_of own length Memory = error.OutOfMemory
+error_of own length (Memory refused) = error.OutOfMemory witness
 error_of own length (Text kind left) = at_byte own kind (length - left)
 
 -- the numbers of the refusals of a text

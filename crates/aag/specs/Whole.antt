@@ -11,7 +11,7 @@ use Rattle.aag.specs.Symbols.{symbols_at, comment_of}
 
 -- where a fault is told, nothing is read that keeps P
 abbrev pub Refuses : {K Y : Type 0} → (Y → Type 0) → Fault K → Option Y → Type 0
-Refuses P Memory read = Unit {0}
+Refuses P (Memory refused) read = Unit {0}
 Refuses {K} {Y} P (Text kind left) read = (y : Y) → read ≡ Some y → P y → ⊥
 
 -- what a function returned, seen by view, is what reading gives, and keeps P; where a fault is told, nothing is read that keeps P

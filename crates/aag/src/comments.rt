@@ -4,8 +4,9 @@ ghost use Rattle.std.specs.Prelude.{◌≡◌, IfOk};
 ghost use Rattle.scan.specs.Reading.{Gives};
 ghost use Rattle.aag.specs.Symbols.{ends_symbols, comment_of};
 
+use base::Refused;
 use graph::Seq;
-use std::alloc::{AllocError, Global};
+use std::alloc::Global;
 
 /// Whether no symbol follows: the text ends here, or a `c` that no digit follows begins the comment.
 pub fn ends_symbols(text: &[u8]) -> bool
@@ -20,7 +21,7 @@ pub fn ends_symbols(text: &[u8]) -> bool
 
 /// The comment, where the symbols end: all bytes behind the `c`, without a line end that follows it
 /// at once.
-pub fn comment(alloc: Global, text: &[u8]) -> Result<Option<Seq<u8>>, AllocError>
+pub fn comment(alloc: Global, text: &[u8]) -> Result<Option<Seq<u8>>, Refused>
     ensures { IfOk result (λ c. c ≡ comment_of text.now) }
 {
     match text {

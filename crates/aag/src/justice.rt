@@ -6,6 +6,7 @@ ghost use Rattle.aag.specs.Justice.{sizes_at, properties_at, justice_at};
 
 use crate::lines::{GREATEST, UseLine};
 use crate::refusal::Refusal;
+use base::push;
 use graph::{Lit, Seq};
 use scan::{Fault, field, lines};
 use std::alloc::Global;
@@ -24,7 +25,7 @@ fn sizes<L: Copy>(
     let mut rest = text;
     for _ in 0..count {
         let (size, after) = field(rest, room, b'\n', Refusal::<L>::IN_SIZE)?;
-        sizes.push(size)?;
+        push(&mut sizes, size)?;
         room -= size;
         rest = after;
     }
@@ -45,7 +46,7 @@ fn properties<'a, K: Copy>(
     let mut rest = text;
     for size in sizes {
         let (literals, after) = lines::<UseLine<K>>(alloc, *size, rest, line)?;
-        properties.push(Seq::from_vec(literals))?;
+        push(&mut properties, Seq::from_vec(literals))?;
         rest = after;
     }
     Ok((properties, rest))

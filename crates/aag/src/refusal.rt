@@ -92,7 +92,7 @@ pub fn told<L: LayoutRefusal>(fault: Fault<Refusal<L>>, length: usize) -> ReadEr
     ensures { result ≡ error_of L.at_byte length fault }
 {
     let (kind, place) = match fault {
-        Fault::Memory => return ReadError::OutOfMemory,
+        Fault::Memory(refused) => return ReadError::OutOfMemory(refused),
         Fault::Text { kind, left } => (kind, place(length, left)),
     };
     match kind {

@@ -22,7 +22,7 @@ numbered_more one front first count i bytes x after total lt h so_far =
 pub numbered_fails : {K A : Type 0} (one : Lit → List ℕ → Read A) (e : Fault K) (front : List A) (first count i : ℕ) (bytes : List ℕ) (total : Read (List A)) → i < count → Fails e (one (lit (2 * (first + i))) bytes)
     → with_front front (numbered_at one (first + i) (count - i) bytes) ≡ total → Fails e total
 unfolding numbered_at
-numbered_fails one Memory front first count i bytes total lt h so_far = tt
+numbered_fails one (Memory refused) front first count i bytes total lt h so_far = tt
 numbered_fails one (Text kind left) front first count i bytes total lt h so_far =
     let k : count - i ≡ suc (count - (i + 1)) = omega arith in
     let step : with_front front (numbered_at one (first + i) (count - i) bytes) ≡ None = rw (k, h) refl in

@@ -1,4 +1,5 @@
 -- What reading a whole text answers.
+use Rattle.base.specs.Witness.{witness}
 use Rattle.std.proofs.Common.{◌≡◌, ◌≢◌, ℕ, ◌-◌, ◌≤◌, List, length, Option, Some, refl, sym, ap, ◌∙◌, arith}
 use Rattle.std.specs.Prelude.{Contains}
 use Rattle.std.proofs.lemmas.Option.{same_Some}
@@ -41,8 +42,8 @@ is_only text f g m parts xs o whole same read spells =
 -- ---- a fault of the text
 
 pub only_memory : {L : Type 0} → (own : L → ℕ → ReadError) (length : ℕ) (text : List ℕ) (fault : Fault (Refusal L)) → Refuses (λ f. AreSymbols (symbol_counts f.model) f.symbols) fault (text_at text)
-    → (f : File) → SpellsBinary text f → error_of own length fault ≡ OutOfMemory
-only_memory own length text Memory refuses f spells = refl
+    → (f : File) → SpellsBinary text f → error_of own length fault ≡ OutOfMemory witness
+only_memory own length text (Memory refused) refuses f spells = refl
 only_memory own length text (Text kind left) refuses f spells = absurd (refuses f (text_again text f spells) spells.are_symbols)
 
 byte_number : (kind : Refusal NoDelta) (p : ℕ) → Contains refusal_numbers (number_of (at_byte (λ _ place. Delta place) kind p))
@@ -58,17 +59,17 @@ byte_number SymbolFault p = (9, omega arith, refl)
 byte_number Counts p = (10, omega arith, refl)
 
 pub fault_number : (length : ℕ) (fault : Fault (Refusal NoDelta)) → Contains refusal_numbers (number_of (error_of (λ _ place. Delta place) length fault))
-fault_number length Memory = (11, omega arith, refl)
+fault_number length (Memory refused) = (11, omega arith, refl)
 fault_number length (Text kind left) = byte_number kind (length - left)
 
 -- ---- a fault of the circuit
 
 -- a circuit that was read is well formed, and so refused only when out of memory
 pub refused_memory : (text : List ℕ) (parts : Parts) (xs : List Symbol) (o : Option (List ℕ)) (e : ReadError) → text_at text ≡ Some (file_of parts xs o) → AreSymbols (symbol_counts parts) xs → length text ≤ 67108864
-    → HasCause parts e → (e ≢ OutOfMemory → IsWellFormed parts → ⊥) → e ≡ OutOfMemory
+    → HasCause parts e → (e ≢ OutOfMemory witness → IsWellFormed parts → ⊥) → e ≡ OutOfMemory witness
 refused_memory text parts xs o e read are short cause exact =
     let spells = text_takes text (file_of parts xs o) read short are in
     memory_or_cause parts e cause (λ other. exact other (well_formed_of spells.circuit parts spells.spells_circuit))
 
-pub memory_number : (e : ReadError) → e ≡ OutOfMemory → Contains refusal_numbers (number_of e)
+pub memory_number : (e : ReadError) → e ≡ OutOfMemory witness → Contains refusal_numbers (number_of e)
 memory_number e same = rw same (11, omega arith, refl)

@@ -1,11 +1,14 @@
 //! Lists of what defines variables in their order.
 
+ghost use Rattle.std.specs.Mem.{type_size};
 ghost use Rattle.std.specs.Prelude.{◌≡◌, ◌+◌, ◌≤◌};
+ghost use Rattle.base.specs.Sizes.{IsItemSize};
 ghost use Rattle.scan.specs.Reading.{Gives};
 ghost use Rattle.aig.specs.Lines.{numbered_at};
 
 use crate::delta::NoDelta;
 use aag::Refusal;
+use base::push;
 use graph::Lit;
 use scan::Fault;
 use std::alloc::Global;
@@ -40,6 +43,7 @@ pub fn numbered<D: DefinitionKind>(
     count: u32,
     text: &[u8],
 ) -> Result<(Vec<D::Item>, &[u8]), Fault<Refusal<NoDelta>>>
+    requires item { IsItemSize (type_size D.Item.row) }
     requires most { max_var ≤ 4194303 }
     requires room { first + count ≤ max_var + 1 }
     ensures { Gives (λ x. (x.0.items, x.1.now)) result (numbered_at (D.at max_var) first count text.now) }
@@ -48,7 +52,7 @@ pub fn numbered<D: DefinitionKind>(
     let mut rest = text;
     for i in 0..count {
         let (item, after) = D::item(rest, max_var, Lit(2 * (first + i)))?;
-        items.push(item)?;
+        push(&mut items, item)?;
         rest = after;
     }
     Ok((items, rest))

@@ -10,6 +10,7 @@
 //! whose contracts say what they mean. That the files hold what was read is the premise.
 #![tactic(auto)]
 
+use base::push;
 use checker::{RunError, run_safe, run_stimulus};
 use clap::error::ErrorKind;
 use clap::{Arg, ArgAction, ArgMatches, Command, Error};
@@ -51,47 +52,67 @@ fn command<'a>(alloc: Global) -> Result<Command<'a>, AllocError> {
         .subcommand(run)
 }
 
+/// Why there is no answer.
+#[derive(Clone, Copy, Debug)]
+enum NoAnswer {
+    /// There is no memory for the words, or for the system to open a file.
+    Memory,
+    /// The call that was asked gave none.
+    Call(RunError),
+}
+
+impl From<RunError> for NoAnswer {
+    fn from(e: RunError) -> NoAnswer {
+        NoAnswer::Call(e)
+    }
+}
+
 /// Tells a fault, and the status of one.
-fn fault(rt: &HostRuntime, error: RunError) -> ExitCode {
-    let _ = eprintln!(rt; "aigcheck: {error}");
+fn fault(rt: &HostRuntime, why: NoAnswer) -> ExitCode {
+    let _ = match why {
+        NoAnswer::Memory => eprintln!(rt; "aigcheck: out of memory"),
+        NoAnswer::Call(error) => eprintln!(rt; "aigcheck: {error}"),
+    };
     ExitCode::from(FAULT)
 }
 
 /// The fault of a file that is not opened.
-fn unopened(error: &io::Error) -> RunError {
+fn unopened(error: &io::Error) -> NoAnswer {
     match error.kind() {
-        io::ErrorKind::OutOfMemory => RunError::OutOfMemory,
-        _ => RunError::Device,
+        io::ErrorKind::OutOfMemory => NoAnswer::Memory,
+        _ => NoAnswer::Call(RunError::Device),
     }
 }
 
 /// Opens the file that a word names.
-fn open(rt: &HostRuntime, words: &ArgMatches<'_>, word: &str) -> Result<File, RunError> {
+fn open(rt: &HostRuntime, words: &ArgMatches<'_>, word: &str) -> Result<File, NoAnswer> {
     File::open(rt, words.get_str(word).unwrap_or("")).map_err(|e| unopened(&e))
 }
 
 /// Opens both files, and then says whether the second shows that the first is safe.
-fn safe(rt: &HostRuntime, words: &ArgMatches<'_>) -> Result<bool, RunError> {
+fn safe(rt: &HostRuntime, words: &ArgMatches<'_>) -> Result<bool, NoAnswer> {
     let circuit = open(rt, words, "FILE")?;
     let certificate = open(rt, words, "CERT")?;
-    run_safe(
+    let yes = run_safe(
         rt.alloc(),
         &mut FromRead::new(circuit),
         &mut FromRead::new(certificate),
         &mut ToWrite::new(io::writer(rt)),
-    )
+    )?;
+    Ok(yes)
 }
 
 /// Opens both files, and then says whether the second shows a violation in the first.
-fn run(rt: &HostRuntime, words: &ArgMatches<'_>) -> Result<bool, RunError> {
+fn run(rt: &HostRuntime, words: &ArgMatches<'_>) -> Result<bool, NoAnswer> {
     let circuit = open(rt, words, "FILE")?;
     let stimulus = open(rt, words, "STIM")?;
-    run_stimulus(
+    let yes = run_stimulus(
         rt.alloc(),
         &mut FromRead::new(circuit),
         &mut FromRead::new(stimulus),
         &mut ToWrite::new(io::writer(rt)),
-    )
+    )?;
+    Ok(yes)
 }
 
 /// What the words ask for.
@@ -104,14 +125,14 @@ fn answer(rt: &HostRuntime, matches: &ArgMatches<'_>) -> ExitCode {
     match answer {
         Ok(true) => ExitCode::from(YES),
         Ok(false) => ExitCode::from(NO),
-        Err(error) => fault(rt, error),
+        Err(why) => fault(rt, why),
     }
 }
 
 /// Tells what is wrong with the words, or the help that they ask for.
 fn wrong(rt: &HostRuntime, error: &Error) -> ExitCode {
     if error.kind() == ErrorKind::OutOfMemory {
-        return fault(rt, RunError::OutOfMemory);
+        return fault(rt, NoAnswer::Memory);
     }
     let _ = error.print(rt);
     ExitCode::from(if error.exit_code() == 0 { YES } else { FAULT })
@@ -128,12 +149,12 @@ fn main(rt: HostRuntime) -> ExitCode {
     };
     let mut words: Vec<String> = Vec::new(alloc);
     for word in args {
-        if words.push(word).is_err() {
-            return fault(&rt, RunError::OutOfMemory);
+        if push(&mut words, word).is_err() {
+            return fault(&rt, NoAnswer::Memory);
         }
     }
     let Ok(command) = command(alloc) else {
-        return fault(&rt, RunError::OutOfMemory);
+        return fault(&rt, NoAnswer::Memory);
     };
     match command.try_get_matches_from(words.as_slice()) {
         Ok(matches) => answer(&rt, &matches),

@@ -1,10 +1,11 @@
 -- Files in either layout.
-use Rattle.std.proofs.Common.{◌≡◌, ℕ, ◌⊎◌, ◌≤◌, List, ◌++◌, length, Option, Some, None, Result, Ok, Err, inl, inr, sym, ◌∙◌, ap, subst, append-nil}
+use Rattle.std.proofs.Common.{◌≡◌, ◌≢◌, ℕ, ◌≤◌, List, ◌++◌, length, Option, Some, None, Result, Ok, Err, inl, inr, refl, sym, ◌∙◌, ap, subst, append-nil, arith}
 use Rattle.std.specs.Prelude.{MatchResult, IsErrAnd}
 use Rattle.std.specs.Io.KnownBytes.{Consumes, IsAtEnd}
 use Rattle.std.proofs.lemmas.Option.{same_Some}
+use Rattle.base.specs.Witness.{witness}
 use Rattle.graph.specs.declared.error.ReadError.{ReadError}
-use Rattle.graph.specs.declared.error.ReadError.TheVariants.{OutOfMemory}
+use Rattle.graph.specs.declared.error.ReadError.TheVariants.{TooLong, Header, Number, Limit, Byte, Truncated, LiteralRange, Defining, DefinedTwice, Undefined, Cyclic, Reset, Delta, Symbol, Counts, NoProperty, OutOfMemory}
 use Rattle.graph.specs.File.{File}
 use Rattle.graph.specs.Refusals.{number_of}
 use Rattle.graph.specs.WellFormed.{IsWellFormed}
@@ -43,9 +44,34 @@ pub ascii_only : (xs : List ℕ) (f : File) (r : Result File ReadError) → (IsB
 ascii_only xs f r ascii reads (inl a) = absurd (ascii a.0)
 ascii_only xs f r ascii reads (inr a) = reads a.1
 
--- what keeps every file from being read is no file's
-pub refused : (xs : List ℕ) (e : ReadError) → ((f : File) → SpellsFile xs f → e ≡ OutOfMemory) → IsRefusalNumber xs (number_of e) → IsRefusal xs (Refused e)
-refused xs e only is other = record { none = λ f s. other (ap number_of (only f s)); number = is; other = other }
+-- no other refusal has the number of a text that is too long
+only_too_long : (e : ReadError) → number_of e ≡ 1 → e ≡ TooLong
+only_too_long TooLong n = refl
+only_too_long (Header p) n = absurd (omega (arith, n))
+only_too_long (Number p) n = absurd (omega (arith, n))
+only_too_long (Limit p) n = absurd (omega (arith, n))
+only_too_long (Byte p) n = absurd (omega (arith, n))
+only_too_long (Truncated p) n = absurd (omega (arith, n))
+only_too_long (LiteralRange p) n = absurd (omega (arith, n))
+only_too_long (Defining p) n = absurd (omega (arith, n))
+only_too_long (DefinedTwice v) n = absurd (omega (arith, n))
+only_too_long (Undefined v) n = absurd (omega (arith, n))
+only_too_long (Cyclic v) n = absurd (omega (arith, n))
+only_too_long (Reset p) n = absurd (omega (arith, n))
+only_too_long (Delta p) n = absurd (omega (arith, n))
+only_too_long (Symbol p) n = absurd (omega (arith, n))
+only_too_long (Counts p) n = absurd (omega (arith, n))
+only_too_long (NoProperty k) n = absurd (omega (arith, n))
+only_too_long (OutOfMemory r) n = absurd (omega (arith, n))
+
+-- what keeps every file from being read is no file's; a text that is within the limit is not told to be too long
+pub refused : (xs : List ℕ) (e : ReadError) → ((f : File) → SpellsFile xs f → e ≡ OutOfMemory witness) → IsRefusalNumber xs (number_of e) → length xs ≤ 67108864 → e ≢ TooLong → IsRefusal xs (Refused e)
+refused xs e only is short ne other = record {
+  none = λ f s. other (ap number_of (only f s));
+  number = is;
+  other = other;
+  too_long = (λ n. absurd (ne (only_too_long e n)), λ lt. absurd (omega (arith, lt, short)));
+}
 
 -- a source that is at its end gave all its bytes
 pub all_read : (a b : Option (List ℕ)) (v xs : List ℕ) → Consumes a b v → IsAtEnd b → a ≡ Some xs → v ≡ xs

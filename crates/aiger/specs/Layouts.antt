@@ -1,5 +1,5 @@
 -- Which texts spell a file in either layout (AIGER 1.9).
-use Rattle.std.specs.Prelude.{◌≡◌, ◌⊎◌, ◌<◌, ℕ, List, Contains, slice_index_or}
+use Rattle.std.specs.Prelude.{◌≡◌, ◌⊎◌, ℕ, List, Contains, slice_index_or}
 use Rattle.graph.specs.File.{File}
 use Rattle.aag.specs.Ascii.{SpellsAscii}
 use Rattle.aag.specs.Refusals.{refusal_numbers as ascii_numbers}

@@ -3,6 +3,7 @@
 use crate::files::{circuit, keep, print};
 use crate::stop::Stop;
 use arguments::{EngineKind, Search};
+use base::{boxed, push};
 use bmc::Bmc;
 use cdcl::Cdcl;
 use cli::{CliError, Verdict, decide, property_named};
@@ -11,11 +12,6 @@ use graph::{AigerFile, Budget, Property};
 use ic3::Ic3;
 use random::Random;
 use std::alloc::Global;
-
-/// What was got, or out of memory, which is the one thing that may have stood in the way.
-fn or_memory<T, E: Drop>(got: Result<T, E>) -> Result<T, CliError> {
-    got.map_err(|_| CliError::OutOfMemory)
-}
 
 /// Asks the engines for evidence about the property.
 fn ask(
@@ -28,18 +24,18 @@ fn ask(
     let mut engines: Vec<Box<dyn Engine>> = Vec::new(alloc);
     if search.engine.has_bounded() {
         let bounded = Bmc::new(Cdcl::new(alloc), depth);
-        let engine: Box<dyn Engine> = or_memory(Box::new(alloc, bounded))?;
-        or_memory(engines.push(engine))?;
+        let engine: Box<dyn Engine> = boxed(alloc, bounded)?;
+        push(&mut engines, engine)?;
     }
     if search.engine.has_inductive() {
         let inductive = Ic3::new(Cdcl::new(alloc));
-        let engine: Box<dyn Engine> = or_memory(Box::new(alloc, inductive))?;
-        or_memory(engines.push(engine))?;
+        let engine: Box<dyn Engine> = boxed(alloc, inductive)?;
+        push(&mut engines, engine)?;
     }
     if search.engine == EngineKind::Random {
         let random = Random::new(search.seed, depth);
-        let engine: Box<dyn Engine> = or_memory(Box::new(alloc, random))?;
-        or_memory(engines.push(engine))?;
+        let engine: Box<dyn Engine> = boxed(alloc, random)?;
+        push(&mut engines, engine)?;
     }
     let mut budget = Budget::new(search.budget);
     let engines = engines.as_mut_slice();

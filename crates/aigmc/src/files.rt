@@ -1,6 +1,7 @@
 //! The files that commands read and make.
 
 use crate::stop::{Stop, finished};
+use base::buffered;
 use certificate::Certificate;
 use cli::{
     CliError, Layout, Verdict, load, load_stimulus, put_certificate, put_file, put_table, show,
@@ -8,7 +9,7 @@ use cli::{
 use graph::{AigerFile, FromRead, Property, ToWrite};
 use std::fs::File;
 use std::io;
-use std::io::{BufWriter, Write};
+use std::io::Write;
 use stimulus::Stimulus;
 
 /// The circuit's file of this name.
@@ -28,7 +29,7 @@ pub fn stimulus_of(rt: &HostRuntime, name: &str) -> Result<Stimulus, Stop> {
 /// Makes the file of this name, and puts the circuit's text to it.
 pub fn make(rt: &HostRuntime, name: &str, file: &AigerFile, layout: Layout) -> Result<(), Stop> {
     let out = finished(File::create(rt, name))?;
-    let out = finished(BufWriter::new(rt.alloc(), out))?;
+    let out = buffered(rt.alloc(), out)?;
     let mut out = ToWrite::new(out);
     put_file(file, layout, &mut out)?;
     finished(out.into_inner().flush())
@@ -37,7 +38,7 @@ pub fn make(rt: &HostRuntime, name: &str, file: &AigerFile, layout: Layout) -> R
 /// Makes the file of this name, and puts the certificate's text to it.
 pub fn keep(rt: &HostRuntime, name: &str, certificate: &Certificate) -> Result<(), Stop> {
     let out = finished(File::create(rt, name))?;
-    let out = finished(BufWriter::new(rt.alloc(), out))?;
+    let out = buffered(rt.alloc(), out)?;
     let mut out = ToWrite::new(out);
     put_certificate(certificate, &mut out).map_err(CliError::from)?;
     finished(out.into_inner().flush())
@@ -45,7 +46,7 @@ pub fn keep(rt: &HostRuntime, name: &str, certificate: &Certificate) -> Result<(
 
 /// Prints the values in the replay of a stimulus.
 pub fn print_table(rt: &HostRuntime, file: &AigerFile, stimulus: &Stimulus) -> Result<(), Stop> {
-    let out = finished(BufWriter::new(rt.alloc(), io::writer(rt)))?;
+    let out = buffered(rt.alloc(), io::writer(rt))?;
     let mut out = ToWrite::new(out);
     put_table(rt.alloc(), file.model(), stimulus, &mut out).map_err(CliError::from)?;
     finished(out.into_inner().flush())
@@ -53,7 +54,7 @@ pub fn print_table(rt: &HostRuntime, file: &AigerFile, stimulus: &Stimulus) -> R
 
 /// Prints a verdict, and answers its status.
 pub fn print(rt: &HostRuntime, property: Property, verdict: &Verdict) -> Result<u8, Stop> {
-    let out = finished(BufWriter::new(rt.alloc(), io::writer(rt)))?;
+    let out = buffered(rt.alloc(), io::writer(rt))?;
     let mut out = ToWrite::new(out);
     let status = show(property, verdict, &mut out).map_err(CliError::from)?;
     finished(out.into_inner().flush())?;

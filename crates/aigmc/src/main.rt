@@ -26,6 +26,7 @@ mod files;
 mod stop;
 
 use arguments::{Request, Wrong, parse};
+use base::push;
 use checking::check;
 use cli::{CliError, Layout, ready};
 use files::{circuit, make, print_table, stimulus_of};
@@ -80,7 +81,7 @@ fn done(rt: &HostRuntime, request: &Request) -> Result<u8, Stop> {
 /// Tells what is wrong with the words, or the help that they ask for.
 fn refuse(rt: &HostRuntime, wrong: &Wrong) -> ExitCode {
     if wrong.is_out_of_memory() {
-        return tell(rt, Stop::Refused(CliError::OutOfMemory));
+        return tell(rt, Stop::Memory);
     }
     wrong.print(rt);
     ExitCode::from(if wrong.is_help() { DONE } else { FAULT })
@@ -109,8 +110,8 @@ fn main(rt: HostRuntime) -> ExitCode {
     };
     let mut words: Vec<String> = Vec::new(rt.alloc());
     for word in args {
-        if words.push(word).is_err() {
-            return tell(&rt, Stop::Refused(CliError::OutOfMemory));
+        if push(&mut words, word).is_err() {
+            return tell(&rt, Stop::Memory);
         }
     }
     answer(&rt, words.as_slice())

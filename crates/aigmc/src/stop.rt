@@ -1,5 +1,6 @@
 //! Why a command was not done.
 
+use base::Refused;
 use cli::CliError;
 use std::io;
 use std::process::ExitCode;
@@ -18,6 +19,8 @@ const DEVICE: u8 = 21;
 pub enum Stop {
     /// A word asks for nothing that there is.
     BadArgument,
+    /// There is no memory for the words, or for the system at a file.
+    Memory,
     /// A call refused.
     Refused(CliError),
 }
@@ -28,14 +31,20 @@ impl From<CliError> for Stop {
     }
 }
 
+impl From<Refused> for Stop {
+    fn from(refused: Refused) -> Stop {
+        Stop::Refused(CliError::from(refused))
+    }
+}
+
 /// What a file's call gave, or the fault of a file that was not opened, made or finished.
 pub fn finished<T>(given: io::Result<T>) -> Result<T, Stop> {
     match given {
         Ok(value) => Ok(value),
-        Err(error) => Err(Stop::Refused(match error.kind() {
-            io::ErrorKind::OutOfMemory => CliError::OutOfMemory,
-            _ => CliError::Device,
-        })),
+        Err(error) => Err(match error.kind() {
+            io::ErrorKind::OutOfMemory => Stop::Memory,
+            _ => Stop::Refused(CliError::Device),
+        }),
     }
 }
 
@@ -43,6 +52,7 @@ pub fn finished<T>(given: io::Result<T>) -> Result<T, Stop> {
 pub fn tell(rt: &HostRuntime, stop: Stop) -> ExitCode {
     let _ = match stop {
         Stop::BadArgument => eprintln!(rt; "aigmc: bad argument"),
+        Stop::Memory => eprintln!(rt; "aigmc: out of memory"),
         Stop::Refused(error) => match error.number() {
             OUT_OF_MEMORY => eprintln!(rt; "aigmc: out of memory"),
             DEVICE => eprintln!(rt; "aigmc: read or write failed"),

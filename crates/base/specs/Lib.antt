@@ -1,2 +1,4 @@
 pub mod Budget
 pub mod Devices
+pub mod Sizes
+pub mod Witness

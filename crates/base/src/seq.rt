@@ -1,12 +1,16 @@
 //! Lists of values.
 
+ghost use Rattle.std.specs.Mem.{type_size};
+ghost use Rattle.base.specs.Sizes.{IsItemSize};
 ghost use Rattle.std.specs.Prelude.{◌≡◌, ◌++◌, ◌∷◌, [], length, IfOk, IsTrue, ◌↔◌, OnErr, OnOk};
 
-use std::alloc::{AllocError, AllocFailed, Global};
+use crate::grow;
+use crate::refused::Refused;
+use std::alloc::Global;
 use std::marker::Model;
 
 /// A list, kept in a `Vec`. A contract sees the list alone, without the capacity.
-#[derive(Clone, Debug, Drop)]
+#[derive(Debug, Drop)]
 pub struct Seq<T> {
     items: Vec<T>,
 }
@@ -64,23 +68,35 @@ impl<T> Seq<T> {
     {
         self.items.is_empty()
     }
+}
 
-    /// Adds an item at the end. Without memory the list stays and the item is handed back.
-    pub fn push(&mut self, item: T) -> Result<(), AllocFailed<T>>
+impl<T: Drop> Seq<T> {
+    /// Adds an item at the end. Without memory the list stays.
+    pub fn push(&mut self, item: T) -> Result<(), Refused>
+        requires { IsItemSize (type_size T.row) }
         ensures ok { OnOk result (self.new ≡ self.old ++ item ∷ []) }
         ensures err { OnErr result (self.new ≡ self.old) }
     {
-        self.items.push(item)
+        grow::push(&mut self.items, item)
     }
 }
 
 impl<T: Copy> Seq<T> {
     /// The items of a slice, in memory of their own.
-    pub fn from_slice(alloc: Global, items: &[T]) -> Result<Seq<T>, AllocError>
+    pub fn from_slice(alloc: Global, items: &[T]) -> Result<Seq<T>, Refused>
+        requires { IsItemSize (type_size T.row) }
         ensures { IfOk result (λ s. s ≡ items.now) }
     {
-        let mut copy = Vec::new(alloc);
-        copy.extend_from_slice(items)?;
-        Ok(Seq { items: copy })
+        Ok(Seq {
+            items: grow::copied(alloc, items)?,
+        })
+    }
+
+    /// The same list, in memory of its own.
+    pub fn copy(&self, alloc: Global) -> Result<Seq<T>, Refused>
+        requires { IsItemSize (type_size T.row) }
+        ensures { IfOk result (λ s. s ≡ self.now) }
+    {
+        Seq::from_slice(alloc, self.items.as_slice())
     }
 }

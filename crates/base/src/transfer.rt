@@ -4,6 +4,8 @@ ghost use Rattle.std.specs.Prelude.{◌≡◌, ◌+◌, ◌-◌, ◌^◌, ◌<�
 ghost use Rattle.std.specs.Io.KnownBytes.{Consumes, IsAtEnd, Appends};
 ghost use Rattle.base.specs.Devices.{CountsFailure, PutsBeginning};
 
+use crate::grow;
+use crate::refused::Refused;
 use crate::sink::Sink;
 use crate::source::{Failed, Source};
 use std::alloc::Global;
@@ -12,7 +14,7 @@ use std::alloc::Global;
 #[derive(Clone, Copy, Debug, PartialEq, Eq)]
 pub enum ReadAllError {
     /// A growth was refused.
-    OutOfMemory,
+    OutOfMemory(Refused),
     /// The source failed.
     Device,
     /// The source has more bytes than the limit.
@@ -49,8 +51,40 @@ pub fn read_all<S: Source>(
         if n > limit - bytes.len() {
             return Err(ReadAllError::TooLong);
         }
-        if bytes.extend_from_slice(&chunk[..n]).is_err() {
-            return Err(ReadAllError::OutOfMemory);
+        if let Err(refused) = grow::extend(&mut bytes, &chunk[..n]) {
+            return Err(ReadAllError::OutOfMemory(refused));
+        }
+    }
+}
+
+/// Why a source was not read to its end, where there is no limit.
+#[derive(Clone, Copy, Debug, PartialEq, Eq)]
+pub enum ReadToEndError {
+    /// A growth was refused.
+    OutOfMemory(Refused),
+    /// The source failed.
+    Device,
+}
+
+/// All the bytes that a source still gives, however many there are.
+pub fn read_to_end<S: Source>(alloc: Global, source: &mut S) -> Result<Vec<u8>, ReadToEndError>
+    requires { S.failed source.old < 2 ^ 64 - 1 }
+    ensures bytes { IfOk result (λ v. Consumes (S.remaining source.old) (S.remaining source.new) v.items × IsAtEnd (S.remaining source.new)) }
+    ensures device { IsErrOf result ReadToEndError.Device ↔ (S.failed source.new ≡ S.failed source.old + 1) }
+    ensures others { (IsErrOf result ReadToEndError.Device → ⊥) → S.failed source.new ≡ S.failed source.old }
+{
+    let mut bytes = Vec::new(alloc);
+    let mut chunk = [0u8; CHUNK];
+    'reading: loop {
+        let n = match source.take(&mut chunk) {
+            Ok(n) => n,
+            Err(Failed) => return Err(ReadToEndError::Device),
+        };
+        if n == 0 {
+            return Ok(bytes);
+        }
+        if let Err(refused) = grow::extend(&mut bytes, &chunk[..n]) {
+            return Err(ReadToEndError::OutOfMemory(refused));
         }
     }
 }

@@ -9,9 +9,10 @@ ghost use Rattle.lrat.specs.Literals.{IsLiteral};
 ghost use Rattle.cnf.specs.Formulas.{IsInRange};
 ghost use Rattle.bmc.specs.Standing.{Stands, AreHeld};
 
+use base::{Refused, filled};
 use cnf::Time;
 use graph::{Lit, Model};
-use std::alloc::{AllocError, Global};
+use std::alloc::Global;
 
 /// The other literal of a variable.
 pub fn negated(literal: i32) -> i32
@@ -60,13 +61,13 @@ pub fn held_next(
     circuit: &Model,
     held: &[Option<i32>],
     steps: u32,
-) -> Result<Vec<Option<i32>>, AllocError>
+) -> Result<Vec<Option<i32>>, Refused>
     requires small { steps ≤ 255 }
     requires held { AreHeld circuit.now steps held.now }
     ensures { IfOk result (λ t. AreHeld circuit.now (steps + 1) t.items) }
 {
     circuit.parts();
-    let mut next = vec![in alloc; None; circuit.max_var() as usize + 1]?;
+    let mut next = filled(alloc, None, circuit.max_var() as usize + 1)?;
     for latch in circuit.latches() {
         next[latch.lit.variable() as usize] = Some(literal_after(circuit, held, steps, latch.next));
     }

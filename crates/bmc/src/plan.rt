@@ -9,8 +9,9 @@ ghost use Rattle.std.specs.Prelude.{All, Contains, IfOk, IfSome};
 ghost use Rattle.bmc.specs.Statements.{IsStatement};
 
 use crate::multiplexer::{Multiplexer, multiplexer_of};
+use base::{Refused, filled, push};
 use graph::{Gate, Latch, Lit, Model};
-use std::alloc::{AllocError, Global};
+use std::alloc::Global;
 
 /// What is said of a gate.
 #[derive(Clone, Copy, Debug, PartialEq, Eq)]
@@ -29,8 +30,9 @@ fn put(items: &mut [Option<u32>], index: u32, item: u32) {
 }
 
 /// The positions of the gates by the variables that they define.
-fn positions(alloc: Global, circuit: &Model) -> Result<Vec<Option<u32>>, AllocError> {
-    let mut positions = vec![in alloc; None; circuit.max_var() as usize + 1]?;
+fn positions(alloc: Global, circuit: &Model) -> Result<Vec<Option<u32>>, Refused> {
+    circuit.parts();
+    let mut positions = filled(alloc, None, circuit.max_var() as usize + 1)?;
     for position in circuit.order() {
         if let Some(gate) = circuit.gates().get(*position as usize) {
             put(positions.as_mut_slice(), gate.lhs.variable(), *position);
@@ -123,12 +125,9 @@ fn mark_behind(circuit: &Model, positions: &[Option<u32>], needed: &mut [bool], 
 
 /// Which variables the constraints, the next literals and the bad literals depend on, by what is
 /// said of the gates.
-fn needed(
-    alloc: Global,
-    circuit: &Model,
-    positions: &[Option<u32>],
-) -> Result<Vec<bool>, AllocError> {
-    let mut needed = vec![in alloc; false; circuit.max_var() as usize + 1]?;
+fn needed(alloc: Global, circuit: &Model, positions: &[Option<u32>]) -> Result<Vec<bool>, Refused> {
+    circuit.parts();
+    let mut needed = filled(alloc, false, circuit.max_var() as usize + 1)?;
     mark_all(needed.as_mut_slice(), circuit.constraints());
     mark_all(needed.as_mut_slice(), circuit.bad());
     mark_nexts(needed.as_mut_slice(), circuit.latches());
@@ -139,7 +138,7 @@ fn needed(
 }
 
 /// What is said of the gates. It costs the circuit.
-pub fn plan(alloc: Global, circuit: &Model) -> Result<Vec<Statement>, AllocError>
+pub fn plan(alloc: Global, circuit: &Model) -> Result<Vec<Statement>, Refused>
     ensures { IfOk result (λ s. All (IsStatement circuit.now) s.items) }
 {
     let positions = positions(alloc, circuit)?;
@@ -147,7 +146,10 @@ pub fn plan(alloc: Global, circuit: &Model) -> Result<Vec<Statement>, AllocError
     let mut statements = Vec::new(alloc);
     for gate in circuit.gates() {
         if is_marked(needed.as_slice(), gate.lhs) {
-            statements.push(statement_of(circuit, positions.as_slice(), *gate))?;
+            push(
+                &mut statements,
+                statement_of(circuit, positions.as_slice(), *gate),
+            )?;
         }
     }
     Ok(statements)

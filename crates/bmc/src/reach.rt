@@ -45,7 +45,7 @@ fn extend<S: Sat>(
     match extension(alloc, circuit, steps) {
         Ok(clauses) => add(solver, alloc, clauses.as_slice()),
         Err(CnfError::Limit) => Err(EngineError::Limit),
-        Err(CnfError::OutOfMemory) => Err(EngineError::OutOfMemory),
+        Err(CnfError::OutOfMemory(refused)) => Err(EngineError::OutOfMemory(refused)),
     }
 }
 

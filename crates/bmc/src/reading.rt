@@ -7,10 +7,11 @@ ghost use Rattle.engine.specs.Findings.{IsForBad};
 ghost use Rattle.bmc.specs.Depths.{EndsAt};
 ghost use Rattle.bmc.specs.Times.{value_at, state_at as state_of_values, inputs_at as inputs_of_values, lines_of, IsBadModel};
 
+use base::Refused;
 use cnf::Time;
 use engine::Finding;
 use graph::{Lit, Model, Seq};
-use std::alloc::{AllocError, Global};
+use std::alloc::Global;
 
 /// The value of a literal's variable at a time.
 fn value(values: &[bool], time: Time, lit: Lit) -> bool
@@ -27,7 +28,7 @@ pub(crate) fn state_at(
     circuit: &Model,
     values: &[bool],
     time: Time,
-) -> Result<Seq<bool>, AllocError>
+) -> Result<Seq<bool>, Refused>
     requires max_var { time.max_var ≡ circuit.now.max_var }
     requires fits { time.offset + time.max_var < length values.now }
     ensures { IfOk result (λ s. s ≡ state_of_values circuit.now values.now time.offset) }
@@ -46,7 +47,7 @@ fn inputs_at(
     circuit: &Model,
     values: &[bool],
     time: Time,
-) -> Result<Seq<bool>, AllocError>
+) -> Result<Seq<bool>, Refused>
     requires max_var { time.max_var ≡ circuit.now.max_var }
     requires fits { time.offset + time.max_var < length values.now }
     ensures { IfOk result (λ s. s ≡ inputs_of_values circuit.now values.now time.offset) }
@@ -65,7 +66,7 @@ pub(crate) fn lines(
     circuit: &Model,
     values: &[bool],
     times: u32,
-) -> Result<Seq<Seq<bool>>, AllocError>
+) -> Result<Seq<Seq<bool>>, Refused>
     requires small { times ≤ 256 }
     requires fits { times * (circuit.now.max_var + 1) < length values.now }
     ensures { IfOk result (λ s. s ≡ lines_of circuit.now values.now times) }
@@ -84,7 +85,7 @@ pub(crate) fn run_of(
     circuit: &Model,
     values: &[bool],
     steps: u32,
-) -> Result<Finding, AllocError>
+) -> Result<Finding, Refused>
     requires small { steps ≤ 255 }
     requires for_bad { IsForBad circuit.now }
     requires model { IsBadModel circuit.now steps values.now }

@@ -10,8 +10,8 @@
 
 use crate::guide::{Guide, Step};
 use crate::shortening::shorten;
+use base::{Refused, push};
 use kernel::Kernel;
-use std::alloc::AllocError;
 
 /// The greatest level of the clause's literals.
 pub fn top_level(kernel: &Kernel, guide: &Guide, id: u32) -> usize {
@@ -31,9 +31,9 @@ pub fn analyse(
     guide: &mut Guide,
     conflict: u32,
     level: usize,
-) -> Result<(), AllocError> {
+) -> Result<(), Refused> {
     begin(guide);
-    guide.clause.push(0)?;
+    push(&mut guide.clause, 0)?;
     let point = resolve(kernel, guide, conflict, level)?;
     if let Some(first) = guide.clause.first_mut() {
         *first = point.wrapping_neg();
@@ -56,7 +56,7 @@ fn resolve(
     guide: &mut Guide,
     conflict: u32,
     level: usize,
-) -> Result<i32, AllocError> {
+) -> Result<i32, Refused> {
     let mut open = see_clause(kernel, guide, conflict, 0, level)?;
     let mut place = kernel.len();
     for _ in 0..kernel.len() {
@@ -89,7 +89,7 @@ pub fn see_clause(
     id: u32,
     skipped: i32,
     level: usize,
-) -> Result<u64, AllocError> {
+) -> Result<u64, Refused> {
     let mut count = 0u64;
     let Some(clause) = kernel.clause(id) else {
         return Ok(0);
@@ -102,39 +102,42 @@ pub fn see_clause(
         let at = guide.levels.level_of(*literal);
         if at == 0 {
             let unit = guide.unit_of(*literal);
-            guide.hints.push(unit)?;
+            push(&mut guide.hints, unit)?;
             continue;
         }
         guide.heap.bump(literal.unsigned_abs());
         if at >= level {
             count = count.saturating_add(1);
         } else {
-            guide.clause.push(*literal)?;
+            push(&mut guide.clause, *literal)?;
         }
     }
     Ok(count)
 }
 
 /// Notes a reason that shows a part of the clause.
-pub fn take_step(guide: &mut Guide, place: usize, id: u32) -> Result<(), AllocError> {
+pub fn take_step(guide: &mut Guide, place: usize, id: u32) -> Result<(), Refused> {
     if place < 4_294_967_296 {
-        guide.steps.push(Step {
-            place: place as u32,
-            id,
-        })?;
+        push(
+            &mut guide.steps,
+            Step {
+                place: place as u32,
+                id,
+            },
+        )?;
     }
     Ok(())
 }
 
 /// Hints the reasons in the order of the trail, and then the clause that is false.
-pub fn finish(guide: &mut Guide, conflict: u32) -> Result<(), AllocError> {
+pub fn finish(guide: &mut Guide, conflict: u32) -> Result<(), Refused> {
     guide
         .steps
         .as_mut_slice()
         .sort_unstable_by_key(|step| step.place);
     for step in &guide.steps {
-        guide.hints.push(step.id)?;
+        push(&mut guide.hints, step.id)?;
     }
-    guide.hints.push(conflict)?;
+    push(&mut guide.hints, conflict)?;
     Ok(())
 }

@@ -5,6 +5,7 @@ ghost use Rattle.cdcl.specs.Keeping.{Keeps};
 use crate::guide::Guide;
 use crate::levels::go_back;
 use crate::units::imply;
+use base::push;
 use kernel::{Found, Kernel};
 use solver::SatError;
 
@@ -38,7 +39,7 @@ fn attach(kernel: &mut Kernel, guide: &mut Guide, id: u32) -> Result<(), SatErro
         return Ok(());
     }
     if let Some([_]) = kernel.clause(id) {
-        guide.single.push(id)?;
+        push(&mut guide.single, id)?;
         return Ok(());
     }
     go_back(kernel, guide, 0)?;

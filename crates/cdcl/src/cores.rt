@@ -13,9 +13,9 @@ ghost use Rattle.solver.specs.Answers.{IsCore};
 
 use crate::analysis::{begin, finish, take_step};
 use crate::guide::Guide;
+use base::{Refused, push};
 use kernel::Kernel;
 use solver::SatError;
-use std::alloc::AllocError;
 
 /// The core where a clause is false at level 0, which has no assumption.
 pub fn empty_core(
@@ -50,7 +50,7 @@ pub fn core_of_denied(
     };
     begin(guide);
     guide.see(literal)?;
-    guide.clause.push(literal.wrapping_neg())?;
+    push(&mut guide.clause, literal.wrapping_neg())?;
     if guide.levels.level_of(literal) == 0 {
         finish(guide, guide.unit_of(literal))?;
     } else {
@@ -84,7 +84,7 @@ fn analyse_denial(
     guide: &mut Guide,
     place: usize,
     reason: u32,
-) -> Result<(), AllocError> {
+) -> Result<(), Refused> {
     see_all(kernel, guide, reason)?;
     let mut before = place;
     for _ in 0..place {
@@ -99,7 +99,7 @@ fn analyse_denial(
             continue;
         }
         match kernel.reason(before) {
-            None => guide.clause.push(literal.wrapping_neg())?,
+            None => push(&mut guide.clause, literal.wrapping_neg())?,
             Some(id) => {
                 take_step(guide, before, id)?;
                 see_all(kernel, guide, id)?;
@@ -110,7 +110,7 @@ fn analyse_denial(
 }
 
 /// Sees the clause's literals, and hints what holds without decisions.
-fn see_all(kernel: &Kernel, guide: &mut Guide, id: u32) -> Result<(), AllocError> {
+fn see_all(kernel: &Kernel, guide: &mut Guide, id: u32) -> Result<(), Refused> {
     let Some(clause) = kernel.clause(id) else {
         return Ok(());
     };
@@ -121,7 +121,7 @@ fn see_all(kernel: &Kernel, guide: &mut Guide, id: u32) -> Result<(), AllocError
         guide.see(*literal)?;
         if guide.levels.level_of(*literal) == 0 {
             let unit = guide.unit_of(*literal);
-            guide.hints.push(unit)?;
+            push(&mut guide.hints, unit)?;
         }
     }
     Ok(())

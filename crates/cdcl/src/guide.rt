@@ -6,7 +6,8 @@ use crate::log::Log;
 use crate::restarts::Restarts;
 use crate::table::Table;
 use crate::watches::Watches;
-use std::alloc::{AllocError, Global};
+use base::{Refused, push};
+use std::alloc::Global;
 
 /// A reason that shows a part of the clause in progress, and its place on the trail.
 #[derive(Clone, Copy)]
@@ -81,7 +82,7 @@ impl Guide {
     }
 
     /// Makes room for the variables of the literals.
-    pub fn grow_to(&mut self, literals: &[i32]) -> Result<(), AllocError> {
+    pub fn grow_to(&mut self, literals: &[i32]) -> Result<(), Refused> {
         for literal in literals {
             let variable = literal.unsigned_abs();
             for _ in self.seen.len()..variable as usize + 1 {
@@ -92,7 +93,7 @@ impl Guide {
     }
 
     /// Makes room for the next variable.
-    fn grow(&mut self) -> Result<(), AllocError> {
+    fn grow(&mut self) -> Result<(), Refused> {
         self.watches.grow()?;
         self.heap.grow()?;
         self.levels.grow()?;
@@ -103,7 +104,7 @@ impl Guide {
 
     /// Makes room for the variables of a clause that was added, which are to be decided from now on. A
     /// variable of no clause is never decided but where it is assumed.
-    pub fn take_in(&mut self, clause: &[i32]) -> Result<(), AllocError> {
+    pub fn take_in(&mut self, clause: &[i32]) -> Result<(), Refused> {
         self.grow_to(clause)?;
         for literal in clause {
             self.heap.insert(literal.unsigned_abs())?;
@@ -134,8 +135,8 @@ impl Guide {
 
     /// Marks the literal's variable as seen.
     #[inline]
-    pub fn see(&mut self, literal: i32) -> Result<(), AllocError> {
-        self.marked.push(literal)?;
+    pub fn see(&mut self, literal: i32) -> Result<(), Refused> {
+        push(&mut self.marked, literal)?;
         self.seen.put(literal.unsigned_abs() as usize, true);
         Ok(())
     }

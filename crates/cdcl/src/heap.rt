@@ -5,7 +5,8 @@
 //! binary heap has the most active variable at its top. A heap out of order costs time alone.
 
 use crate::table::Table;
-use std::alloc::{AllocError, Global};
+use base::{Refused, push};
+use std::alloc::Global;
 
 /// No heap of 32-bit variables is deeper.
 const DEPTH: u32 = 33;
@@ -39,7 +40,7 @@ impl Heap {
     }
 
     /// Makes room for the next variable, from 0 on, which is not in the heap yet.
-    pub fn grow(&mut self) -> Result<(), AllocError> {
+    pub fn grow(&mut self) -> Result<(), Refused> {
         self.places.push(0)?;
         self.activities.push(0.0)
     }
@@ -109,10 +110,10 @@ impl Heap {
     }
 
     /// Puts the variable into the heap, where it isn't there.
-    pub fn insert(&mut self, variable: u32) -> Result<(), AllocError> {
+    pub fn insert(&mut self, variable: u32) -> Result<(), Refused> {
         if self.places.at(variable as usize, 1) == 0 {
             let place = self.variables.len();
-            self.variables.push(variable)?;
+            push(&mut self.variables, variable)?;
             self.rise(place, variable);
         }
         Ok(())

@@ -10,9 +10,9 @@ use crate::analysis::analyse;
 use crate::guide::Guide;
 use crate::levels::go_back;
 use crate::units::{imply, last_id};
+use base::{Refused, push};
 use kernel::{Found, Kernel};
 use solver::SatError;
-use std::alloc::AllocError;
 
 /// Learns from a clause that is false, whose greatest level is `level` and not 0, and goes back.
 pub fn learn(
@@ -59,14 +59,14 @@ fn learn_or_deny(kernel: &mut Kernel, guide: &mut Guide, conflict: u32) -> Resul
 }
 
 /// Hints all reasons on the trail, and then the clause that is false.
-fn hint_all(kernel: &Kernel, guide: &mut Guide, conflict: u32) -> Result<(), AllocError> {
+fn hint_all(kernel: &Kernel, guide: &mut Guide, conflict: u32) -> Result<(), Refused> {
     guide.hints.clear();
     for place in 0..kernel.len() {
         if let Some(reason) = kernel.reason(place) {
-            guide.hints.push(reason)?;
+            push(&mut guide.hints, reason)?;
         }
     }
-    guide.hints.push(conflict)?;
+    push(&mut guide.hints, conflict)?;
     Ok(())
 }
 
@@ -95,14 +95,14 @@ fn lead(guide: &mut Guide, place: usize) -> usize {
 }
 
 /// Watches the first two literals of the clause in progress.
-fn attach(guide: &mut Guide, id: u32) -> Result<(), AllocError> {
+fn attach(guide: &mut Guide, id: u32) -> Result<(), Refused> {
     let len = guide.clause.len();
     guide.watches.place(id as usize)?;
     if let [first, second, ..] = guide.clause.as_slice() {
         guide.watches.attach(id, *first, *second, len)?;
     }
     if len > 2 {
-        guide.learned.push(id)?;
+        push(&mut guide.learned, id)?;
     }
     Ok(())
 }

@@ -8,9 +8,10 @@ ghost use Rattle.cdcl.specs.Keeping.{Keeps};
 
 use crate::guide::Guide;
 use crate::table::Table;
+use base::{Refused, push};
 use kernel::Kernel;
 use solver::SatError;
-use std::alloc::{AllocError, Global};
+use std::alloc::Global;
 
 /// Where a variable's literal came on the trail.
 #[derive(Clone, Copy)]
@@ -41,7 +42,7 @@ impl Levels {
     }
 
     /// Makes room for the next variable, from 0 on.
-    pub fn grow(&mut self) -> Result<(), AllocError> {
+    pub fn grow(&mut self) -> Result<(), Refused> {
         self.entries.push(NEVER)
     }
 
@@ -137,7 +138,7 @@ pub fn open_level(kernel: &mut Kernel, guide: &mut Guide, literal: i32) -> Resul
     ensures { Keeps kernel.old kernel.new }
 {
     let place = kernel.len();
-    guide.levels.starts.push(place)?;
+    push(&mut guide.levels.starts, place)?;
     if kernel.decide(literal)? {
         guide.levels.note(literal, place);
     }

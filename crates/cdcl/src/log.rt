@@ -8,10 +8,10 @@ ghost use Rattle.std.specs.Prelude.{◌≡◌, [], None, Some, OnOk, IfOk, IfSom
 ghost use Rattle.lrat.specs.declared.line.Line.TheVariants.{Add, Delete};
 ghost use Rattle.cdcl.specs.Logged.{Logs, Lengthens};
 
-use base::Seq;
+use base::{Refused, Seq};
 use lrat::{Clause, Line, LratError, Proof};
 use solver::SatError;
-use std::alloc::{AllocError, Global};
+use std::alloc::Global;
 use std::marker::Model;
 
 /// The proof so far, where one is wanted.
@@ -96,12 +96,12 @@ impl Log {
 }
 
 /// The hints of a line.
-fn signed(alloc: Global, hints: &[u32]) -> Result<Seq<i64>, AllocError>
+fn signed(alloc: Global, hints: &[u32]) -> Result<Seq<i64>, Refused>
     ensures { IfOk result (λ s. s ≡ map pos hints.now) }
 {
-    let mut signed = Vec::with_capacity(alloc, hints.len())?;
+    let mut signed = Vec::new(alloc);
     for hint in hints {
-        signed.push(i64::from(*hint))?;
+        base::push(&mut signed, i64::from(*hint))?;
     }
     Ok(Seq::from_vec(signed))
 }
@@ -111,7 +111,7 @@ fn push(proof: &mut Proof, line: Line) -> Result<(), SatError>
     ensures { OnOk result (Lengthens line proof.old proof.new) }
 {
     match proof.push(line) {
-        Err(LratError::OutOfMemory) => Err(SatError::OutOfMemory),
+        Err(LratError::OutOfMemory(refused)) => Err(SatError::OutOfMemory(refused)),
         _ => Ok(()),
     }
 }

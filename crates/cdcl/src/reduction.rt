@@ -8,6 +8,7 @@ ghost use Rattle.cdcl.specs.Keeping.{Keeps};
 
 use crate::guide::Guide;
 use crate::units::last_id;
+use base::push;
 use kernel::Kernel;
 use solver::SatError;
 
@@ -38,7 +39,7 @@ fn log_forgotten(kernel: &Kernel, guide: &mut Guide) -> Result<(), SatError> {
     let mut gone = Vec::new(guide.alloc);
     for id in &guide.learned {
         if kernel.clause(*id).is_none() {
-            gone.push(*id)?;
+            push(&mut gone, *id)?;
         }
     }
     guide

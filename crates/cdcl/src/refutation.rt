@@ -80,8 +80,8 @@ fn conclude(
         match refutes(alloc, formula, &proof) {
             Ok(()) => return Ok(Refuted::Proof(proof)),
             Err(e) => {
-                if e.fault == Fault::OutOfMemory {
-                    return Err(SatError::OutOfMemory);
+                if let Fault::OutOfMemory(refused) = e.fault {
+                    return Err(SatError::OutOfMemory(refused));
                 }
             }
         }

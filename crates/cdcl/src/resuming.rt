@@ -8,6 +8,7 @@ ghost use Rattle.cdcl.specs.Keeping.{Keeps};
 
 use crate::guide::Guide;
 use crate::levels::leave;
+use base::extend;
 use kernel::Kernel;
 use solver::SatError;
 
@@ -26,7 +27,7 @@ pub fn resume(kernel: &mut Kernel, guide: &mut Guide, assume: &[i32]) -> Result<
     };
     leave(kernel, guide, level)?;
     guide.assumed.clear();
-    guide.assumed.extend_from_slice(assume)?;
+    extend(&mut guide.assumed, assume)?;
     Ok(())
 }
 

@@ -7,12 +7,12 @@
 
 use crate::analysis::take_step;
 use crate::guide::Guide;
+use base::{Refused, push};
 use kernel::Kernel;
-use std::alloc::AllocError;
 
 /// Leaves the literals out that the others imply, and notes the reasons that show it. The first
 /// literal stays.
-pub fn shorten(kernel: &Kernel, guide: &mut Guide) -> Result<(), AllocError> {
+pub fn shorten(kernel: &Kernel, guide: &mut Guide) -> Result<(), Refused> {
     let levels = levels_of(guide);
     let mut kept = 1;
     for at in 1..guide.clause.len() {
@@ -55,7 +55,7 @@ fn is_implied(
     guide: &mut Guide,
     literal: i32,
     levels: u64,
-) -> Result<bool, AllocError> {
+) -> Result<bool, Refused> {
     let mut next = guide.marked.len();
     if !see_reason(kernel, guide, literal, levels)? {
         return Ok(false);
@@ -79,7 +79,7 @@ fn see_reason(
     guide: &mut Guide,
     literal: i32,
     levels: u64,
-) -> Result<bool, AllocError> {
+) -> Result<bool, Refused> {
     let Some(reason) = kernel.reason(guide.levels.place_of(literal)) else {
         return Ok(false);
     };
@@ -107,7 +107,7 @@ fn note_reasons(
     guide: &mut Guide,
     literal: i32,
     before: usize,
-) -> Result<(), AllocError> {
+) -> Result<(), Refused> {
     let end = guide.marked.len();
     note_reason(kernel, guide, literal)?;
     for at in before..end {
@@ -119,7 +119,7 @@ fn note_reasons(
 }
 
 /// Notes the literal's reason, and hints what that needs of level 0.
-fn note_reason(kernel: &Kernel, guide: &mut Guide, literal: i32) -> Result<(), AllocError> {
+fn note_reason(kernel: &Kernel, guide: &mut Guide, literal: i32) -> Result<(), Refused> {
     let place = guide.levels.place_of(literal);
     let Some(reason) = kernel.reason(place) else {
         return Ok(());
@@ -132,7 +132,7 @@ fn note_reason(kernel: &Kernel, guide: &mut Guide, literal: i32) -> Result<(), A
         if guide.levels.level_of(*other) == 0 && !guide.is_seen(*other) {
             guide.see(*other)?;
             let unit = guide.unit_of(*other);
-            guide.hints.push(unit)?;
+            push(&mut guide.hints, unit)?;
         }
     }
     Ok(())

@@ -3,7 +3,11 @@
 //! What is kept by variables or by clauses only steers the search, so nothing is to be proved of
 //! its places: past the end a list gives a default, and a write there does nothing.
 
-use std::alloc::{AllocError, Global};
+ghost use Rattle.std.specs.Mem.{type_size};
+ghost use Rattle.base.specs.Sizes.{IsItemSize};
+
+use base::{Refused, push};
+use std::alloc::Global;
 
 /// A list that gives a default past its end.
 #[derive(Drop)]
@@ -44,8 +48,9 @@ impl<T: Copy> Table<T> {
     }
 
     /// Adds an item at the end.
-    pub fn push(&mut self, item: T) -> Result<(), AllocError> {
-        self.items.push(item)?;
-        Ok(())
+    pub fn push(&mut self, item: T) -> Result<(), Refused>
+        requires { IsItemSize (type_size T.row) }
+    {
+        push(&mut self.items, item)
     }
 }

@@ -6,9 +6,9 @@
 ghost use Rattle.cdcl.specs.Keeping.{Keeps};
 
 use crate::guide::Guide;
+use base::{Refused, push};
 use kernel::{Found, Kernel};
 use solver::SatError;
-use std::alloc::AllocError;
 
 /// Puts the literal that a clause leaves on the trail.
 pub fn imply(kernel: &mut Kernel, guide: &mut Guide, id: u32) -> Result<Found, SatError>
@@ -38,7 +38,7 @@ fn settle(kernel: &mut Kernel, guide: &mut Guide, literal: i32, id: u32) -> Resu
         return Ok(());
     }
     hint_units(guide, clause, literal)?;
-    guide.hints.push(id)?;
+    push(&mut guide.hints, id)?;
     if kernel.learn(&[literal], guide.hints.as_slice())? {
         let unit = last_id(kernel);
         guide
@@ -51,12 +51,12 @@ fn settle(kernel: &mut Kernel, guide: &mut Guide, literal: i32, id: u32) -> Resu
 }
 
 /// Hints the unit clauses of the other literals, each once.
-fn hint_units(guide: &mut Guide, clause: &[i32], literal: i32) -> Result<(), AllocError> {
+fn hint_units(guide: &mut Guide, clause: &[i32], literal: i32) -> Result<(), Refused> {
     guide.hints.clear();
     for other in clause {
         if *other != literal {
             let unit = guide.unit_of(*other);
-            guide.hints.push(unit)?;
+            push(&mut guide.hints, unit)?;
         }
     }
     let hints = guide.hints.as_mut_slice();

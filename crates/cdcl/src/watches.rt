@@ -10,8 +10,9 @@
 //! through.
 
 use crate::table::Table;
+use base::{Refused, push};
 use kernel::Kernel;
-use std::alloc::{AllocError, Global};
+use std::alloc::Global;
 use std::mem;
 
 /// A clause that watches a literal, and another literal of the clause.
@@ -80,9 +81,9 @@ impl Watches {
     }
 
     /// Makes room for the literals of the next variable, from 0 on.
-    pub fn grow(&mut self) -> Result<(), AllocError> {
-        self.lists.push(Lists::new(self.alloc))?;
-        self.lists.push(Lists::new(self.alloc))?;
+    pub fn grow(&mut self) -> Result<(), Refused> {
+        push(&mut self.lists, Lists::new(self.alloc))?;
+        push(&mut self.lists, Lists::new(self.alloc))?;
         Ok(())
     }
 
@@ -121,30 +122,24 @@ impl Watches {
     }
 
     #[inline]
-    fn watch(&mut self, literal: i32, watch: Watch) -> Result<(), AllocError> {
+    fn watch(&mut self, literal: i32, watch: Watch) -> Result<(), Refused> {
         let index = index_of(literal);
         if index < self.lists.len() {
-            self.lists[index].long.push(watch)?;
+            push(&mut self.lists[index].long, watch)?;
         }
         Ok(())
     }
 
-    fn watch_binary(&mut self, literal: i32, watch: Watch) -> Result<(), AllocError> {
+    fn watch_binary(&mut self, literal: i32, watch: Watch) -> Result<(), Refused> {
         let index = index_of(literal);
         if index < self.lists.len() {
-            self.lists[index].binary.push(watch)?;
+            push(&mut self.lists[index].binary, watch)?;
         }
         Ok(())
     }
 
     /// Watches two literals of a clause that has its place, of `len` literals.
-    pub fn attach(
-        &mut self,
-        id: u32,
-        first: i32,
-        second: i32,
-        len: usize,
-    ) -> Result<(), AllocError> {
+    pub fn attach(&mut self, id: u32, first: i32, second: i32, len: usize) -> Result<(), Refused> {
         let one = Watch {
             id,
             blocker: second,
@@ -162,7 +157,7 @@ impl Watches {
     }
 
     /// Gives the clauses up to this id their places, without watches.
-    pub fn place(&mut self, last: usize) -> Result<(), AllocError> {
+    pub fn place(&mut self, last: usize) -> Result<(), Refused> {
         for _ in self.pairs.len()..last {
             self.pairs.push(NONE)?;
         }
@@ -189,7 +184,7 @@ impl Watches {
 
     /// Watches another literal in place of the one beside `other`.
     #[inline]
-    pub fn replace(&mut self, id: u32, other: i32, next: i32) -> Result<(), AllocError> {
+    pub fn replace(&mut self, id: u32, other: i32, next: i32) -> Result<(), Refused> {
         let pair = Pair {
             first: other,
             second: next,

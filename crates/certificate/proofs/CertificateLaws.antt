@@ -1,4 +1,5 @@
 -- A certificate is read as it is spelled.
+use Rattle.base.specs.Witness.{witness}
 use Rattle.std.proofs.Common.{◌≡◌, ℕ, ◌≤◌, List, [], ◌∷◌, ◌++◌, length, Option, Some, All, refl, sym, ◌∙◌, append_assoc, arith}
 use Rattle.std.specs.Prelude.{decimal, codes, flat_map}
 use Rattle.std.proofs.lemmas.List.{append-nil}
@@ -119,6 +120,6 @@ pub one_certificate : (text : List ℕ) (c d : Certificate) → SpellsCertificat
 one_certificate text c d s r = spells_one certificate_reads text c d s r
 
 -- where a certificate is spelled, only out of memory is told
-pub refused_for_memory : (n : ℕ) (e : Fault Refusal) (c : Certificate) (read : Option Certificate) → Fails e read → read ≡ Some c → error_of n e ≡ OutOfMemory
-refused_for_memory n Memory c read f s = refl
+pub refused_for_memory : (n : ℕ) (e : Fault Refusal) (c : Certificate) (read : Option Certificate) → Fails e read → read ≡ Some c → error_of n e ≡ OutOfMemory witness
+refused_for_memory n (Memory refused) c read f s = refl
 refused_for_memory n (Text kind left) c read f s = absurd (none-some c (sym f ∙ s))

@@ -62,6 +62,10 @@ item_reads =
     (reads_choice 46 (reads_after (skips_byte 10) (reads_nothing {A = Option Line} None)) (reads_then line_reads (λ line. reads_nothing {A = Option Line} (Some line))) line_begins)
     item_to item_from
 
+-- a line that was read is without zeros and in the limits
+pub item_line : (rest after : List ℕ) (line : Line) → item_at rest ≡ Some (Some line, after) → IsLine line
+item_line rest after line e = (item_reads.sound rest (Some line) after e).1.within
+
 item_takes : TakesSome IsItem
 item_takes t line s = line_takes t line s
 

@@ -12,7 +12,7 @@ number_of (Truncated place) = 6
 number_of (Version place) = 70
 number_of (PropertyLine place) = 71
 number_of (Section place) = 72
-number_of OutOfMemory = 20
+number_of (OutOfMemory refused) = 20
 
 abbrev pub place_of : CertError → ℕ
 place_of (Number place) = place
@@ -21,7 +21,7 @@ place_of (Truncated place) = place
 place_of (Version place) = place
 place_of (PropertyLine place) = place
 place_of (Section place) = place
-place_of OutOfMemory = 0
+place_of (OutOfMemory refused) = 0
 
 abbrev pub write_number_of : CertWriteError → ℕ
 write_number_of (Sections found) = 34

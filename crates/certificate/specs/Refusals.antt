@@ -1,5 +1,6 @@
 -- What is told of a text that is refused.
 use Rattle.std.specs.Prelude.{ℕ, ◌-◌}
+use Rattle.base.specs.Witness.{witness}
 use Rattle.scan.specs.declared.fault.Fault.{Fault}
 use Rattle.scan.specs.declared.fault.Fault.TheVariants.{Memory, Text}
 use Rattle.certificate.specs.declared.cert_error.CertError.{CertError}
@@ -18,5 +19,5 @@ at_byte Truncated p = error.Truncated p
 
 -- the error that a fault is in a text of this length
 abbrev pub error_of : ℕ → Fault Refusal → CertError
-error_of length Memory = error.OutOfMemory
+error_of length (Memory refused) = error.OutOfMemory witness
 error_of length (Text kind left) = at_byte kind (length - left)

@@ -1,6 +1,7 @@
 -- Which text spells a certificate, version 1.
 use Rattle.std.specs.Prelude.{◌≡◌, ◌≢◌, ℕ, ◌+◌, ◌*◌, ◌<◌, ◌≤◌, List, ◌∷◌, ◌++◌, All, length, flat_map, take, drop, codes, decimal, Option, Result, MatchResult}
 use Rattle.base.specs.Devices.{PutsBeginning}
+use Rattle.base.specs.Witness.{witness}
 use Rattle.graph.specs.declared.circuit.Lit.{Lit}
 use Rattle.graph.specs.Properties.{position_of, property_text}
 use Rattle.lrat.specs.declared.line.Line.{Line}
@@ -54,7 +55,7 @@ pub record SpellsCertificate (text : List ℕ) (c : Certificate) : Type 0 where
 
 -- this certificate is read, unless memory runs out
 abbrev pub IsRead : Result Certificate CertError → Certificate → Type 0
-IsRead result c = MatchResult result (λ d. d ≡ c) (λ e. e ≡ OutOfMemory)
+IsRead result c = MatchResult result (λ d. d ≡ c) (λ e. e ≡ OutOfMemory witness)
 
 -- why a certificate is not written: another number of sections, or else a count over its limit; or the device failed after
 -- a beginning

@@ -1,10 +1,11 @@
 //! Why texts of certificates are refused.
 
 ghost use Rattle.std.specs.Prelude.{◌≡◌};
+ghost use Rattle.base.specs.Witness.{witness};
 ghost use Rattle.certificate.specs.Numbers.{number_of, place_of};
 ghost use Rattle.certificate.specs.declared.cert_error.CertError.TheVariants.{OutOfMemory};
 
-use std::alloc::{AllocError, AllocFailed};
+use base::Refused;
 use thiserror::Error;
 
 /// Why the text of a certificate is refused. A place is a byte of the text.
@@ -29,23 +30,15 @@ pub enum CertError {
     #[error("byte {place}: not the section that is due")]
     Section { place: u64 },
     /// out of memory
-    #[error("out of memory")]
-    OutOfMemory,
+    #[error("{0}")]
+    OutOfMemory(Refused),
 }
 
-impl From<AllocError> for CertError {
-    ghost from_gives = { λ _ e. e ≡ OutOfMemory };
+impl From<Refused> for CertError {
+    ghost from_gives = { λ _ e. e ≡ OutOfMemory witness };
 
-    fn from(_e: AllocError) -> CertError {
-        CertError::OutOfMemory
-    }
-}
-
-impl<T: Drop> From<AllocFailed<T>> for CertError {
-    ghost from_gives = { λ _ e. e ≡ OutOfMemory };
-
-    fn from(_e: AllocFailed<T>) -> CertError {
-        CertError::OutOfMemory
+    fn from(refused: Refused) -> CertError {
+        CertError::OutOfMemory(refused)
     }
 }
 
@@ -58,7 +51,7 @@ impl CertError {
             CertError::Number { .. } => 3,
             CertError::Byte { .. } => 5,
             CertError::Truncated { .. } => 6,
-            CertError::OutOfMemory => 20,
+            CertError::OutOfMemory(_) => 20,
             CertError::Version { .. } => 70,
             CertError::PropertyLine { .. } => 71,
             CertError::Section { .. } => 72,
@@ -76,7 +69,7 @@ impl CertError {
             | CertError::Version { place }
             | CertError::PropertyLine { place }
             | CertError::Section { place } => place,
-            CertError::OutOfMemory => 0,
+            CertError::OutOfMemory(_) => 0,
         }
     }
 }

@@ -60,7 +60,7 @@ pub fn error(length: usize, fault: Fault<Refusal>) -> CertError
     ensures { result ≡ error_of length fault }
 {
     let (kind, place) = match fault {
-        Fault::Memory => return CertError::OutOfMemory,
+        Fault::Memory(refused) => return CertError::OutOfMemory(refused),
         Fault::Text { kind, left } => (kind, place(length, left)),
     };
     match kind {

@@ -6,10 +6,11 @@ ghost use Rattle.scan.specs.Lists.{items_at};
 ghost use Rattle.certificate.specs.Reading.{item_at, section_at, sections_at};
 
 use crate::refusal::{IN_LETTER, IN_LINE, Refusal};
+use base::{Refused, push};
 use graph::Seq;
 use lrat::{Line, Proof, next_line};
 use scan::{Fault, LineKind, byte, lines};
-use std::alloc::{AllocFailed, Global};
+use std::alloc::Global;
 
 /// A line of a section, or none where a line with a dot ends it, and what follows.
 #[tactic(auto, unfolding(crate::specs::Reading::item_at))]
@@ -41,9 +42,7 @@ fn section_lines(alloc: Global, text: &[u8]) -> Result<(Proof, &[u8]), Fault<Ref
         let Some(line) = item else {
             return Ok((proof, rest));
         };
-        if proof.push(line).is_err() {
-            return Err(Fault::Memory);
-        }
+        proof.push_line(line)?;
     }
     Err(Fault::Text {
         kind: Refusal::Truncated,
@@ -81,11 +80,11 @@ impl LineKind for AnySection {
 }
 
 /// Adds the proofs at the end of the list.
-fn append(list: &mut Vec<Proof>, proofs: Vec<Proof>) -> Result<(), AllocFailed<Proof>>
+fn append(list: &mut Vec<Proof>, proofs: Vec<Proof>) -> Result<(), Refused>
     ensures { OnOk result (list.new.items ≡ list.old.items ++ proofs.items) }
 {
     for proof in proofs {
-        list.push(proof)?;
+        push(list, proof)?;
     }
     Ok(())
 }
@@ -103,6 +102,6 @@ pub fn sections(
     let (steps, rest) = lines::<AnySection>(alloc, clauses, rest, b's')?;
     append(&mut sections, steps)?;
     let (bad, rest) = section(alloc, rest, b'b')?;
-    sections.push(bad)?;
+    push(&mut sections, bad)?;
     Ok((Seq::from_vec(sections), rest))
 }

@@ -40,7 +40,7 @@ cause_of m p inv (NoProperty n) showable cause = absurd cause
 cause_of m p inv Limit showable cause = inr (showable, cause)
 cause_of m p inv (NotLatch k) showable cause = (showable, cause)
 cause_of m p inv (Repeated k) showable cause = (showable, cause)
-cause_of m p inv OutOfMemory showable cause = showable.exists
+cause_of m p inv (OutOfMemory refused) showable cause = showable.exists
 
 pub refused : (m : Parts) (p : Property) (inv : List (List Lit)) (r : Result Certified CertifyError) → IsShowable m p →
     IfErr r (HasCauseFor (circuit_of m p) inv) → IfErr r (HasCause m p inv)

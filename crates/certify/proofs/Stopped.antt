@@ -6,8 +6,6 @@ use Rattle.base.specs.Budget.{Steps}
 use Rattle.graph.specs.declared.circuit.Lit.{Lit}
 use Rattle.graph.specs.declared.parts.Parts.{Parts}
 use Rattle.lrat.specs.declared.formula.Formula.{Formula}
-use Rattle.cnf.specs.declared.error.CnfError.{CnfError}
-use Rattle.cnf.specs.declared.error.CnfError.TheVariants as cnf
 use Rattle.cnf.specs.Formulas.{init_formula, step_formula, bad_formula}
 use Rattle.cnf.specs.Invariants.{AreContradictory, IsInductive}
 use Rattle.solver.specs.declared.sat_error.SatError.{SatError}
@@ -17,16 +15,12 @@ use Rattle.checker.specs.Accepted.{cases}
 use Rattle.certify.specs.declared.halt.Halt.{Halt}
 use Rattle.certify.specs.declared.halt.Halt.TheVariants.{NotInvariant, Spent, Limit, OutOfMemory}
 use Rattle.certify.specs.Outcomes.{HasSatisfied}
-use Rattle.certify.specs.Halts.{of_solver, of_cnf, IsHalt}
+use Rattle.certify.specs.Halts.{of_solver, IsHalt}
 
 -- a refusal can stop anything
 pub solver_halt : (fs : List Formula) (after : Steps) (e : SatError) → IsHalt fs after (of_solver e)
 solver_halt fs after solver.Limit = tt
-solver_halt fs after solver.OutOfMemory = tt
-
-pub cnf_halt : (fs : List Formula) (after : Steps) (e : CnfError) → IsHalt fs after (of_cnf e)
-cnf_halt fs after cnf.Limit = tt
-cnf_halt fs after cnf.OutOfMemory = tt
+solver_halt fs after (solver.OutOfMemory refused) = tt
 
 -- a model of the formula satisfies it
 pub model_satisfies : (f : Formula) (b : List Bool) → IsModel f.vars f.clauses [] b → HasSatisfied (f ∷ [])
@@ -44,7 +38,7 @@ pub halt_among : (fs gs : List Formula) (after : Steps) (h : Halt) → ((f : For
 halt_among fs gs after NotInvariant among found = record { formula = found.formula; among = among found.formula found.among; assignment = found.assignment; solves = found.solves }
 halt_among fs gs after Spent among none = none
 halt_among fs gs after Limit among any = tt
-halt_among fs gs after OutOfMemory among any = tt
+halt_among fs gs after (OutOfMemory refused) among any = tt
 
 -- what stops the formula of one clause stops those of all
 pub halt_mapped : (h : List Lit → Formula) (cs : List (List Lit)) (k : ℕ) (d : List Lit) (f : Formula) (after : Steps) (x : Halt) → k < length cs → f ≡ h (get_or cs k d) →

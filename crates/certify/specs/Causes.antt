@@ -23,7 +23,7 @@ IsFault m inv (NoProperty n) = ⊥
 IsFault m inv Limit = 4194303 < length inv
 IsFault m inv (NotLatch k) = IsFaulty m inv k fault.NotLatch
 IsFault m inv (Repeated k) = IsFaulty m inv k fault.Repeated
-IsFault m inv OutOfMemory = Unit {0}
+IsFault m inv (OutOfMemory refused) = Unit {0}
 
 -- why nothing came of the clauses for a circuit: what is wrong with them, or of good clauses a limit of a solver
 abbrev pub HasCauseFor : Parts → List (List Lit) → CertifyError → Type 0
@@ -31,7 +31,7 @@ HasCauseFor m inv (NoProperty n) = ⊥
 HasCauseFor m inv Limit = (4194303 < length inv) ⊎ All (IsGood m) inv
 HasCauseFor m inv (NotLatch k) = IsFaulty m inv k fault.NotLatch
 HasCauseFor m inv (Repeated k) = IsFaulty m inv k fault.Repeated
-HasCauseFor m inv OutOfMemory = Unit {0}
+HasCauseFor m inv (OutOfMemory refused) = Unit {0}
 
 -- the first cause of each refusal: the property, the variables of its circuit, and then what there is for that
 abbrev pub HasCause : Parts → Property → List (List Lit) → CertifyError → Type 0
@@ -39,7 +39,7 @@ HasCause m p inv (NoProperty n) = (n ≡ position_of p) × (HasProperty m p → 
 HasCause m p inv Limit = (HasProperty m p × (4194303 < (circuit_of m p).max_var)) ⊎ (IsShowable m p × HasCauseFor (circuit_of m p) inv Limit)
 HasCause m p inv (NotLatch k) = IsShowable m p × IsFaulty (circuit_of m p) inv k fault.NotLatch
 HasCause m p inv (Repeated k) = IsShowable m p × IsFaulty (circuit_of m p) inv k fault.Repeated
-HasCause m p inv OutOfMemory = HasProperty m p
+HasCause m p inv (OutOfMemory refused) = HasProperty m p
 
 -- what is wrong with the property or a clause is refused before anything is spent
 abbrev pub IsUnspent : Steps → Steps → CertifyError → Type 0
@@ -47,4 +47,4 @@ IsUnspent before after (NoProperty n) = after ≡ before
 IsUnspent before after Limit = Unit {0}
 IsUnspent before after (NotLatch k) = after ≡ before
 IsUnspent before after (Repeated k) = after ≡ before
-IsUnspent before after OutOfMemory = Unit {0}
+IsUnspent before after (OutOfMemory refused) = Unit {0}

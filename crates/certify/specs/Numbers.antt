@@ -8,11 +8,11 @@ number_of (NoProperty n) = 30
 number_of Limit = 4
 number_of (NotLatch k) = 32
 number_of (Repeated k) = 33
-number_of OutOfMemory = 20
+number_of (OutOfMemory refused) = 20
 
 abbrev pub place_of : CertifyError → ℕ
 place_of (NoProperty n) = n
 place_of Limit = 0
 place_of (NotLatch k) = k
 place_of (Repeated k) = k
-place_of OutOfMemory = 0
+place_of (OutOfMemory refused) = 0

@@ -1,10 +1,11 @@
 //! Why nothing came of clauses.
 
 ghost use Rattle.std.specs.Prelude.{◌≡◌};
+ghost use Rattle.base.specs.Witness.{witness};
 ghost use Rattle.certify.specs.Numbers.{number_of, place_of};
 ghost use Rattle.certify.specs.declared.certify_error.CertifyError.TheVariants.{OutOfMemory};
 
-use std::alloc::AllocError;
+use base::Refused;
 use thiserror::Error;
 
 /// Why nothing came of the clauses.
@@ -23,15 +24,15 @@ pub enum CertifyError {
     #[error("clause {clause}: a literal is repeated or opposed")]
     Repeated { clause: u64 },
     /// out of memory
-    #[error("out of memory")]
-    OutOfMemory,
+    #[error("{0}")]
+    OutOfMemory(Refused),
 }
 
-impl From<AllocError> for CertifyError {
-    ghost from_gives = { λ _ e. e ≡ OutOfMemory };
+impl From<Refused> for CertifyError {
+    ghost from_gives = { λ _ e. e ≡ OutOfMemory witness };
 
-    fn from(_e: AllocError) -> CertifyError {
-        CertifyError::OutOfMemory
+    fn from(refused: Refused) -> CertifyError {
+        CertifyError::OutOfMemory(refused)
     }
 }
 
@@ -42,7 +43,7 @@ impl CertifyError {
     {
         match self {
             CertifyError::Limit => 4,
-            CertifyError::OutOfMemory => 20,
+            CertifyError::OutOfMemory(_) => 20,
             CertifyError::NoProperty(_) => 30,
             CertifyError::NotLatch { .. } => 32,
             CertifyError::Repeated { .. } => 33,
@@ -56,7 +57,7 @@ impl CertifyError {
         match self {
             CertifyError::NoProperty(position) => u64::from(position),
             CertifyError::NotLatch { clause } | CertifyError::Repeated { clause } => clause,
-            CertifyError::Limit | CertifyError::OutOfMemory => 0,
+            CertifyError::Limit | CertifyError::OutOfMemory(_) => 0,
         }
     }
 }

@@ -15,14 +15,14 @@ use crate::certify_error::CertifyError;
 use crate::examining::examine;
 use crate::halt::Halt;
 use crate::proving::prove_cases;
-use base::Budget;
+use base::{Budget, Refused};
 use certificate::Certificate;
 use graph::{Lit, Model, Property, Seq};
 use live_safe::{LiveError, to_safety};
-use std::alloc::{AllocError, Global};
+use std::alloc::Global;
 
 /// The clauses, in memory of their own.
-fn copied(alloc: Global, invariant: &[Seq<Lit>]) -> Result<Seq<Seq<Lit>>, AllocError>
+fn copied(alloc: Global, invariant: &[Seq<Lit>]) -> Result<Seq<Seq<Lit>>, Refused>
     ensures { IfOk result (λ copy. copy ≡ invariant.now) }
 {
     let mut copy = Seq::new(alloc);
@@ -59,7 +59,7 @@ fn certify_for(
         Err(Halt::NotInvariant) => Ok(Certified::NotInvariant),
         Err(Halt::Spent) => Ok(Certified::Spent),
         Err(Halt::Limit) => Err(CertifyError::Limit),
-        Err(Halt::OutOfMemory) => Err(CertifyError::OutOfMemory),
+        Err(Halt::OutOfMemory(refused)) => Err(CertifyError::OutOfMemory(refused)),
     }
 }
 
@@ -100,7 +100,7 @@ fn certify_justice(
         Ok(shadow) => certify_for(alloc, &shadow, 0, Property::Justice(n), invariant, budget),
         Err(LiveError::NoProperty(_)) => Err(CertifyError::NoProperty(n)),
         Err(LiveError::Limit) => Err(CertifyError::Limit),
-        Err(LiveError::OutOfMemory) => Err(CertifyError::OutOfMemory),
+        Err(LiveError::OutOfMemory(refused)) => Err(CertifyError::OutOfMemory(refused)),
     }
 }
 

@@ -6,7 +6,7 @@ ghost use Rattle.checker.specs.Accepted.{IsGood};
 ghost use Rattle.certify.specs.Causes.{IsFault};
 
 use crate::certify_error::CertifyError;
-use checker::{CheckError, check_clauses};
+use checker::{ClauseError, check_clauses};
 use cnf::NextTable;
 use graph::{Lit, Model, Seq};
 use std::alloc::Global;
@@ -25,14 +25,11 @@ pub fn examine(alloc: Global, model: &Model, invariant: &[Seq<Lit>]) -> Result<(
     if invariant.len() > MOST_CLAUSES {
         return Err(CertifyError::Limit);
     }
-    let Ok(table) = NextTable::new(alloc, model) else {
-        return Err(CertifyError::OutOfMemory);
-    };
+    let table = NextTable::new(alloc, model)?;
     match check_clauses(alloc, model, &table, invariant) {
         Ok(()) => Ok(()),
-        Err(CheckError::NotLatch { clause }) => Err(CertifyError::NotLatch { clause }),
-        Err(CheckError::Repeated { clause }) => Err(CertifyError::Repeated { clause }),
-        // there is no other cause but out of memory
-        Err(_) => Err(CertifyError::OutOfMemory),
+        Err(ClauseError::NotLatch { clause }) => Err(CertifyError::NotLatch { clause }),
+        Err(ClauseError::Repeated { clause }) => Err(CertifyError::Repeated { clause }),
+        Err(ClauseError::OutOfMemory(refused)) => Err(CertifyError::OutOfMemory(refused)),
     }
 }

@@ -1,11 +1,12 @@
 //! Why no further case is proved.
 
 ghost use Rattle.std.specs.Prelude.{◌≡◌};
-ghost use Rattle.certify.specs.Halts.{of_cnf, of_solver};
+ghost use Rattle.base.specs.Witness.{witness};
+ghost use Rattle.certify.specs.Halts.{of_solver};
+ghost use Rattle.certify.specs.declared.halt.Halt.TheVariants.{OutOfMemory};
 
-use cnf::CnfError;
+use base::Refused;
 use solver::SatError;
-use std::alloc::AllocFailed;
 
 /// Why no further case is proved.
 #[derive(Clone, Copy, Debug, PartialEq, Eq)]
@@ -16,8 +17,8 @@ pub enum Halt {
     Spent,
     /// A solver has used up its ids.
     Limit,
-    /// Want of memory.
-    OutOfMemory,
+    /// Out of memory.
+    OutOfMemory(Refused),
 }
 
 impl From<SatError> for Halt {
@@ -26,28 +27,15 @@ impl From<SatError> for Halt {
     fn from(e: SatError) -> Halt {
         match e {
             SatError::Limit => Halt::Limit,
-            SatError::OutOfMemory => Halt::OutOfMemory,
+            SatError::OutOfMemory(refused) => Halt::OutOfMemory(refused),
         }
     }
 }
 
-impl From<CnfError> for Halt {
-    ghost from_gives = { λ e h. h ≡ of_cnf e };
+impl From<Refused> for Halt {
+    ghost from_gives = { λ _ h. h ≡ OutOfMemory witness };
 
-    fn from(e: CnfError) -> Halt {
-        match e {
-            CnfError::Limit => Halt::Limit,
-            CnfError::OutOfMemory => Halt::OutOfMemory,
-        }
-    }
-}
-
-impl<T: Drop> From<AllocFailed<T>> for Halt {
-    ghost use Rattle.certify.specs.declared.halt.Halt.TheVariants.{OutOfMemory};
-
-    ghost from_gives = { λ _ h. h ≡ OutOfMemory };
-
-    fn from(_e: AllocFailed<T>) -> Halt {
-        Halt::OutOfMemory
+    fn from(refused: Refused) -> Halt {
+        Halt::OutOfMemory(refused)
     }
 }

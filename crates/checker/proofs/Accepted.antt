@@ -1,6 +1,7 @@
 -- What an accepted certificate shows.
 use Rattle.std.proofs.Common.{◌≡◌, ◌≢◌, ℕ, zero, suc, ◌+◌, ◌*◌, ◌<◌, ◌≤◌, List, [], ◌∷◌, ◌++◌, map, length, get_or, All, AllPairs, Some, Result, Ok, Err, OnOk, slice_get, inl, inr, refl, sym, ◌∙◌, ap, subst, arith, length-append}
 use Rattle.std.proofs.lemmas.List.{get_or_at, get_or_append_left, map-append}
+use Rattle.base.specs.Witness.{witness}
 use Rattle.graph.specs.declared.circuit.Lit.{Lit}
 use Rattle.graph.specs.declared.circuit.Property.{Property}
 use Rattle.graph.specs.declared.circuit.Property.TheVariants.{Bad, Justice}
@@ -21,10 +22,12 @@ use Rattle.cnf.proofs.Safety.{safety_law}
 use Rattle.certificate.specs.declared.certificate.Certificate.{Certificate}
 use Rattle.checker.specs.declared.check_error.CheckError.{CheckError}
 use Rattle.checker.specs.declared.check_error.CheckError.TheVariants.{NoProperty, Limit, Sections, NotLatch, Repeated, Section, OutOfMemory}
+use Rattle.checker.specs.declared.clause_error.ClauseError.{ClauseError}
+use Rattle.checker.specs.declared.clause_error.ClauseError.TheVariants as clauses
 use Rattle.checker.specs.declared.invariant.ClauseFault.{ClauseFault}
 use Rattle.checker.specs.declared.invariant.ClauseFault.TheVariants as fault
 use Rattle.checker.specs.Accepted.{cases, IsProofOf, RefuteBelow, IsGood, IsAcceptedFor, IsShowable, circuit_of, bad_of, IsUpheld, IsAcceptedCertificate, AcceptedLaw}
-use Rattle.checker.specs.Causes.{HasCause, HasCauseFor, IsOfCircuit, IsClausesFault, IsFirstFault, IsSectionFault, IsCounted, IsLatch, IsAmong}
+use Rattle.checker.specs.Causes.{HasCause, HasCauseFor, IsOfCircuit, IsClausesFault, of_clauses, IsFirstFault, IsSectionFault, IsCounted, IsLatch, IsAmong}
 use Rattle.checker.proofs.InOrder.{case_init, case_step, case_bad}
 
 -- nothing satisfies the clauses of a case that a proof refutes
@@ -87,7 +90,7 @@ first_fault_refuses m inv k fault.Repeated f good =
     let g = f.faulty in no_repeat m f.clause g.before g.after g.literal g.are g.faulty.1 (middle m inv f.before f.after f.clause f.are good)
 
 -- what has a cause is not accepted
-cause_refuses_for : (m : Parts) (n : ℕ) (c : Certificate) (e : CheckError) → HasCauseFor m n c e → e ≢ OutOfMemory → IsAcceptedFor m n c → ⊥
+cause_refuses_for : (m : Parts) (n : ℕ) (c : Certificate) (e : CheckError) → HasCauseFor m n c e → e ≢ OutOfMemory witness → IsAcceptedFor m n c → ⊥
 cause_refuses_for m n c (NoProperty k) cause ne accepted = cause
 cause_refuses_for m n c Limit cause ne accepted = let few = accepted.few in omega (arith, cause, few)
 cause_refuses_for m n c (Sections k) cause ne accepted = cause.2 (cause.1 ∙ accepted.count)
@@ -96,12 +99,12 @@ cause_refuses_for m n c (Repeated k) cause ne accepted = first_fault_refuses m c
 cause_refuses_for m n c (Section e k) cause ne accepted =
     let f : Formula = bad_formula m c.invariant (bad_literal m 0) in
     refused_proof_not _ _ e (cause.2.refused f []) cause.2.other (accepted.sections k cause.2.stands f []).1
-cause_refuses_for m n c OutOfMemory cause ne accepted = ne refl
+cause_refuses_for m n c (OutOfMemory refused) cause ne accepted = ne refl
 
-of_circuit_refuses : (m : Parts) (c : Certificate) (e : CheckError) → IsOfCircuit m c e → e ≢ OutOfMemory → IsAcceptedCertificate m c → ⊥
+of_circuit_refuses : (m : Parts) (c : Certificate) (e : CheckError) → IsOfCircuit m c e → e ≢ OutOfMemory witness → IsAcceptedCertificate m c → ⊥
 of_circuit_refuses m c e cause ne accepted = cause_refuses_for (circuit_of m c.property) (bad_of c.property) c e cause.cause ne accepted.accepted
 
-pub cause_refuses : (m : Parts) (c : Certificate) (e : CheckError) → HasCause m c e → e ≢ OutOfMemory → IsAcceptedCertificate m c → ⊥
+pub cause_refuses : (m : Parts) (c : Certificate) (e : CheckError) → HasCause m c e → e ≢ OutOfMemory witness → IsAcceptedCertificate m c → ⊥
 cause_refuses m c (NoProperty n) cause ne accepted = cause.1 accepted.showable.exists
 cause_refuses m c Limit (inl large) ne accepted = let within = accepted.showable.within in let over = large.1 in omega (arith, within, over)
 cause_refuses m c Limit (inr cause) ne accepted = of_circuit_refuses m c Limit cause ne accepted
@@ -109,7 +112,7 @@ cause_refuses m c (Sections n) cause ne accepted = of_circuit_refuses m c (Secti
 cause_refuses m c (NotLatch k) cause ne accepted = of_circuit_refuses m c (NotLatch k) cause ne accepted
 cause_refuses m c (Repeated k) cause ne accepted = of_circuit_refuses m c (Repeated k) cause ne accepted
 cause_refuses m c (Section e k) cause ne accepted = of_circuit_refuses m c (Section e k) cause ne accepted
-cause_refuses m c OutOfMemory cause ne accepted = absurd (ne refl)
+cause_refuses m c (OutOfMemory refused) cause ne accepted = absurd (ne refl)
 
 -- a cause for the property's circuit is one
 cause_of_circuit : (m : Parts) (c : Certificate) (e : CheckError) → IsShowable m c.property → HasCauseFor (circuit_of m c.property) (bad_of c.property) c e → HasCause m c e
@@ -119,7 +122,7 @@ cause_of_circuit m c (Sections n) showable cause = record { showable = showable;
 cause_of_circuit m c (NotLatch k) showable cause = record { showable = showable; cause = cause }
 cause_of_circuit m c (Repeated k) showable cause = record { showable = showable; cause = cause }
 cause_of_circuit m c (Section e k) showable cause = record { showable = showable; cause = cause }
-cause_of_circuit m c OutOfMemory showable cause = tt
+cause_of_circuit m c (OutOfMemory refused) showable cause = tt
 
 -- a cause for the circuit of the certificate's property, whatever names that
 pub property_cause : (m : Parts) (c : Certificate) (p : Property) (e : CheckError) → c.property ≡ p → IsShowable m p → HasCauseFor (circuit_of m p) (bad_of p) c e → HasCause m c e
@@ -163,25 +166,21 @@ accepted_from m c n inv ps opened good refute =
           (subst (λ s. RefuteBelow (cases m inv (bad_literal m n)) s (length s)) opened.is_ps refute);
     }
 
-clauses_cause_of : (m : Parts) (n : ℕ) (c : Certificate) (e : CheckError) → IsCounted m n c → IsClausesFault m c.invariant e → HasCauseFor m n c e
-clauses_cause_of m n c (NotLatch k) counts fault = (counts, fault)
-clauses_cause_of m n c (Repeated k) counts fault = (counts, fault)
-clauses_cause_of m n c OutOfMemory counts fault = tt
-clauses_cause_of m n c (NoProperty k) counts fault = absurd fault
-clauses_cause_of m n c Limit counts fault = absurd fault
-clauses_cause_of m n c (Sections k) counts fault = absurd fault
-clauses_cause_of m n c (Section e k) counts fault = absurd fault
+clauses_cause_of : (m : Parts) (n : ℕ) (c : Certificate) (e : ClauseError) → IsCounted m n c → IsClausesFault m c.invariant e → HasCauseFor m n c (of_clauses e)
+clauses_cause_of m n c (clauses.NotLatch k) counts fault = (counts, fault)
+clauses_cause_of m n c (clauses.Repeated k) counts fault = (counts, fault)
+clauses_cause_of m n c (clauses.OutOfMemory refused) counts fault = tt
 
 -- a refusal of the clauses, and one of the sections, is a cause
-pub clauses_cause : (m : Parts) (c : Certificate) (n : ℕ) (inv : List (List Lit)) (ps : List (List Line)) → IsOpened m c n inv ps → (e : CheckError) →
-    IsClausesFault m inv e → HasCauseFor m n c e
+pub clauses_cause : (m : Parts) (c : Certificate) (n : ℕ) (inv : List (List Lit)) (ps : List (List Line)) → IsOpened m c n inv ps → (e : ClauseError) →
+    IsClausesFault m inv e → HasCauseFor m n c (of_clauses e)
 clauses_cause m c n inv ps opened e fault =
     clauses_cause_of m n c e (counted m c n inv ps opened) (subst (λ i. IsClausesFault m i e) opened.is_inv fault)
 
 section_cause_of : (m : Parts) (n : ℕ) (c : Certificate) (e : CheckError) → IsCounted m n c → All (IsGood m) c.invariant →
     IsSectionFault (cases m c.invariant (bad_literal m n)) c.sections e → HasCauseFor m n c e
 section_cause_of m n c (Section e k) counts good fault = (counts, good, fault)
-section_cause_of m n c OutOfMemory counts good fault = tt
+section_cause_of m n c (OutOfMemory refused) counts good fault = tt
 section_cause_of m n c (NoProperty k) counts good fault = absurd fault
 section_cause_of m n c Limit counts good fault = absurd fault
 section_cause_of m n c (Sections k) counts good fault = absurd fault

@@ -1,5 +1,6 @@
 -- What the answers to a circuit and a certificate say.
 use Rattle.std.proofs.Common.{◌≡◌, ℕ, List, inl, inr, refl, ap, subst}
+use Rattle.base.specs.Witness.{witness}
 use Rattle.graph.specs.declared.circuit.Property.{Property}
 use Rattle.graph.specs.File.{File}
 use Rattle.aiger.specs.Loading.{IsFileOf, SpellsNoFile}
@@ -24,7 +25,7 @@ use Rattle.checker.proofs.Said.{stops, stops_more}
 pub first_stops : (xs ys : List ℕ) (s : Stop) → IsStop (SpellsNoFile xs) s → IsStop (IsRefusal xs ys) s
 first_stops xs ys s is = stops_more (SpellsNoFile xs) (IsRefusal xs ys) s (λ n none. inl none) is
 
-pub text_stops : (ys : List ℕ) (e : CertError) → ((c : Certificate) → SpellsCertificate ys c → e ≡ NoMemory) → IsStop (SpellsNoCertificate ys) (stop_of (certificate_number e))
+pub text_stops : (ys : List ℕ) (e : CertError) → ((c : Certificate) → SpellsCertificate ys c → e ≡ NoMemory witness) → IsStop (SpellsNoCertificate ys) (stop_of (certificate_number e))
 text_stops ys e only =
     stops (SpellsNoCertificate ys) (certificate_number e)
     (λ other. record { none = λ c s. other (ap certificate_number (only c s)); error = e; other = λ is. other (ap certificate_number is); number = refl })

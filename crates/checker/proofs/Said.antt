@@ -24,7 +24,7 @@ stops N n reason = elim (cases_eq n 20) [
 
 pub stops_more : (M N : ℕ → Type 0) (s : Stop) → ((n : ℕ) → M n → N n) → IsStop M s → IsStop N s
 stops_more M N (stop.No n) more is = more n is
-stops_more M N stop.OutOfMemory more is = tt
+stops_more M N (stop.OutOfMemory refused) more is = tt
 stops_more M N stop.Device more is = tt
 
 pub load_stops : (xs : List ℕ) (e : LoadError) → IsLoadRefusal xs e → IsStop (SpellsNoFile xs) (stop_of_load e)
@@ -37,14 +37,14 @@ pub told_yes : (q : Question) (P : Property → Type 0) (N : ℕ → Type 0) (r 
     Tells q r said before after → said ≡ true → (p : Property) × P p × Appends before after (yes_line q p)
 told_yes q P N (Ok p) said before after says told holds = (p, says, told.1)
 told_yes q P N (Err (stop.No n)) said before after says told holds = absurd (let e : false ≡ true = sym told.0 ∙ holds in cc)
-told_yes q P N (Err stop.OutOfMemory) said before after says told holds = absurd told
+told_yes q P N (Err (stop.OutOfMemory refused)) said before after says told holds = absurd told
 told_yes q P N (Err stop.Device) said before after says told holds = absurd told
 
 pub told_no : (q : Question) (P : Property → Type 0) (N : ℕ → Type 0) (r : Result Property Stop) (said : Bool) (before after : Option (List ℕ)) → MatchResult r P (IsStop N) →
     Tells q r said before after → said ≡ false → (n : ℕ) × N n × Appends before after (no_line n)
 told_no q P N (Ok p) said before after says told fails = absurd (let e : true ≡ false = sym told.0 ∙ fails in cc)
 told_no q P N (Err (stop.No n)) said before after says told fails = (n, says, told.1)
-told_no q P N (Err stop.OutOfMemory) said before after says told fails = absurd told
+told_no q P N (Err (stop.OutOfMemory refused)) said before after says told fails = absurd told
 told_no q P N (Err stop.Device) said before after says told fails = absurd told
 
 -- where there is no reason for a no
@@ -52,14 +52,14 @@ pub told_exact : (q : Question) (P : Property → Type 0) (N : ℕ → Type 0) (
     Tells q r said before after → ((n : ℕ) → N n → ⊥) → said ≡ true
 told_exact q P N (Ok p) said before after says told none = told.0
 told_exact q P N (Err (stop.No n)) said before after says told none = absurd (none n says)
-told_exact q P N (Err stop.OutOfMemory) said before after says told none = absurd told
+told_exact q P N (Err (stop.OutOfMemory refused)) said before after says told none = absurd told
 told_exact q P N (Err stop.Device) said before after says told none = absurd told
 
 pub told_begun : (q : Question) (P : Property → Type 0) (N : ℕ → Type 0) (r : Result Property Stop) (before after : Option (List ℕ)) → MatchResult r P (IsStop N) → BeginsToTell q r before after →
     ((p : Property) × P p × PutsBeginning before after (yes_line q p)) ⊎ ((n : ℕ) × N n × PutsBeginning before after (no_line n))
 told_begun q P N (Ok p) before after says begun = inl (p, says, begun)
 told_begun q P N (Err (stop.No n)) before after says begun = inr (n, says, begun)
-told_begun q P N (Err stop.OutOfMemory) before after says begun = absurd begun
+told_begun q P N (Err (stop.OutOfMemory refused)) before after says begun = absurd begun
 told_begun q P N (Err stop.Device) before after says begun = absurd begun
 
 -- ---- of results

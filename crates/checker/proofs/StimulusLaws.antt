@@ -1,5 +1,6 @@
 -- What the answers to a circuit and a stimulus say.
 use Rattle.std.proofs.Common.{◌≡◌, ◌≢◌, ℕ, List, inl, inr, refl, ap, subst}
+use Rattle.base.specs.Witness.{witness}
 use Rattle.graph.specs.declared.circuit.Property.{Property}
 use Rattle.graph.specs.File.{File}
 use Rattle.aiger.specs.Loading.{IsFileOf, SpellsNoFile}
@@ -22,7 +23,7 @@ use Rattle.checker.proofs.Said.{stops, stops_more}
 pub first_stops : (xs ys : List ℕ) (s : Stop) → IsStop (SpellsNoFile xs) s → IsStop (IsRunRefusal xs ys) s
 first_stops xs ys s is = stops_more (SpellsNoFile xs) (IsRunRefusal xs ys) s (λ n none. inl none) is
 
-pub text_stops : (ys : List ℕ) (e : StimError) → ((s : Stimulus) → SpellsStimulus ys s → e ≡ NoMemory) → IsStop (SpellsNoStimulus ys) (stop_of (stim_number_of e))
+pub text_stops : (ys : List ℕ) (e : StimError) → ((s : Stimulus) → SpellsStimulus ys s → e ≡ NoMemory witness) → IsStop (SpellsNoStimulus ys) (stop_of (stim_number_of e))
 text_stops ys e only =
     stops (SpellsNoStimulus ys) (stim_number_of e)
     (λ other. record { none = λ s spells. other (ap stim_number_of (only s spells)); error = e; other = λ is. other (ap stim_number_of is); number = refl })
@@ -30,7 +31,7 @@ text_stops ys e only =
 pub second_stops : (xs ys : List ℕ) (f : File) (s : Stop) → IsFileOf xs f → IsStop (SpellsNoStimulus ys) s → IsStop (IsRunRefusal xs ys) s
 second_stops xs ys f s first is = stops_more (SpellsNoStimulus ys) (IsRunRefusal xs ys) s (λ n none. inr (inl (f, first, none))) is
 
-pub judge_stops : (xs ys : List ℕ) (f : File) (s : Stimulus) (e : JudgeError) → IsFileOf xs f → IsStimulusOf ys s → HasCause f.model s e → (e ≢ OutOfMemory → Shows f.model s → ⊥) →
+pub judge_stops : (xs ys : List ℕ) (f : File) (s : Stimulus) (e : JudgeError) → IsFileOf xs f → IsStimulusOf ys s → HasCause f.model s e → (e ≢ OutOfMemory witness → Shows f.model s → ⊥) →
     IsStop (IsRunRefusal xs ys) (stop_of (judge_number_of e))
 judge_stops xs ys f s e first second cause none =
     stops (IsRunRefusal xs ys) (judge_number_of e)

@@ -1,5 +1,6 @@
 -- Why a certificate is not accepted: the first cause.
 use Rattle.std.specs.Prelude.{◌≡◌, ◌≢◌, ℕ, ◌+◌, ◌*◌, ◌<◌, ◌⊎◌, List, ◌∷◌, ◌++◌, map, length, slice_index_or, All, Contains}
+use Rattle.base.specs.Witness.{witness}
 use Rattle.graph.specs.declared.circuit.Lit.{Lit}
 use Rattle.graph.specs.declared.parts.Parts.{Parts}
 use Rattle.graph.specs.Properties.{position_of}
@@ -13,6 +14,8 @@ use Rattle.cnf.specs.Formulas.{bad_literal}
 use Rattle.certificate.specs.declared.certificate.Certificate.{Certificate}
 use Rattle.checker.specs.declared.check_error.CheckError.{CheckError}
 use Rattle.checker.specs.declared.check_error.CheckError.TheVariants.{NoProperty, Limit, Sections, NotLatch, Repeated, Section, OutOfMemory}
+use Rattle.checker.specs.declared.clause_error.ClauseError.{ClauseError}
+use Rattle.checker.specs.declared.clause_error.ClauseError.TheVariants as clauses
 use Rattle.checker.specs.declared.invariant.ClauseFault.{ClauseFault}
 use Rattle.checker.specs.declared.invariant.ClauseFault.TheVariants as fault
 use Rattle.checker.specs.Accepted.{IsGood, cases, RefuteBelow, HasProperty, IsShowable, circuit_of, bad_of}
@@ -54,21 +57,27 @@ pub record IsFirstRefused (fs : List Formula) (ps : List (List Line)) (e : StepE
   pub stands : k < length ps
   pub earlier : RefuteBelow fs ps k
   pub refused : (f : Formula) (p : List Line) → IsRefusedProof (slice_index_or fs k f) (slice_index_or ps k p) e
-  pub other : e.fault ≢ NoMemory
+  pub other : e.fault ≢ NoMemory witness
 
 -- how the refusal of a proof is told of the section at k: out of memory has no section
 abbrev pub IsSectionError : StepError → ℕ → CheckError → Type 0
-IsSectionError e k r = ((e.fault ≡ NoMemory) × (r ≡ OutOfMemory)) ⊎ ((e.fault ≢ NoMemory) × (r ≡ Section e k))
+IsSectionError e k r = ((e.fault ≡ NoMemory witness) × (r ≡ OutOfMemory witness)) ⊎ ((e.fault ≢ NoMemory witness) × (r ≡ Section e k))
 
-abbrev pub IsClausesFault : Parts → List (List Lit) → CheckError → Type 0
-IsClausesFault m inv (NotLatch k) = IsFirstFault m inv k fault.NotLatch
-IsClausesFault m inv (Repeated k) = IsFirstFault m inv k fault.Repeated
-IsClausesFault m inv OutOfMemory = Unit {0}
-IsClausesFault m inv _ = ⊥
+-- the first clause that is not good; memory is no fault of the clauses
+abbrev pub IsClausesFault : Parts → List (List Lit) → ClauseError → Type 0
+IsClausesFault m inv (clauses.NotLatch k) = IsFirstFault m inv k fault.NotLatch
+IsClausesFault m inv (clauses.Repeated k) = IsFirstFault m inv k fault.Repeated
+IsClausesFault m inv (clauses.OutOfMemory refused) = Unit {0}
+
+-- what a refusal of the clauses is for the certificate
+abbrev pub of_clauses : ClauseError → CheckError
+of_clauses (clauses.NotLatch k) = NotLatch k
+of_clauses (clauses.Repeated k) = Repeated k
+of_clauses (clauses.OutOfMemory refused) = OutOfMemory witness
 
 abbrev pub IsSectionFault : List Formula → List (List Line) → CheckError → Type 0
 IsSectionFault fs ps (Section e k) = IsFirstRefused fs ps e k
-IsSectionFault fs ps OutOfMemory = Unit {0}
+IsSectionFault fs ps (OutOfMemory refused) = Unit {0}
 IsSectionFault fs ps _ = ⊥
 
 -- the counts are in order
@@ -86,7 +95,7 @@ HasCauseFor m n c (Sections k) = (length c.invariant < 4194304) × (k ≡ length
 HasCauseFor m n c (NotLatch k) = IsCounted m n c × IsFirstFault m c.invariant k fault.NotLatch
 HasCauseFor m n c (Repeated k) = IsCounted m n c × IsFirstFault m c.invariant k fault.Repeated
 HasCauseFor m n c (Section e k) = IsCounted m n c × All (IsGood m) c.invariant × IsFirstRefused (cases m c.invariant (bad_literal m n)) c.sections e k
-HasCauseFor m n c OutOfMemory = Unit {0}
+HasCauseFor m n c (OutOfMemory refused) = Unit {0}
 
 -- it is the first cause for the property's circuit
 pub record IsOfCircuit (m : Parts) (c : Certificate) (e : CheckError) : Type 0 where
@@ -101,4 +110,4 @@ HasCause m c (Sections n) = IsOfCircuit m c (Sections n)
 HasCause m c (NotLatch k) = IsOfCircuit m c (NotLatch k)
 HasCause m c (Repeated k) = IsOfCircuit m c (Repeated k)
 HasCause m c (Section e k) = IsOfCircuit m c (Section e k)
-HasCause m c OutOfMemory = Unit {0}
+HasCause m c (OutOfMemory refused) = Unit {0}

@@ -24,12 +24,12 @@ no_line n = codes "no " ++ decimal n ++ codes "\n"
 abbrev pub Tells : Question → Result Property Stop → Bool → Option (List ℕ) → Option (List ℕ) → Type 0
 Tells question (Ok p) said before after = (said ≡ true) × Appends before after (yes_line question p)
 Tells question (Err (No n)) said before after = (said ≡ false) × Appends before after (no_line n)
-Tells question (Err OutOfMemory) said before after = ⊥
+Tells question (Err (OutOfMemory refused)) said before after = ⊥
 Tells question (Err Device) said before after = ⊥
 
 -- a beginning of the line was put
 abbrev pub BeginsToTell : Question → Result Property Stop → Option (List ℕ) → Option (List ℕ) → Type 0
 BeginsToTell question (Ok p) before after = PutsBeginning before after (yes_line question p)
 BeginsToTell question (Err (No n)) before after = PutsBeginning before after (no_line n)
-BeginsToTell question (Err OutOfMemory) before after = ⊥
+BeginsToTell question (Err (OutOfMemory refused)) before after = ⊥
 BeginsToTell question (Err Device) before after = ⊥

@@ -13,7 +13,7 @@ number_of (Sections n) = 34
 number_of (NotLatch k) = 32
 number_of (Repeated k) = 33
 number_of (Section e k) = fault_number e.fault
-number_of OutOfMemory = 20
+number_of (OutOfMemory refused) = 20
 
 abbrev pub place_of : CheckError → ℕ
 place_of (NoProperty n) = n
@@ -22,12 +22,12 @@ place_of (Sections n) = n
 place_of (NotLatch k) = k
 place_of (Repeated k) = k
 place_of (Section e k) = e.line
-place_of OutOfMemory = 0
+place_of (OutOfMemory refused) = 0
 
 abbrev pub section_of : CheckError → ℕ
 section_of (Section e k) = k
 section_of _ = 0
 
 abbrev pub run_number_of : RunError → ℕ
-run_number_of NoMemory = 20
+run_number_of (NoMemory refused) = 20
 run_number_of Device = 21

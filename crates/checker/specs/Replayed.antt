@@ -1,6 +1,7 @@
 -- What is said of a circuit's text and a stimulus's, and what it means.
 use Rattle.std.specs.Prelude.{◌≡◌, ◌≢◌, ℕ, ◌⊎◌, List, Option}
 use Rattle.base.specs.Devices.{PutsBeginning}
+use Rattle.base.specs.Witness.{witness}
 use Rattle.graph.specs.declared.circuit.Property.{Property}
 use Rattle.graph.specs.File.{File}
 use Rattle.aiger.specs.Layouts.{SpellsFile}
@@ -35,14 +36,14 @@ pub record IsStimulusOf (ys : List ℕ) (s : Stimulus) : Type 0 where
 pub record SpellsNoStimulus (ys : List ℕ) (n : ℕ) : Type 0 where
   pub none : (s : Stimulus) → SpellsStimulus ys s → ⊥
   pub error : StimError
-  pub other : error ≢ NoMemory
+  pub other : error ≢ NoMemory witness
   pub number : n ≡ stim_number_of error
 
 -- the stimulus shows no violation in the circuit, and the number is that of the first cause
 pub record IsNotShown (f : File) (s : Stimulus) (n : ℕ) : Type 0 where
   pub none : Shows f.model s → ⊥
   pub error : JudgeError
-  pub other : error ≢ OutOfMemory
+  pub other : error ≢ OutOfMemory witness
   pub cause : HasCause f.model s error
   pub number : n ≡ judge_number_of error
 

@@ -1,5 +1,6 @@
 -- Where the reading and checking of two texts stops.
 use Rattle.std.specs.Prelude.{◌≡◌, ℕ, ◌+◌, ◌⊎◌, ◌==◌, if◌then◌else◌, Result, IsErrOf}
+use Rattle.base.specs.Witness.{witness}
 use Rattle.graph.specs.Refusals.{number_of as read_number}
 use Rattle.aiger.specs.declared.load_error.LoadError.{LoadError}
 use Rattle.aiger.specs.declared.load_error.LoadError.TheVariants.{Refused, Device as LoadDevice}
@@ -8,7 +9,7 @@ use Rattle.checker.specs.declared.stop.Stop.TheVariants.{No, OutOfMemory, Device
 
 -- a refusal is a no with its number, but for out of memory
 abbrev pub stop_of : ℕ → Stop
-stop_of n = if n == 20 then OutOfMemory else No n
+stop_of n = if n == 20 then OutOfMemory witness else No n
 
 abbrev pub stop_of_load : LoadError → Stop
 stop_of_load (Refused e) = stop_of (read_number e)
@@ -17,7 +18,7 @@ stop_of_load LoadDevice = Device
 -- where it stops, a no has a number of which this holds
 abbrev pub IsStop : (ℕ → Type 0) → Stop → Type 0
 IsStop IsNo (No n) = IsNo n
-IsStop IsNo OutOfMemory = Unit {0}
+IsStop IsNo (OutOfMemory refused) = Unit {0}
 IsStop IsNo Device = Unit {0}
 
 -- the device failed once where it stops for a device, and else not

@@ -1,6 +1,7 @@
 -- What is said of a circuit's text and a certificate's, and what it means.
 use Rattle.std.specs.Prelude.{◌≡◌, ◌≢◌, ℕ, ◌⊎◌, List, Option}
 use Rattle.base.specs.Devices.{PutsBeginning}
+use Rattle.base.specs.Witness.{witness}
 use Rattle.graph.specs.declared.circuit.Property.{Property}
 use Rattle.graph.specs.File.{File}
 use Rattle.aiger.specs.Layouts.{SpellsFile}
@@ -41,13 +42,13 @@ pub record IsCertificateOf (ys : List ℕ) (c : Certificate) : Type 0 where
 pub record SpellsNoCertificate (ys : List ℕ) (n : ℕ) : Type 0 where
   pub none : (c : Certificate) → SpellsCertificate ys c → ⊥
   pub error : CertError
-  pub other : error ≢ NoMemory
+  pub other : error ≢ NoMemory witness
   pub number : n ≡ certificate_number error
 
 -- the certificate is not accepted for the circuit, and the number is that of the first cause
 pub record IsNotAccepted (f : File) (c : Certificate) (n : ℕ) : Type 0 where
   pub error : CheckError
-  pub other : error ≢ OutOfMemory
+  pub other : error ≢ OutOfMemory witness
   pub cause : HasCause f.model c error
   pub number : n ≡ number_of error
 

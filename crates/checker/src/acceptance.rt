@@ -1,6 +1,7 @@
 //! Whether a certificate is accepted.
 
 ghost use Rattle.std.specs.Prelude.{◌≡◌, ◌≢◌, ◌<◌, length, IfErr, OnOk};
+ghost use Rattle.base.specs.Witness.{witness};
 ghost use Rattle.graph.specs.declared.circuit.Property.TheVariants.{Bad, Justice};
 ghost use Rattle.checker.specs.Accepted.{IsAcceptedFor, IsAcceptedCertificate, IsUpheld};
 ghost use Rattle.checker.specs.Causes.{HasCause, HasCauseFor};
@@ -79,7 +80,7 @@ fn examine_justice(
         Ok(shadow) => examine(alloc, &shadow, 0, certificate),
         Err(LiveError::NoProperty(_)) => Err(CheckError::NoProperty { property: n }),
         Err(LiveError::Limit) => Err(CheckError::Limit),
-        Err(LiveError::OutOfMemory) => Err(CheckError::OutOfMemory),
+        Err(LiveError::OutOfMemory(refused)) => Err(CheckError::OutOfMemory(refused)),
     }
 }
 
@@ -93,7 +94,7 @@ fn examine_justice(
 pub fn check(alloc: Global, model: &Model, certificate: &Certificate) -> Result<(), CheckError>
     ensures accepted { OnOk result (IsAcceptedCertificate model.now certificate.now) }
     ensures refused { IfErr result (HasCause model.now certificate.now) }
-    ensures complete { IfErr result (λ e. e ≢ OutOfMemory → IsAcceptedCertificate model.now certificate.now → ⊥) }
+    ensures complete { IfErr result (λ e. e ≢ OutOfMemory witness → IsAcceptedCertificate model.now certificate.now → ⊥) }
     ensures upheld { OnOk result (IsUpheld model.now certificate.now.property) }
 {
     model.parts();

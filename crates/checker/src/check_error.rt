@@ -1,12 +1,14 @@
 //! Why certificates are refused.
 
 ghost use Rattle.std.specs.Prelude.{◌≡◌};
+ghost use Rattle.base.specs.Witness.{witness};
+ghost use Rattle.checker.specs.Causes.{of_clauses};
 ghost use Rattle.checker.specs.Numbers.{number_of, place_of, section_of};
 ghost use Rattle.checker.specs.declared.check_error.CheckError.TheVariants.{OutOfMemory};
 
-use cnf::CnfError;
+use crate::clause_error::ClauseError;
+use base::Refused;
 use lrat::StepError;
-use std::alloc::AllocError;
 use thiserror::Error;
 
 /// Why a certificate is not accepted for a circuit.
@@ -31,23 +33,27 @@ pub enum CheckError {
     #[error("section {section}: {error}")]
     Section { error: StepError, section: u64 },
     /// out of memory
-    #[error("out of memory")]
-    OutOfMemory,
+    #[error("{0}")]
+    OutOfMemory(Refused),
 }
 
-impl From<AllocError> for CheckError {
-    ghost from_gives = { λ _ e. e ≡ OutOfMemory };
+impl From<Refused> for CheckError {
+    ghost from_gives = { λ _ e. e ≡ OutOfMemory witness };
 
-    fn from(_e: AllocError) -> CheckError {
-        CheckError::OutOfMemory
+    fn from(refused: Refused) -> CheckError {
+        CheckError::OutOfMemory(refused)
     }
 }
 
-impl From<CnfError> for CheckError {
-    ghost from_gives = { λ _ e. e ≡ OutOfMemory };
+impl From<ClauseError> for CheckError {
+    ghost from_gives = { λ e r. r ≡ of_clauses e };
 
-    fn from(_e: CnfError) -> CheckError {
-        CheckError::OutOfMemory
+    fn from(e: ClauseError) -> CheckError {
+        match e {
+            ClauseError::NotLatch { clause } => CheckError::NotLatch { clause },
+            ClauseError::Repeated { clause } => CheckError::Repeated { clause },
+            ClauseError::OutOfMemory(refused) => CheckError::OutOfMemory(refused),
+        }
     }
 }
 
@@ -58,7 +64,7 @@ impl CheckError {
     {
         match self {
             CheckError::Limit => 4,
-            CheckError::OutOfMemory => 20,
+            CheckError::OutOfMemory(_) => 20,
             CheckError::NoProperty { .. } => 30,
             CheckError::NotLatch { .. } => 32,
             CheckError::Repeated { .. } => 33,
@@ -77,7 +83,7 @@ impl CheckError {
             CheckError::Sections { found } => found,
             CheckError::NotLatch { clause } | CheckError::Repeated { clause } => clause,
             CheckError::Section { error, .. } => error.place(),
-            CheckError::Limit | CheckError::OutOfMemory => 0,
+            CheckError::Limit | CheckError::OutOfMemory(_) => 0,
         }
     }
 

@@ -5,7 +5,8 @@ ghost use Rattle.cnf.specs.Tables.{IsTableOf};
 ghost use Rattle.checker.specs.Accepted.{IsGood};
 ghost use Rattle.checker.specs.Causes.{IsClauseFault, IsClausesFault};
 
-use crate::check_error::CheckError;
+use crate::clause_error::ClauseError;
+use base::filled;
 use cnf::NextTable;
 use graph::{Lit, Model, Seq};
 use std::alloc::Global;
@@ -56,20 +57,20 @@ pub fn check_clauses(
     model: &Model,
     table: &NextTable,
     invariant: &[Seq<Lit>],
-) -> Result<(), CheckError>
+) -> Result<(), ClauseError>
     requires table { IsTableOf model.now.latches table.now }
     requires few { length invariant.now ≤ 4194303 }
     ensures good { OnOk result (All (IsGood model.now) invariant.now) }
     ensures refused { IfErr result (IsClausesFault model.now invariant.now) }
 {
     model.parts();
-    let mut seen = vec![in alloc; 0u32; model.max_var() as usize + 1]?;
+    let mut seen = filled(alloc, 0u32, model.max_var() as usize + 1)?;
     for (k, clause) in invariant.iter().enumerate() {
         let stamp = k as u32 + 1;
         match clause_fault(model, table, seen.as_mut_slice(), stamp, clause.as_slice()) {
             None => {}
-            Some(ClauseFault::NotLatch) => return Err(CheckError::NotLatch { clause: k as u64 }),
-            Some(ClauseFault::Repeated) => return Err(CheckError::Repeated { clause: k as u64 }),
+            Some(ClauseFault::NotLatch) => return Err(ClauseError::NotLatch { clause: k as u64 }),
+            Some(ClauseFault::Repeated) => return Err(ClauseError::Repeated { clause: k as u64 }),
         }
     }
     Ok(())

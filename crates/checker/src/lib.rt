@@ -20,6 +20,7 @@
 mod acceptance;
 mod certified;
 mod check_error;
+mod clause_error;
 mod invariant;
 mod line;
 mod replayed;
@@ -31,6 +32,7 @@ mod whole;
 pub use acceptance::check;
 pub use certified::run_safe;
 pub use check_error::CheckError;
+pub use clause_error::ClauseError;
 pub use invariant::check_clauses;
 pub use replayed::run_stimulus;
 pub use run_error::RunError;

@@ -3,14 +3,15 @@
 ghost use Rattle.std.specs.Prelude.{◌≡◌, ◌+◌, ◌-◌, ◌<◌, ◌^◌, ◌++◌, Err, IfOk, OnOk, OnErr, IsErrOf, decimal};
 ghost use Rattle.graph.specs.Properties.{property_text};
 ghost use Rattle.checker.specs.Lines.{BeginsToTell, Tells, yes_line as yes_text, no_line as no_text};
-ghost use Rattle.checker.specs.declared.stop.Stop.TheVariants.{OutOfMemory as NoMemory, Device as Failure};
-ghost use Rattle.checker.specs.declared.run_error.RunError.TheVariants.{OutOfMemory, Device};
+ghost use Rattle.checker.specs.declared.stop.Stop.TheVariants.{Device as Failure};
+ghost use Rattle.checker.specs.declared.run_error.RunError.TheVariants.{Device};
 
 use crate::run_error::RunError;
 use crate::stop::Stop;
+use base::{Refused, extend, push};
 use graph::{Property, Sink, put_all};
 use itoa::Buffer;
-use std::alloc::{AllocError, Global};
+use std::alloc::Global;
 
 /// What is asked of two texts.
 #[derive(Clone, Copy, Debug, PartialEq, Eq)]
@@ -22,49 +23,49 @@ pub enum Question {
 }
 
 /// Adds a number in decimal.
-fn push_number(line: &mut Vec<u8>, number: u32) -> Result<(), AllocError>
+fn push_number(line: &mut Vec<u8>, number: u32) -> Result<(), Refused>
     ensures { OnOk result (line.new.items ≡ line.old.items ++ decimal number) }
 {
     let mut buffer = Buffer::new();
-    line.extend_from_slice(buffer.format(number).as_bytes())?;
+    extend(line, buffer.format(number).as_bytes())?;
     Ok(())
 }
 
 /// Adds a property's name: `b` or `j`, and its position.
-fn push_property(line: &mut Vec<u8>, property: Property) -> Result<(), AllocError>
+fn push_property(line: &mut Vec<u8>, property: Property) -> Result<(), Refused>
     ensures { OnOk result (line.new.items ≡ line.old.items ++ property_text property) }
 {
     let (letter, position) = match property {
         Property::Bad(n) => (b'b', n),
         Property::Justice(n) => (b'j', n),
     };
-    line.push(letter)?;
+    push(line, letter)?;
     push_number(line, position)?;
     Ok(())
 }
 
 /// The line that says yes to a property.
-fn yes_line(alloc: Global, question: Question, property: Property) -> Result<Vec<u8>, AllocError>
+fn yes_line(alloc: Global, question: Question, property: Property) -> Result<Vec<u8>, Refused>
     ensures { IfOk result (λ v. v.items ≡ yes_text question property) }
 {
     let mut line = Vec::new(alloc);
     match question {
-        Question::Safe => line.extend_from_slice(b"yes safe ")?,
-        Question::Run => line.extend_from_slice(b"yes run ")?,
+        Question::Safe => extend(&mut line, b"yes safe ")?,
+        Question::Run => extend(&mut line, b"yes run ")?,
     }
     push_property(&mut line, property)?;
-    line.push(b'\n')?;
+    push(&mut line, b'\n')?;
     Ok(line)
 }
 
 /// The line that says no, with the number of the refusal.
-fn no_line(alloc: Global, number: u8) -> Result<Vec<u8>, AllocError>
+fn no_line(alloc: Global, number: u8) -> Result<Vec<u8>, Refused>
     ensures { IfOk result (λ v. v.items ≡ no_text number) }
 {
     let mut line = Vec::new(alloc);
-    line.extend_from_slice(b"no ")?;
+    extend(&mut line, b"no ")?;
     push_number(&mut line, u32::from(number))?;
-    line.push(b'\n')?;
+    push(&mut line, b'\n')?;
     Ok(line)
 }
 
@@ -87,7 +88,7 @@ pub fn tell<W: Sink>(
     let (yes, line) = match answer {
         Ok(property) => (true, yes_line(alloc, question, property)?),
         Err(Stop::No(number)) => (false, no_line(alloc, number)?),
-        Err(Stop::OutOfMemory) => return Err(RunError::OutOfMemory),
+        Err(Stop::OutOfMemory(refused)) => return Err(RunError::OutOfMemory(refused)),
         Err(Stop::Device) => return Err(RunError::Device),
     };
     put_all(out, line.as_slice())?;

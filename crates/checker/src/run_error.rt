@@ -1,29 +1,29 @@
 //! Why nothing is answered.
 
 ghost use Rattle.std.specs.Prelude.{◌≡◌};
+ghost use Rattle.base.specs.Witness.{witness};
 ghost use Rattle.checker.specs.Numbers.{run_number_of};
 ghost use Rattle.checker.specs.declared.run_error.RunError.TheVariants.{OutOfMemory, Device};
 
-use graph::Failed;
-use std::alloc::AllocError;
+use base::{Failed, Refused};
 use thiserror::Error;
 
 /// Why neither yes nor no is answered.
 #[derive(Clone, Copy, Debug, PartialEq, Eq, Error)]
 pub enum RunError {
     /// out of memory
-    #[error("out of memory")]
-    OutOfMemory,
+    #[error("{0}")]
+    OutOfMemory(Refused),
     /// a source or the sink failed
     #[error("read or write failed")]
     Device,
 }
 
-impl From<AllocError> for RunError {
-    ghost from_gives = { λ _ e. e ≡ OutOfMemory };
+impl From<Refused> for RunError {
+    ghost from_gives = { λ _ e. e ≡ OutOfMemory witness };
 
-    fn from(_e: AllocError) -> RunError {
-        RunError::OutOfMemory
+    fn from(refused: Refused) -> RunError {
+        RunError::OutOfMemory(refused)
     }
 }
 
@@ -41,7 +41,7 @@ impl RunError {
         ensures { result ≡ run_number_of self }
     {
         match self {
-            RunError::OutOfMemory => 20,
+            RunError::OutOfMemory(_) => 20,
             RunError::Device => 21,
         }
     }

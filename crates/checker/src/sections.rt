@@ -55,7 +55,7 @@ fn section_error(error: StepError, section: usize) -> CheckError
     ensures { IsSectionError error section result }
 {
     match error.fault {
-        Fault::OutOfMemory => CheckError::OutOfMemory,
+        Fault::OutOfMemory(refused) => CheckError::OutOfMemory(refused),
         _ => CheckError::Section {
             error,
             section: section as u64,

@@ -1,6 +1,9 @@
 //! Why there is no yes.
 
 ghost use Rattle.std.specs.Prelude.{◌≡◌};
+ghost use Rattle.base.specs.Witness.{witness};
+ghost use Rattle.lrat.specs.Numbers.{number_of as fault_number};
+ghost use Rattle.graph.specs.Refusals.{number_of as read_number};
 ghost use Rattle.certificate.specs.Numbers.{number_of as certificate_number};
 ghost use Rattle.stimulus.specs.Numbers.{stim_number_of, judge_number_of};
 ghost use Rattle.checker.specs.Numbers.{number_of};
@@ -9,8 +12,10 @@ ghost use Rattle.checker.specs.declared.stop.Stop.TheVariants.{OutOfMemory};
 
 use crate::check_error::CheckError;
 use aiger::LoadError;
+use base::Refused;
 use certificate::CertError;
-use std::alloc::AllocError;
+use graph::ReadError;
+use lrat::Fault;
 use stimulus::{JudgeError, StimError};
 
 /// Why there is no yes.
@@ -18,33 +23,28 @@ use stimulus::{JudgeError, StimError};
 pub enum Stop {
     /// The answer is no, for the refusal with this number.
     No(u8),
-    /// Want of memory: there is no answer.
-    OutOfMemory,
+    /// Out of memory: there is no answer.
+    OutOfMemory(Refused),
     /// A device failed: there is no answer.
     Device,
 }
 
-/// The number of out of memory.
-const OUT_OF_MEMORY: u8 = 20;
+impl From<Refused> for Stop {
+    ghost from_gives = { λ _ s. s ≡ OutOfMemory witness };
 
-impl Stop {
-    /// Where the refusal with this number stops: out of memory has its own, and all others are a no.
-    fn of_refusal(number: u8) -> Stop
-        ensures { result ≡ stop_of number }
-    {
-        if number == OUT_OF_MEMORY {
-            Stop::OutOfMemory
-        } else {
-            Stop::No(number)
-        }
+    fn from(refused: Refused) -> Stop {
+        Stop::OutOfMemory(refused)
     }
 }
 
-impl From<AllocError> for Stop {
-    ghost from_gives = { λ _ s. s ≡ OutOfMemory };
+impl From<ReadError> for Stop {
+    ghost from_gives = { λ e s. s ≡ stop_of (read_number e) };
 
-    fn from(_e: AllocError) -> Stop {
-        Stop::OutOfMemory
+    fn from(e: ReadError) -> Stop {
+        match e {
+            ReadError::OutOfMemory(refused) => Stop::OutOfMemory(refused),
+            _ => Stop::No(e.number()),
+        }
     }
 }
 
@@ -53,7 +53,7 @@ impl From<LoadError> for Stop {
 
     fn from(e: LoadError) -> Stop {
         match e {
-            LoadError::Refused(e) => Stop::of_refusal(e.number()),
+            LoadError::Refused(e) => Stop::from(e),
             LoadError::Device => Stop::Device,
         }
     }
@@ -63,7 +63,21 @@ impl From<CertError> for Stop {
     ghost from_gives = { λ e s. s ≡ stop_of (certificate_number e) };
 
     fn from(e: CertError) -> Stop {
-        Stop::of_refusal(e.number())
+        match e {
+            CertError::OutOfMemory(refused) => Stop::OutOfMemory(refused),
+            _ => Stop::No(e.number()),
+        }
+    }
+}
+
+impl From<Fault> for Stop {
+    ghost from_gives = { λ e s. s ≡ stop_of (fault_number e) };
+
+    fn from(e: Fault) -> Stop {
+        match e {
+            Fault::OutOfMemory(refused) => Stop::OutOfMemory(refused),
+            _ => Stop::No(e.number()),
+        }
     }
 }
 
@@ -71,7 +85,11 @@ impl From<CheckError> for Stop {
     ghost from_gives = { λ e s. s ≡ stop_of (number_of e) };
 
     fn from(e: CheckError) -> Stop {
-        Stop::of_refusal(e.number())
+        match e {
+            CheckError::OutOfMemory(refused) => Stop::OutOfMemory(refused),
+            CheckError::Section { error, .. } => Stop::from(error.fault),
+            _ => Stop::No(e.number()),
+        }
     }
 }
 
@@ -79,7 +97,10 @@ impl From<StimError> for Stop {
     ghost from_gives = { λ e s. s ≡ stop_of (stim_number_of e) };
 
     fn from(e: StimError) -> Stop {
-        Stop::of_refusal(e.number())
+        match e {
+            StimError::OutOfMemory(refused) => Stop::OutOfMemory(refused),
+            _ => Stop::No(e.number()),
+        }
     }
 }
 
@@ -87,6 +108,9 @@ impl From<JudgeError> for Stop {
     ghost from_gives = { λ e s. s ≡ stop_of (judge_number_of e) };
 
     fn from(e: JudgeError) -> Stop {
-        Stop::of_refusal(e.number())
+        match e {
+            JudgeError::OutOfMemory(refused) => Stop::OutOfMemory(refused),
+            _ => Stop::No(e.number()),
+        }
     }
 }

@@ -4,7 +4,8 @@ ghost use Rattle.std.specs.Prelude.{◌≡◌, ◌-◌, ◌<◌, ◌^◌, ℕ, L
 ghost use Rattle.checker.specs.Stops.{Fails, IsStop};
 
 use crate::stop::Stop;
-use graph::{ReadAllError, Source, read_all};
+use base::{ReadToEndError, read_to_end};
+use graph::Source;
 use std::alloc::Global;
 
 /// All the bytes that a source gives, however many there are.
@@ -14,9 +15,9 @@ pub fn read_whole<S: Source>(alloc: Global, source: &mut S) -> Result<Vec<u8>, S
     ensures unanswered { IfErr result (λ s. IsStop (λ _. ⊥) s) }
     ensures fails { Fails result (S.failed source.old) (S.failed source.new) }
 {
-    match read_all(alloc, source, usize::MAX) {
+    match read_to_end(alloc, source) {
         Ok(text) => Ok(text),
-        Err(ReadAllError::Device) => Err(Stop::Device),
-        Err(_) => Err(Stop::OutOfMemory),
+        Err(ReadToEndError::Device) => Err(Stop::Device),
+        Err(ReadToEndError::OutOfMemory(refused)) => Err(Stop::OutOfMemory(refused)),
     }
 }

@@ -1,10 +1,10 @@
 //! Circuits and clauses, with what comes of them.
 
-use base::Budget;
+use base::{Budget, Refused};
 use certify::{Certified, certify};
 use checker::check;
 use graph::{Gate, Latch, Lit, Model, Parts, Property, Seq};
-use std::alloc::{AllocError, Global};
+use std::alloc::Global;
 use std::test::Fail;
 
 /// What came of clauses.
@@ -59,7 +59,7 @@ static PAIR_GATES: [Gate; 3] = [
 ];
 
 /// A circuit whose bad literal is `2` or, with gates, the last gate's.
-fn circuit(alloc: Global, latches: &[Latch], gates: &[Gate]) -> Result<Parts, AllocError> {
+fn circuit(alloc: Global, latches: &[Latch], gates: &[Gate]) -> Result<Parts, Refused> {
     let bad = match gates.last() {
         Some(gate) => gate.lhs,
         None => Lit(2),

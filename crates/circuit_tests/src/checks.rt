@@ -1,10 +1,11 @@
 //! Refusals of certificates with their places.
 
+use base::Refused;
 use certificate::Certificate;
 use checker::{CheckError, check};
 use graph::{AigerFile, Lit, Property, Seq};
 use lrat::Proof;
-use std::alloc::{AllocError, Global};
+use std::alloc::Global;
 use std::test::Fail;
 
 /// A latch that keeps its value 0.
@@ -89,7 +90,7 @@ fn refusals_have_their_places(rt: HostRuntime) {
 }
 
 /// A certificate with one clause and two sections, which no text spells.
-fn without_a_section(alloc: Global) -> Result<Certificate, AllocError> {
+fn without_a_section(alloc: Global) -> Result<Certificate, Refused> {
     let mut clause = Seq::new(alloc);
     clause.push(Lit(3))?;
     let mut invariant = Seq::new(alloc);

@@ -1,10 +1,10 @@
-//! Circuits that no text spells: refusals of parts and of lists of symbols, and that a deep chain of gates
-//! costs no stack.
+//! Circuits that no text spells: refusals of parts and of lists of symbols.
 
+use base::Refused;
 use graph::{
     AigerFile, Gate, Latch, Lit, Model, Parts, ReadError, Seq, Symbol, SymbolKind, is_name,
 };
-use std::alloc::{AllocError, Global};
+use std::alloc::Global;
 use std::test::Fail;
 
 /// Parts from plain numbers: a latch and a gate are three literals each.
@@ -17,7 +17,7 @@ struct Plain<'a> {
     gates: &'a [(u32, u32, u32)],
 }
 
-fn literals(alloc: Global, numbers: &[u32]) -> Result<Seq<Lit>, AllocError> {
+fn literals(alloc: Global, numbers: &[u32]) -> Result<Seq<Lit>, Refused> {
     let mut lits = Seq::new(alloc);
     for number in numbers {
         lits.push(Lit(*number))?;
@@ -25,7 +25,7 @@ fn literals(alloc: Global, numbers: &[u32]) -> Result<Seq<Lit>, AllocError> {
     Ok(lits)
 }
 
-fn parts_of(alloc: Global, plain: &Plain<'_>) -> Result<Parts, AllocError> {
+fn parts_of(alloc: Global, plain: &Plain<'_>) -> Result<Parts, Refused> {
     let mut latches = Seq::new(alloc);
     for (lit, next, reset) in plain.latches {
         latches.push(Latch {
@@ -218,56 +218,8 @@ fn refusals_with_number_and_place(rt: HostRuntime) -> Result<(), Fail> {
     Ok(())
 }
 
-/// How many gates the deep chain has.
-const DEPTH: u32 = 1_000_000;
-
-/// A chain in which each gate reads the one below it twice, given last first.
-fn chain(alloc: Global) -> Result<Parts, AllocError> {
-    let mut gates = Seq::new(alloc);
-    for k in 0..DEPTH {
-        let lhs = 2 * (DEPTH + 1 - k);
-        gates.push(Gate {
-            lhs: Lit(lhs),
-            rhs0: Lit(lhs - 2),
-            rhs1: Lit(lhs - 1),
-        })?;
-    }
-    Ok(Parts {
-        max_var: DEPTH + 1,
-        inputs: literals(alloc, &[2])?,
-        latches: Seq::new(alloc),
-        outputs: Seq::new(alloc),
-        bad: Seq::new(alloc),
-        constraints: Seq::new(alloc),
-        justice: Seq::new(alloc),
-        fairness: Seq::new(alloc),
-        gates,
-    })
-}
-
-/// What stands first in the order of the deep chain's gates, and the value of its last gate.
-fn deep(alloc: Global) -> Result<(Option<u32>, Option<bool>), Fail> {
-    let model = Model::from_parts(alloc, chain(alloc)?)?;
-    let inputs = vec![in alloc; true; model.inputs().len()]?;
-    let state = vec![in alloc; true; model.latches().len()]?;
-    let mut out = vec![in alloc; true; model.max_var() as usize + 1]?;
-    model.eval(&state, &inputs, &mut out);
-    Ok((model.order().first().copied(), out.last().copied()))
-}
-
-#[test]
-fn a_deep_chain_given_last_first(rt: HostRuntime) -> Result<(), Fail> {
-    assert_eq!(rt; deep(rt.alloc())?, (Some(DEPTH - 1), Some(false)));
-    Ok(())
-}
-
 /// A symbol of the toggle's.
-fn symbol(
-    alloc: Global,
-    kind: SymbolKind,
-    position: u32,
-    name: &[u8],
-) -> Result<Symbol, AllocError> {
+fn symbol(alloc: Global, kind: SymbolKind, position: u32, name: &[u8]) -> Result<Symbol, Refused> {
     Ok(Symbol {
         kind,
         position,
@@ -349,6 +301,5 @@ fn errors_have_words(rt: HostRuntime) -> Result<(), Fail> {
     let text = format!(in rt.alloc(); "{}", ReadError::Cyclic(7))?;
     assert_eq!(rt; text.as_str(), "variable 7 leads into a cycle");
     assert_eq!(rt; told(ReadError::TooLong), (1, 67_108_864));
-    assert_eq!(rt; told(ReadError::OutOfMemory), (20, 0));
     Ok(())
 }

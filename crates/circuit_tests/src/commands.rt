@@ -3,9 +3,8 @@
 use cli::{CliError, property_named};
 
 /// Refusals with their numbers and places.
-static REFUSALS: [(CliError, u8, u64); 3] = [
+static REFUSALS: [(CliError, u8, u64); 2] = [
     (CliError::Unordered, 17, 0),
-    (CliError::OutOfMemory, 20, 0),
     (CliError::Device, 21, 0),
 ];
 

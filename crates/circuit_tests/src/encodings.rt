@@ -1,9 +1,10 @@
 //! Frames and unrollings of worked circuits, clause by clause.
 
+use base::Refused;
 use cnf::{CnfError, extension, frame, unroll};
 use graph::{Gate, Latch, Lit, Model, Parts, Seq};
 use lrat::Formula;
-use std::alloc::{AllocError, Global};
+use std::alloc::Global;
 use std::process::Abort;
 use std::test::Fail;
 
@@ -37,7 +38,7 @@ const MIXED: Circuit<'static> = Circuit {
     gates: &[(10, 5, 6)],
 };
 
-fn literals(alloc: Global, lits: &[u32]) -> Result<Seq<Lit>, AllocError> {
+fn literals(alloc: Global, lits: &[u32]) -> Result<Seq<Lit>, Refused> {
     let mut list = Seq::new(alloc);
     for lit in lits {
         list.push(Lit(*lit))?;
@@ -45,7 +46,7 @@ fn literals(alloc: Global, lits: &[u32]) -> Result<Seq<Lit>, AllocError> {
     Ok(list)
 }
 
-fn latches(alloc: Global, rows: &[(u32, u32, u32)]) -> Result<Seq<Latch>, AllocError> {
+fn latches(alloc: Global, rows: &[(u32, u32, u32)]) -> Result<Seq<Latch>, Refused> {
     let mut list = Seq::new(alloc);
     for (lit, next, reset) in rows {
         list.push(Latch {
@@ -57,7 +58,7 @@ fn latches(alloc: Global, rows: &[(u32, u32, u32)]) -> Result<Seq<Latch>, AllocE
     Ok(list)
 }
 
-fn gates(alloc: Global, rows: &[(u32, u32, u32)]) -> Result<Seq<Gate>, AllocError> {
+fn gates(alloc: Global, rows: &[(u32, u32, u32)]) -> Result<Seq<Gate>, Refused> {
     let mut list = Seq::new(alloc);
     for (lhs, rhs0, rhs1) in rows {
         list.push(Gate {
@@ -89,7 +90,7 @@ fn model(alloc: Global, circuit: &Circuit) -> Result<Model, CnfError> {
 
 /// The gates of a time, with the constant.
 fn frame_of(alloc: Global, circuit: &Circuit) -> Result<Formula, CnfError> {
-    frame(alloc, &model(alloc, circuit)?)
+    Ok(frame(alloc, &model(alloc, circuit)?)?)
 }
 
 /// So many steps.
@@ -171,9 +172,8 @@ fn unrolls_each_kind(rt: HostRuntime) -> Result<(), Fail> {
 
 #[test]
 fn tells_refusals_by_number(rt: HostRuntime) -> Result<(), Fail> {
-    let (limit, memory) = (CnfError::Limit, CnfError::OutOfMemory);
+    let limit = CnfError::Limit;
     assert_eq!(rt; (limit.number(), limit.place()), (4, 0));
-    assert_eq!(rt; (memory.number(), memory.place()), (20, 0));
     let text = format!(in rt.alloc(); "{limit}")?;
     assert_eq!(rt; text.as_str(), "more than 255 steps");
     Ok(())

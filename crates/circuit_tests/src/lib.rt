@@ -22,8 +22,6 @@ mod replays;
 #[cfg(test)]
 mod shadow_circuits;
 #[cfg(test)]
-mod shrinking;
-#[cfg(test)]
 mod verdicts;
 #[cfg(test)]
 mod worked_proofs;

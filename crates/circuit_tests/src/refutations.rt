@@ -5,12 +5,12 @@ ghost use Rattle.lrat.specs.Limits.{IsFormula};
 ghost use Rattle.lrat.specs.Literals.{IsLiteral};
 
 use crate::literals::are_literals;
-use base::Seq;
+use base::{Refused, Seq};
 use lrat::{
     Clause, Clauses, Fault, Formula, Line, Lookup, LratError, Proof, Refuter, StepError, Trail,
     derive, derive_with, refutes,
 };
-use std::alloc::{AllocError, Global};
+use std::alloc::Global;
 use std::process::Abort;
 use std::test::Fail;
 
@@ -21,7 +21,7 @@ enum Row<'a> {
     Delete(u32, &'a [u32]),
 }
 
-fn line(alloc: Global, row: Row) -> Result<Line, AllocError> {
+fn line(alloc: Global, row: Row) -> Result<Line, Refused> {
     match row {
         Row::Add(id, clause, hints) => Ok(Line::Add {
             id,

@@ -6,5 +6,4 @@ use simulate::ReplayError;
 fn refusals_by_number(rt: HostRuntime) {
     let against = ReplayError::InitialReset { latch: 1 };
     assert_eq!(rt; (against.number(), against.place()), (60, 1));
-    assert_eq!(rt; ReplayError::OutOfMemory.number(), 20);
 }

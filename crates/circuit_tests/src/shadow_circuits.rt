@@ -1,8 +1,9 @@
 //! Shadow circuits: refusals by number and place, and stimuli that no lasso belongs to.
 
+use base::Refused;
 use graph::{Lit, Model, Parts, Seq, ToVec};
 use live_safe::{LiveError, lasso_of};
-use std::alloc::{AllocError, Global};
+use std::alloc::Global;
 use std::test::Fail;
 use stimulus::{Stimulus, read, write};
 
@@ -37,7 +38,7 @@ fn taken_back(
     alloc: Global,
     model: &Model,
     stimulus: &Stimulus,
-) -> Result<Option<Stimulus>, AllocError> {
+) -> Result<Option<Stimulus>, Refused> {
     match stimulus {
         Stimulus::Violated {
             initial,

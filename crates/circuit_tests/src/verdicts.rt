@@ -1,9 +1,10 @@
 //! What no clause says: which runs and invariants are believed, and that calls succeed where there is memory.
 
+use base::{Refused, boxed, push};
 use checker::check;
 use engine::{Engine, EngineError, Finding, Reason};
 use graph::{Budget, Latch, Lit, Model, Parts, Property, Seq, ToVec};
-use std::alloc::{AllocError, Global};
+use std::alloc::Global;
 use std::test::Fail;
 use verdict::{Verdict, decide, show};
 
@@ -37,7 +38,7 @@ impl Engine for Insists {
 }
 
 /// A latch that begins with 0, takes over the value of `next`, and is bad where it is set.
-fn latch(alloc: Global, next: u32) -> Result<Parts, AllocError> {
+fn latch(alloc: Global, next: u32) -> Result<Parts, Refused> {
     let latch = Latch {
         lit: Lit(2),
         next: Lit(next),
@@ -71,14 +72,14 @@ fn decided(alloc: Global, next: u32, runs: &[(bool, u8)]) -> Result<(ToVec, u8, 
     let model = Model::from_parts(alloc, latch(alloc, next)?)?;
     let mut engines: Vec<Box<dyn Engine>> = Vec::new(alloc);
     for (first, times) in runs {
-        let engine: Box<dyn Engine> = Box::new(
+        let engine: Box<dyn Engine> = boxed(
             alloc,
             Insists {
                 first: *first,
                 times: *times,
             },
         )?;
-        engines.push(engine)?;
+        push(&mut engines, engine)?;
     }
     let mut budget = Budget::new(7);
     let property = Property::Bad(0);
@@ -131,8 +132,8 @@ fn reason_told(alloc: Global, reasons: &[Reason]) -> Result<Option<Reason>, Fail
     let model = Model::from_parts(alloc, latch(alloc, 2)?)?;
     let mut engines: Vec<Box<dyn Engine>> = Vec::new(alloc);
     for reason in reasons {
-        let engine: Box<dyn Engine> = Box::new(alloc, Tells { reason: *reason })?;
-        engines.push(engine)?;
+        let engine: Box<dyn Engine> = boxed(alloc, Tells { reason: *reason })?;
+        push(&mut engines, engine)?;
     }
     let mut budget = Budget::new(7);
     let property = Property::Bad(0);
@@ -220,8 +221,8 @@ fn is_accepted(alloc: Global, model: &Model, verdict: &Verdict) -> bool {
 fn claimed(alloc: Global, next: u32, literal: u32, steps: u64) -> Result<(u8, bool), Fail> {
     let model = Model::from_parts(alloc, latch(alloc, next)?)?;
     let mut engines: Vec<Box<dyn Engine>> = Vec::new(alloc);
-    let engine: Box<dyn Engine> = Box::new(alloc, Claims { literal })?;
-    engines.push(engine)?;
+    let engine: Box<dyn Engine> = boxed(alloc, Claims { literal })?;
+    push(&mut engines, engine)?;
     let mut budget = Budget::new(steps);
     let property = Property::Bad(0);
     let verdict = decide(alloc, &model, property, engines.as_mut_slice(), &mut budget)?;

@@ -7,9 +7,9 @@ mod pigeons;
 mod random;
 
 use crate::literals::are_literals;
-use base::Seq;
+use base::{Refused, Seq, copied, extend};
 use lrat::{Clause, Formula, Line, LratError, read, refutes};
-use std::alloc::{AllocError, Global};
+use std::alloc::Global;
 use std::process::Abort;
 use std::test::Fail;
 
@@ -48,13 +48,13 @@ fn formula(alloc: Global, vars: u16, text: &[u8]) -> Result<Formula, LratError>
 }
 
 /// The text after an edit.
-fn edited(alloc: Global, text: &[u8], edit: Edit) -> Result<Vec<u8>, AllocError> {
+fn edited(alloc: Global, text: &[u8], edit: Edit) -> Result<Vec<u8>, Refused> {
     let (at, cut, new, _) = edit;
     let at = at.min(text.len());
     let (front, back) = text.split_at(at);
-    let mut whole = Vec::from_slice(alloc, front)?;
-    whole.extend_from_slice(new)?;
-    whole.extend_from_slice(&back[cut.min(back.len())..])?;
+    let mut whole = copied(alloc, front)?;
+    extend(&mut whole, new)?;
+    extend(&mut whole, &back[cut.min(back.len())..])?;
     Ok(whole)
 }
 

@@ -36,5 +36,5 @@ spelled_same digits rest k n read spelled small =
 pub spelled_not_refused : {K X : Type 0} (view : X → ℕ × List ℕ) (r : Result X (Fault K)) (e : Fault K) (digits : List ℕ) (n : ℕ) → r ≡ Err e →
     Gives view r (number_at 4294967295 digits) → IsPlaced digits r → digits ≡ decimal n → n < 2 ^ 32 → ⊥
 spelled_not_refused view (Ok x) e digits n is gives placed spelled small = cc
-spelled_not_refused view (Err Memory) e digits n is gives placed spelled small = placed
+spelled_not_refused view (Err (Memory refused)) e digits n is gives placed spelled small = placed
 spelled_not_refused view (Err (Text kind left)) e digits n is gives placed spelled small = let read = spelled_read digits n spelled small in cc

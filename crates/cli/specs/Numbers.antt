@@ -16,7 +16,7 @@ number_of (Sim e) = sim_number_of e
 number_of (Decide e) = decide_number e
 number_of (Certificate e) = write_number_of e
 number_of Unordered = 17
-number_of OutOfMemory = 20
+number_of (OutOfMemory refused) = 20
 number_of Device = 21
 
 abbrev pub place_of : CliError → ℕ
@@ -26,7 +26,7 @@ place_of (Sim e) = sim_place_of e
 place_of (Decide e) = decide_place e
 place_of (Certificate e) = write_place_of e
 place_of Unordered = 0
-place_of OutOfMemory = 0
+place_of (OutOfMemory refused) = 0
 place_of Device = 0
 
 -- what a refusal of the binary layout's writer is here

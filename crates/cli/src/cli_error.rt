@@ -1,12 +1,14 @@
 //! Why a command failed.
 
 ghost use Rattle.std.specs.Prelude.{◌≡◌};
+ghost use Rattle.base.specs.Witness.{witness};
 ghost use Rattle.cli.specs.Numbers.{number_of, place_of, written};
 ghost use Rattle.cli.specs.declared.cli_error.CliError.TheVariants.{Load, Stimulus, Sim, Decide, Certificate, OutOfMemory, Device};
 
 use aag::AagWriteError;
 use aig::AigWriteError;
 use aiger::LoadError;
+use base::Refused;
 use certificate::CertWriteError;
 use shrink::ShrinkError;
 use stimulus::{SimError, StimError, StimWriteError};
@@ -35,8 +37,8 @@ pub enum CliError {
     #[error("the circuit is not ordered")]
     Unordered,
     /// out of memory
-    #[error("out of memory")]
-    OutOfMemory,
+    #[error("{0}")]
+    OutOfMemory(Refused),
     /// a device failed
     #[error("read or write failed")]
     Device,
@@ -114,12 +116,20 @@ impl From<AigWriteError> for CliError {
 }
 
 impl From<ShrinkError> for CliError {
-    ghost from_gives = { λ _ c. c ≡ OutOfMemory };
+    ghost from_gives = { λ _ c. c ≡ OutOfMemory witness };
 
     fn from(e: ShrinkError) -> CliError {
         match e {
-            ShrinkError::OutOfMemory => CliError::OutOfMemory,
+            ShrinkError::OutOfMemory(refused) => CliError::OutOfMemory(refused),
         }
+    }
+}
+
+impl From<Refused> for CliError {
+    ghost from_gives = { λ _ c. c ≡ OutOfMemory witness };
+
+    fn from(refused: Refused) -> CliError {
+        CliError::OutOfMemory(refused)
     }
 }
 
@@ -135,7 +145,7 @@ impl CliError {
             CliError::Decide(e) => e.number(),
             CliError::Certificate(e) => e.number(),
             CliError::Unordered => 17,
-            CliError::OutOfMemory => 20,
+            CliError::OutOfMemory(_) => 20,
             CliError::Device => 21,
         }
     }
@@ -150,7 +160,7 @@ impl CliError {
             CliError::Sim(e) => e.place(),
             CliError::Decide(e) => e.place(),
             CliError::Certificate(e) => e.place(),
-            CliError::Unordered | CliError::OutOfMemory | CliError::Device => 0,
+            CliError::Unordered | CliError::OutOfMemory(_) | CliError::Device => 0,
         }
     }
 }

@@ -7,7 +7,7 @@ ghost use Rattle.cli.specs.Loading.{IsLoaded};
 ghost use Rattle.cli.specs.declared.cli_error.CliError.TheVariants.{Device};
 
 use crate::cli_error::CliError;
-use graph::{ReadAllError, Source, read_all};
+use graph::{ReadToEndError, Source, read_to_end};
 use std::alloc::Global;
 use stimulus::Stimulus;
 
@@ -22,10 +22,10 @@ pub fn load_stimulus<S: Source>(alloc: Global, source: &mut S) -> Result<Stimulu
     ensures failed { IsErrOf result Device → S.failed source.new ≡ S.failed source.old + 1 }
     ensures kept { (IsErrOf result Device → ⊥) → S.failed source.new ≡ S.failed source.old }
 {
-    let text = match read_all(alloc, source, usize::MAX) {
+    let text = match read_to_end(alloc, source) {
         Ok(text) => text,
-        Err(ReadAllError::Device) => return Err(CliError::Device),
-        Err(_) => return Err(CliError::OutOfMemory),
+        Err(ReadToEndError::OutOfMemory(refused)) => return Err(CliError::OutOfMemory(refused)),
+        Err(ReadToEndError::Device) => return Err(CliError::Device),
     };
     let stimulus = stimulus::read(alloc, text.as_slice())?;
     Ok(stimulus)

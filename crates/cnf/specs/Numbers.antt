@@ -5,4 +5,4 @@ use Rattle.cnf.specs.declared.error.CnfError.TheVariants.{Limit, OutOfMemory}
 
 abbrev pub number_of : CnfError → ℕ
 number_of Limit = 4
-number_of OutOfMemory = 20
+number_of (OutOfMemory refused) = 20

@@ -7,12 +7,12 @@ ghost use Rattle.cnf.specs.Formulas.{formula_of, frame_formula, start_formula, s
 ghost use Rattle.cnf.specs.Invariants.{SafetyLaw};
 ghost use Rattle.cnf.specs.Meaning.{FrameLaw};
 
-use crate::error::CnfError;
 use crate::push::{push, push_constraints, push_gates, push_invariant, push_resets};
 use crate::time::Time;
+use base::Refused;
 use graph::{Lit, Model, Seq};
 use lrat::{Clause, Formula};
-use std::alloc::{AllocError, Global};
+use std::alloc::Global;
 
 /// The clauses as a formula over the variables of one time.
 pub(crate) fn formula(model: &Model, clauses: Seq<Clause>) -> Formula
@@ -26,7 +26,7 @@ pub(crate) fn formula(model: &Model, clauses: Seq<Clause>) -> Formula
 }
 
 /// The clause that makes the constant true.
-fn truth(alloc: Global, model: &Model) -> Result<Seq<Clause>, AllocError>
+fn truth(alloc: Global, model: &Model) -> Result<Seq<Clause>, Refused>
     ensures { IfOk result (λ s. s ≡ truth_clause model.now.max_var 0 ∷ []) }
 {
     model.parts();
@@ -35,7 +35,7 @@ fn truth(alloc: Global, model: &Model) -> Result<Seq<Clause>, AllocError>
     Ok(clauses)
 }
 
-fn frame_clauses(alloc: Global, model: &Model) -> Result<Seq<Clause>, AllocError>
+fn frame_clauses(alloc: Global, model: &Model) -> Result<Seq<Clause>, Refused>
     ensures { IfOk result (λ s. s ≡ frame_list model.now) }
 {
     model.parts();
@@ -44,7 +44,7 @@ fn frame_clauses(alloc: Global, model: &Model) -> Result<Seq<Clause>, AllocError
     Ok(clauses)
 }
 
-pub(crate) fn start_clauses(alloc: Global, model: &Model) -> Result<Seq<Clause>, AllocError>
+pub(crate) fn start_clauses(alloc: Global, model: &Model) -> Result<Seq<Clause>, Refused>
     ensures { IfOk result (λ s. s ≡ start_list model.now) }
 {
     model.parts();
@@ -57,7 +57,7 @@ pub(crate) fn shared_clauses(
     alloc: Global,
     model: &Model,
     invariant: &[Seq<Lit>],
-) -> Result<Seq<Clause>, AllocError>
+) -> Result<Seq<Clause>, Refused>
     requires { IsInvariant model.now invariant.now }
     ensures { IfOk result (λ s. s ≡ shared_list model.now invariant.now) }
 {
@@ -69,7 +69,7 @@ pub(crate) fn shared_clauses(
 }
 
 /// The frame: exactly the agreeing valuations satisfy it. It costs the gates.
-pub fn frame(alloc: Global, model: &Model) -> Result<Formula, CnfError>
+pub fn frame(alloc: Global, model: &Model) -> Result<Formula, Refused>
     ensures formula { IfOk result (λ f. f ≡ frame_formula model.now) }
     ensures is_formula { IfOk result (λ f. IsFormula f) }
     ensures variables { IfOk result (λ f. IsOver model.now 1 f.clauses) }
@@ -81,7 +81,7 @@ pub fn frame(alloc: Global, model: &Model) -> Result<Formula, CnfError>
 }
 
 /// What all initial cases begin with. An initial case is this with its units, `init_units`.
-pub fn start_base(alloc: Global, model: &Model) -> Result<Formula, CnfError>
+pub fn start_base(alloc: Global, model: &Model) -> Result<Formula, Refused>
     ensures formula { IfOk result (λ f. f ≡ start_formula model.now) }
     ensures is_formula { IfOk result (λ f. IsFormula f) }
 {
@@ -94,11 +94,7 @@ pub fn start_base(alloc: Global, model: &Model) -> Result<Formula, CnfError>
 /// clauses. A case is this with its units, `step_units` or `bad_unit`.
 ///
 /// Where nothing satisfies any case of the invariant, the circuit is safe.
-pub fn shared_base(
-    alloc: Global,
-    model: &Model,
-    invariant: &[Seq<Lit>],
-) -> Result<Formula, CnfError>
+pub fn shared_base(alloc: Global, model: &Model, invariant: &[Seq<Lit>]) -> Result<Formula, Refused>
     requires { IsInvariant model.now invariant.now }
     ensures formula { IfOk result (λ f. f ≡ shared_formula model.now invariant.now) }
     ensures is_formula { IfOk result (λ f. IsFormula f) }

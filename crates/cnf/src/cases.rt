@@ -6,16 +6,16 @@ ghost use Rattle.cnf.specs.Formulas.{init_formula, step_formula, bad_formula, ba
 ghost use Rattle.cnf.specs.Meaning.{InitLaw, StepLaw, BadLaw};
 
 use crate::bases::{formula, shared_clauses, start_clauses};
-use crate::error::CnfError;
 use crate::next_table::NextTable;
 use crate::push::push_units;
 use crate::units::{bad_unit, init_units, step_units};
+use base::Refused;
 use graph::{Lit, Model, Seq};
 use lrat::Formula;
 use std::alloc::Global;
 
 /// The case that an initial state does not satisfy the clause.
-pub fn init_case(alloc: Global, model: &Model, clause: &[Lit]) -> Result<Formula, CnfError>
+pub fn init_case(alloc: Global, model: &Model, clause: &[Lit]) -> Result<Formula, Refused>
     requires { IsClause model.now clause.now }
     ensures formula { IfOk result (λ f. f ≡ init_formula model.now clause.now) }
     ensures is_formula { IfOk result (λ f. IsFormula f) }
@@ -35,7 +35,7 @@ pub fn step_case(
     model: &Model,
     invariant: &[Seq<Lit>],
     k: usize,
-) -> Result<Formula, CnfError>
+) -> Result<Formula, Refused>
     requires invariant { IsInvariant model.now invariant.now }
     requires in_range { k < length invariant.now }
     ensures formula { IfOk result (λ f. f ≡ step_formula model.now invariant.now (clause_at invariant.now k)) }
@@ -57,7 +57,7 @@ pub fn bad_case(
     model: &Model,
     invariant: &[Seq<Lit>],
     bad: u32,
-) -> Result<Formula, CnfError>
+) -> Result<Formula, Refused>
     requires invariant { IsInvariant model.now invariant.now }
     requires in_range { bad < length model.now.bad }
     ensures formula { IfOk result (λ f. f ≡ bad_formula model.now invariant.now (bad_literal model.now bad)) }

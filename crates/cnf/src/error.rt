@@ -1,9 +1,11 @@
 //! Why there is no formula.
 
+ghost use Rattle.base.specs.Witness.{witness};
 ghost use Rattle.std.specs.Prelude.{◌≡◌};
 ghost use Rattle.cnf.specs.Numbers.{number_of};
+ghost use Rattle.cnf.specs.declared.error.CnfError.TheVariants.{OutOfMemory};
 
-use std::alloc::{AllocError, AllocFailed};
+use base::Refused;
 use thiserror::Error;
 
 /// Why there is no formula.
@@ -13,27 +15,15 @@ pub enum CnfError {
     #[error("more than 255 steps")]
     Limit,
     /// out of memory
-    #[error("out of memory")]
-    OutOfMemory,
+    #[error("{0}")]
+    OutOfMemory(Refused),
 }
 
-impl From<AllocError> for CnfError {
-    ghost use Rattle.cnf.specs.declared.error.CnfError.TheVariants.{OutOfMemory};
+impl From<Refused> for CnfError {
+    ghost from_gives = { λ _ e. e ≡ OutOfMemory witness };
 
-    ghost from_gives = { λ _ e. e ≡ OutOfMemory };
-
-    fn from(_e: AllocError) -> CnfError {
-        CnfError::OutOfMemory
-    }
-}
-
-impl<T: Drop> From<AllocFailed<T>> for CnfError {
-    ghost use Rattle.cnf.specs.declared.error.CnfError.TheVariants.{OutOfMemory};
-
-    ghost from_gives = { λ _ e. e ≡ OutOfMemory };
-
-    fn from(_e: AllocFailed<T>) -> CnfError {
-        CnfError::OutOfMemory
+    fn from(refused: Refused) -> CnfError {
+        CnfError::OutOfMemory(refused)
     }
 }
 
@@ -44,7 +34,7 @@ impl CnfError {
     {
         match self {
             CnfError::Limit => 4,
-            CnfError::OutOfMemory => 20,
+            CnfError::OutOfMemory(_) => 20,
         }
     }
 

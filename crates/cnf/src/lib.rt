@@ -13,6 +13,7 @@
 //! Each formula is the list of clauses that `specs/` names, in its order. Variable `v` of the
 //! circuit is variable `v` of the clauses, and the one above the greatest is true. Each call costs
 //! what the formula is long; a case costs its circuit and its invariant.
+//! Only `unroll` and `extension` have a limit; every other call is refused only when out of memory.
 #![tactic(auto)]
 
 mod bases;

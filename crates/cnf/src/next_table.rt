@@ -4,9 +4,9 @@ ghost use Rattle.std.specs.Prelude.{◌≡◌, IfOk};
 ghost use Rattle.cnf.specs.Clauses.{along as along_of};
 ghost use Rattle.cnf.specs.Tables.{IsTableOf, is_latch_in, next_in};
 
-use crate::error::CnfError;
+use base::{Refused, filled};
 use graph::{Lit, Model};
-use std::alloc::{AllocError, Global};
+use std::alloc::Global;
 
 /// The latches of a circuit and their next literals, by variable. It is made in one pass over the
 /// latches, and asked in constant time.
@@ -40,11 +40,11 @@ fn along(negated: bool, lit: Lit) -> Lit
 
 impl NextTable {
     /// The table of the circuit's latches.
-    pub fn new(alloc: Global, model: &Model) -> Result<NextTable, CnfError>
+    pub fn new(alloc: Global, model: &Model) -> Result<NextTable, Refused>
         ensures { IfOk result (λ t. IsTableOf model.now.latches t) }
     {
         model.parts();
-        let mut entries = vec![in alloc; None; model.max_var() as usize + 1]?;
+        let mut entries = filled(alloc, None, model.max_var() as usize + 1)?;
         for latch in model.latches() {
             entries[latch.lit.variable() as usize] = Some(latch.next);
         }

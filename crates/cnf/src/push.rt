@@ -6,12 +6,13 @@ ghost use Rattle.cnf.specs.Clauses.{literal, denial, gate_clauses, reset_clauses
 ghost use Rattle.cnf.specs.Formulas.{IsGateIn, IsInRange};
 
 use crate::time::Time;
+use base::Refused;
 use graph::{Gate, Latch, Lit, Seq};
 use lrat::Clause;
-use std::alloc::{AllocError, Global};
+use std::alloc::Global;
 
 /// Adds a clause.
-pub fn push(alloc: Global, clauses: &mut Seq<Clause>, clause: &[i32]) -> Result<(), AllocError>
+pub fn push(alloc: Global, clauses: &mut Seq<Clause>, clause: &[i32]) -> Result<(), Refused>
     ensures { OnOk result (clauses.new ≡ clauses.old ++ clause.now ∷ []) }
 {
     clauses.push(Clause::from_slice(alloc, clause)?)?;
@@ -19,11 +20,7 @@ pub fn push(alloc: Global, clauses: &mut Seq<Clause>, clause: &[i32]) -> Result<
 }
 
 /// Adds each literal as a clause of its own.
-pub fn push_units(
-    alloc: Global,
-    clauses: &mut Seq<Clause>,
-    literals: &[i32],
-) -> Result<(), AllocError>
+pub fn push_units(alloc: Global, clauses: &mut Seq<Clause>, literals: &[i32]) -> Result<(), Refused>
     ensures { OnOk result (clauses.new ≡ clauses.old ++ unit_clauses literals.now) }
 {
     for literal in literals {
@@ -33,25 +30,25 @@ pub fn push_units(
 }
 
 /// Adds the literals of clauses for literals of the circuit.
-pub fn push_literals(literals: &mut Vec<i32>, time: Time, lits: &[Lit]) -> Result<(), AllocError>
+pub fn push_literals(literals: &mut Vec<i32>, time: Time, lits: &[Lit]) -> Result<(), Refused>
     requires fits { time.offset + time.max_var + 1 < 2 ^ 31 }
     requires in_range { All (IsInRange time.max_var) lits.now }
     ensures { OnOk result (literals.new.items ≡ literals.old.items ++ map (literal time.max_var time.offset) lits.now) }
 {
     for lit in lits {
-        literals.push(time.literal(*lit))?;
+        base::push(literals, time.literal(*lit))?;
     }
     Ok(())
 }
 
 /// Adds their negations.
-pub fn push_denials(literals: &mut Vec<i32>, time: Time, lits: &[Lit]) -> Result<(), AllocError>
+pub fn push_denials(literals: &mut Vec<i32>, time: Time, lits: &[Lit]) -> Result<(), Refused>
     requires fits { time.offset + time.max_var + 1 < 2 ^ 31 }
     requires in_range { All (IsInRange time.max_var) lits.now }
     ensures { OnOk result (literals.new.items ≡ literals.old.items ++ map (denial time.max_var time.offset) lits.now) }
 {
     for lit in lits {
-        literals.push(time.denial(*lit))?;
+        base::push(literals, time.denial(*lit))?;
     }
     Ok(())
 }
@@ -62,7 +59,7 @@ pub fn push_constraints(
     clauses: &mut Seq<Clause>,
     time: Time,
     lits: &[Lit],
-) -> Result<(), AllocError>
+) -> Result<(), Refused>
     requires fits { time.offset + time.max_var + 1 < 2 ^ 31 }
     requires in_range { All (IsInRange time.max_var) lits.now }
     ensures { OnOk result (clauses.new ≡ clauses.old ++ unit_clauses (map (literal time.max_var time.offset) lits.now)) }
@@ -78,7 +75,7 @@ fn push_gate(
     clauses: &mut Seq<Clause>,
     time: Time,
     gate: Gate,
-) -> Result<(), AllocError>
+) -> Result<(), Refused>
     requires fits { time.offset + time.max_var + 1 < 2 ^ 31 }
     requires in_range { IsGateIn time.max_var gate }
     ensures { OnOk result (clauses.new ≡ clauses.old ++ gate_clauses time.max_var time.offset gate) }
@@ -101,7 +98,7 @@ pub fn push_gates(
     clauses: &mut Seq<Clause>,
     time: Time,
     gates: &[Gate],
-) -> Result<(), AllocError>
+) -> Result<(), Refused>
     requires fits { time.offset + time.max_var + 1 < 2 ^ 31 }
     requires in_range { All (IsGateIn time.max_var) gates.now }
     ensures { OnOk result (clauses.new ≡ clauses.old ++ flat_map (gate_clauses time.max_var time.offset) gates.now) }
@@ -117,7 +114,7 @@ fn push_reset(
     clauses: &mut Seq<Clause>,
     time: Time,
     latch: Latch,
-) -> Result<(), AllocError>
+) -> Result<(), Refused>
     requires fits { time.offset + time.max_var + 1 < 2 ^ 31 }
     requires in_range { IsInRange time.max_var latch.lit }
     ensures { OnOk result (clauses.new ≡ clauses.old ++ reset_clauses time.max_var time.offset latch) }
@@ -135,7 +132,7 @@ pub fn push_resets(
     clauses: &mut Seq<Clause>,
     time: Time,
     latches: &[Latch],
-) -> Result<(), AllocError>
+) -> Result<(), Refused>
     requires fits { time.offset + time.max_var + 1 < 2 ^ 31 }
     requires in_range { All (λ l. IsInRange time.max_var l.lit) latches.now }
     ensures { OnOk result (clauses.new ≡ clauses.old ++ flat_map (reset_clauses time.max_var time.offset) latches.now) }
@@ -152,7 +149,7 @@ pub fn push_invariant(
     clauses: &mut Seq<Clause>,
     time: Time,
     invariant: &[Seq<Lit>],
-) -> Result<(), AllocError>
+) -> Result<(), Refused>
     requires fits { time.offset + time.max_var + 1 < 2 ^ 31 }
     requires in_range { All (λ c. All (IsInRange time.max_var) c) invariant.now }
     ensures { OnOk result (clauses.new ≡ clauses.old ++ map (map (literal time.max_var time.offset)) invariant.now) }

@@ -6,15 +6,15 @@ ghost use Rattle.cnf.specs.Clauses.{init_units as init_units_of, step_units as s
 ghost use Rattle.cnf.specs.Formulas.{IsOverLatches, bad_literal};
 ghost use Rattle.cnf.specs.Tables.{IsTableOf};
 
-use crate::error::CnfError;
 use crate::next_table::NextTable;
 use crate::push::push_denials;
 use crate::time::Time;
+use base::{Refused, push};
 use graph::{Lit, Model};
 use std::alloc::Global;
 
 /// The units of the initial case of a clause: each of its literals is denied.
-pub fn init_units(alloc: Global, model: &Model, clause: &[Lit]) -> Result<Vec<i32>, CnfError>
+pub fn init_units(alloc: Global, model: &Model, clause: &[Lit]) -> Result<Vec<i32>, Refused>
     requires { IsOverLatches model.now clause.now }
     ensures units { IfOk result (λ v. v.items ≡ init_units_of model.now clause.now) }
     ensures in_range { IfOk result (λ v. All (IsLiteral (model.now.max_var + 1)) v.items) }
@@ -32,7 +32,7 @@ pub fn step_units(
     model: &Model,
     table: &NextTable,
     clause: &[Lit],
-) -> Result<Vec<i32>, CnfError>
+) -> Result<Vec<i32>, Refused>
     requires over { IsOverLatches model.now clause.now }
     requires table { IsTableOf model.now.latches table.now }
     ensures units { IfOk result (λ v. v.items ≡ step_units_of model.now clause.now) }
@@ -42,7 +42,7 @@ pub fn step_units(
     let time = Time::first(model);
     let mut units = Vec::new(alloc);
     for lit in clause {
-        units.push(time.denial(table.next_of(*lit)))?;
+        push(&mut units, time.denial(table.next_of(*lit)))?;
     }
     Ok(units)
 }

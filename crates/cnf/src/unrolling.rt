@@ -1,5 +1,6 @@
 //! A circuit over several times.
 
+ghost use Rattle.base.specs.Witness.{witness};
 ghost use Rattle.std.specs.Prelude.{◌≡◌, ◌<◌, ◌≤◌, ◌+◌, ◌*◌, ◌^◌, ◌++◌, ◌⊎◌, All, flat_map, IfOk, IfErr, OnOk};
 ghost use Rattle.lrat.specs.Limits.{IsFormula};
 ghost use Rattle.lrat.specs.Literals.{IsLiteral};
@@ -12,9 +13,10 @@ ghost use Rattle.cnf.specs.declared.error.CnfError.TheVariants.{Limit, OutOfMemo
 use crate::error::CnfError;
 use crate::push::{push, push_constraints, push_gates, push_resets};
 use crate::time::Time;
+use base::Refused;
 use graph::{Latch, Model, Seq};
 use lrat::{Clause, Formula};
-use std::alloc::{AllocError, Global};
+use std::alloc::Global;
 
 /// The greatest number of steps.
 const GREATEST: u32 = 255;
@@ -25,7 +27,7 @@ fn push_time(
     clauses: &mut Seq<Clause>,
     model: &Model,
     time: Time,
-) -> Result<(), AllocError>
+) -> Result<(), Refused>
     requires max_var { time.max_var ≡ model.now.max_var }
     requires fits { time.offset + time.max_var + 1 < 2 ^ 31 }
     ensures { OnOk result (clauses.new ≡ clauses.old ++ time_clauses model.now time.offset) }
@@ -43,7 +45,7 @@ fn push_join(
     clauses: &mut Seq<Clause>,
     time: Time,
     latch: Latch,
-) -> Result<(), AllocError>
+) -> Result<(), Refused>
     requires fits { time.offset + 2 * (time.max_var + 1) < 2 ^ 31 }
     requires lit { IsInRange time.max_var latch.lit }
     requires next { IsInRange time.max_var latch.next }
@@ -69,7 +71,7 @@ fn push_joins(
     clauses: &mut Seq<Clause>,
     time: Time,
     latches: &[Latch],
-) -> Result<(), AllocError>
+) -> Result<(), Refused>
     requires fits { time.offset + 2 * (time.max_var + 1) < 2 ^ 31 }
     requires lits { All (λ l. IsInRange time.max_var l.lit) latches.now }
     requires nexts { All (λ l. IsInRange time.max_var l.next) latches.now }
@@ -87,7 +89,7 @@ fn push_times(
     clauses: &mut Seq<Clause>,
     model: &Model,
     steps: u32,
-) -> Result<(), AllocError>
+) -> Result<(), Refused>
     requires { steps ≤ 255 }
     ensures { OnOk result (clauses.new ≡ clauses.old ++ times_from model.now steps 0) }
 {
@@ -102,7 +104,7 @@ fn push_times(
     Ok(())
 }
 
-fn unroll_clauses(alloc: Global, model: &Model, steps: u32) -> Result<Seq<Clause>, AllocError>
+fn unroll_clauses(alloc: Global, model: &Model, steps: u32) -> Result<Seq<Clause>, Refused>
     requires { steps ≤ 255 }
     ensures { IfOk result (λ s. s ≡ unroll_list model.now steps) }
 {
@@ -117,7 +119,7 @@ fn unroll_clauses(alloc: Global, model: &Model, steps: u32) -> Result<Seq<Clause
 /// `t * (M + 1) + v`, where `M` is the greatest variable. It costs `steps + 1` circuits.
 pub fn unroll(alloc: Global, model: &Model, steps: u32) -> Result<Formula, CnfError>
     ensures formula { IfOk result (λ f. (steps ≤ 255) × (f ≡ unroll_formula model.now steps)) }
-    ensures refused { IfErr result (λ e. (e ≡ OutOfMemory) ⊎ ((e ≡ Limit) × (255 < steps))) }
+    ensures refused { IfErr result (λ e. (e ≡ OutOfMemory witness) ⊎ ((e ≡ Limit) × (255 < steps))) }
     ensures is_formula { IfOk result (λ f. IsFormula f) }
     ensures variables { IfOk result (λ f. IsOver model.now (steps + 1) f.clauses) }
     ensures meaning { IfOk result (λ _. UnrollLaw model.now steps) }
@@ -134,7 +136,7 @@ pub fn unroll(alloc: Global, model: &Model, steps: u32) -> Result<Formula, CnfEr
 }
 
 /// The joins with the time before, and that time.
-fn extension_clauses(alloc: Global, model: &Model, steps: u32) -> Result<Seq<Clause>, AllocError>
+fn extension_clauses(alloc: Global, model: &Model, steps: u32) -> Result<Seq<Clause>, Refused>
     requires { steps ≤ 255 }
     ensures { IfOk result (IsExtension model.now steps) }
 {
@@ -156,7 +158,7 @@ pub fn extension(alloc: Global, model: &Model, steps: u32) -> Result<Seq<Clause>
     ensures literals { IfOk result (λ s. All (All (IsLiteral ((steps + 1) * (model.now.max_var + 1)))) s) }
     ensures variables { IfOk result (λ _. IsOver model.now (steps + 1) (unroll_list model.now steps)) }
     ensures meaning { IfOk result (λ _. UnrollLaw model.now steps) }
-    ensures refused { IfErr result (λ e. (e ≡ OutOfMemory) ⊎ ((e ≡ Limit) × (255 < steps))) }
+    ensures refused { IfErr result (λ e. (e ≡ OutOfMemory witness) ⊎ ((e ≡ Limit) × (255 < steps))) }
 {
     if steps > GREATEST {
         return Err(CnfError::Limit);

@@ -1,10 +1,11 @@
 //! Why an engine gave up.
 
 ghost use Rattle.std.specs.Prelude.{◌≡◌};
+ghost use Rattle.base.specs.Witness.{witness};
 ghost use Rattle.engine.specs.Numbers.{number_of, of_solver};
 
+use base::Refused;
 use solver::SatError;
-use std::alloc::{AllocError, AllocFailed};
 use thiserror::Error;
 
 /// Why an engine gave up.
@@ -14,8 +15,8 @@ pub enum EngineError {
     #[error("over a limit")]
     Limit,
     /// out of memory
-    #[error("out of memory")]
-    OutOfMemory,
+    #[error("{0}")]
+    OutOfMemory(Refused),
 }
 
 impl From<SatError> for EngineError {
@@ -24,28 +25,18 @@ impl From<SatError> for EngineError {
     fn from(e: SatError) -> EngineError {
         match e {
             SatError::Limit => EngineError::Limit,
-            SatError::OutOfMemory => EngineError::OutOfMemory,
+            SatError::OutOfMemory(refused) => EngineError::OutOfMemory(refused),
         }
     }
 }
 
-impl From<AllocError> for EngineError {
+impl From<Refused> for EngineError {
     ghost use Rattle.engine.specs.declared.engine_error.EngineError.TheVariants.{OutOfMemory};
 
-    ghost from_gives = { λ _ e. e ≡ OutOfMemory };
+    ghost from_gives = { λ _ e. e ≡ OutOfMemory witness };
 
-    fn from(_e: AllocError) -> EngineError {
-        EngineError::OutOfMemory
-    }
-}
-
-impl<T: Drop> From<AllocFailed<T>> for EngineError {
-    ghost use Rattle.engine.specs.declared.engine_error.EngineError.TheVariants.{OutOfMemory};
-
-    ghost from_gives = { λ _ e. e ≡ OutOfMemory };
-
-    fn from(_e: AllocFailed<T>) -> EngineError {
-        EngineError::OutOfMemory
+    fn from(refused: Refused) -> EngineError {
+        EngineError::OutOfMemory(refused)
     }
 }
 
@@ -56,7 +47,7 @@ impl EngineError {
     {
         match self {
             EngineError::Limit => 4,
-            EngineError::OutOfMemory => 20,
+            EngineError::OutOfMemory(_) => 20,
         }
     }
 

@@ -46,7 +46,7 @@ pub fn shown_run(
     };
     match judge(alloc, circuit, &stimulus) {
         Ok(()) => Ok(run_told(stimulus)),
-        Err(JudgeError::OutOfMemory) => Err(EngineError::OutOfMemory),
+        Err(JudgeError::OutOfMemory(refused)) => Err(EngineError::OutOfMemory(refused)),
         Err(_) => Ok(None),
     }
 }

@@ -7,12 +7,12 @@ ghost use Rattle.lrat.specs.Literals.{IsLiteral};
 mod formulas;
 
 use crate::literals::are_literals;
-use base::{Budget, Seq};
+use base::{Budget, Refused, Seq, push};
 use cdcl::{Cdcl, Refuted, refute};
 use formulas::UNSATISFIABLE;
 use lrat::{Clause, Formula, Line, Proof, refutes};
 use solver::{Answer, Plain, Sat, SatError};
-use std::alloc::{AllocError, Global};
+use std::alloc::Global;
 use std::test::Fail;
 
 /// Assumptions about a formula, and the literals that a core may have; none of these where there is a
@@ -267,21 +267,21 @@ fn other_refutations(rt: HostRuntime) -> Result<(), Fail> {
 }
 
 /// Each of the pigeons sits in one of fewer holes, and none share one.
-fn pigeons(alloc: Global, pigeons: u8, holes: u8) -> Result<Vec<i32>, AllocError> {
+fn pigeons(alloc: Global, pigeons: u8, holes: u8) -> Result<Vec<i32>, Refused> {
     let holes = i32::from(holes);
     let mut list = Vec::new(alloc);
     for pigeon in 0..pigeons {
         let first = i32::from(pigeon) * holes;
         for hole in 1..holes + 1 {
-            list.push(first.saturating_add(hole))?;
+            push(&mut list, first.saturating_add(hole))?;
         }
-        list.push(0)?;
+        push(&mut list, 0)?;
         for other in 0..pigeon {
             for hole in 1..holes + 1 {
                 let taken = i32::from(other) * holes + hole;
-                list.push(taken.wrapping_neg())?;
-                list.push(first.saturating_add(hole).wrapping_neg())?;
-                list.push(0)?;
+                push(&mut list, taken.wrapping_neg())?;
+                push(&mut list, first.saturating_add(hole).wrapping_neg())?;
+                push(&mut list, 0)?;
             }
         }
     }

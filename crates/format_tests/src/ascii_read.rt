@@ -2,7 +2,6 @@
 
 use aag::read;
 use std::alloc::Global;
-use std::test::Fail;
 
 /// Texts of literals of one digit that spell a circuit, without symbols and comment.
 static CIRCUITS: [&[u8]; 13] = [
@@ -42,12 +41,4 @@ fn circuits_that_are_cut(rt: HostRuntime) {
 #[test]
 fn a_binary_text_is_refused(rt: HostRuntime) {
     assert_eq!(rt; refusal(rt.alloc(), b"aig 0 0 0 0 0\n"), Some((2, 1)));
-}
-
-#[test]
-fn too_long_a_text(rt: HostRuntime) -> Result<(), Fail> {
-    let text = vec![in rt.alloc(); b'x'; 67_108_865]?;
-    assert_eq!(rt; refusal(rt.alloc(), &text), Some((1, 67_108_864)));
-    assert_eq!(rt; refusal(rt.alloc(), &text[1..]), Some((2, 0)));
-    Ok(())
 }

@@ -4,7 +4,6 @@
 use aig::read;
 use graph::{Gate, Lit, ReadError};
 use std::alloc::Global;
-use std::test::Fail;
 
 /// Texts of numbers of one digit that spell a circuit, without symbols and comment.
 static CIRCUITS: [&[u8]; 16] = [
@@ -47,14 +46,6 @@ fn circuits_that_are_cut(rt: HostRuntime) {
 #[test]
 fn an_ascii_text_is_refused(rt: HostRuntime) {
     assert_eq!(rt; refusal(rt.alloc(), b"aag 0 0 0 0 0\n"), Some((2, 1)));
-}
-
-#[test]
-fn too_long_a_text(rt: HostRuntime) -> Result<(), Fail> {
-    let text = vec![in rt.alloc(); b'x'; 67_108_865]?;
-    assert_eq!(rt; refusal(rt.alloc(), &text), Some((1, 67_108_864)));
-    assert_eq!(rt; refusal(rt.alloc(), &text[1..]), Some((2, 0)));
-    Ok(())
 }
 
 #[test]

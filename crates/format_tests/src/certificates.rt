@@ -1,6 +1,6 @@
 //! Texts with their values, with the number and the place of their refusal, and texts that are written.
 
-use base::{Sink, ToVec, ToWrite};
+use base::{Sink, ToVec, ToWrite, push};
 use certificate::{CertError, CertWriteError, Certificate, read, write};
 use graph::{Lit, Property, Seq};
 use lrat::{Line, Proof};
@@ -144,10 +144,10 @@ fn writes_others_as_they_were_read(rt: HostRuntime) -> Result<(), Fail> {
 #[test]
 fn puts_nothing_without_the_sections(rt: HostRuntime) -> Result<(), Fail> {
     let mut clauses = Vec::new(rt.alloc());
-    clauses.push(Seq::new(rt.alloc()))?;
+    push(&mut clauses, Seq::new(rt.alloc()))?;
     let mut sections = Vec::new(rt.alloc());
-    sections.push(Proof::new(rt.alloc()))?;
-    sections.push(Proof::new(rt.alloc()))?;
+    push(&mut sections, Proof::new(rt.alloc()))?;
+    push(&mut sections, Proof::new(rt.alloc()))?;
     let certificate = Certificate {
         property: Property::Bad(0),
         invariant: Seq::from_vec(clauses),

@@ -4,7 +4,8 @@
 ghost use Rattle.std.specs.Prelude.{◌≡◌, IfOk};
 
 use base::{
-    Budget, FromBytes, FromRead, ReadAllError, Seq, Sink, Source, ToVec, ToWrite, put_all, read_all,
+    Budget, FromBytes, FromRead, ReadAllError, Seq, Sink, Source, ToVec, ToWrite, filled, put_all,
+    read_all,
 };
 use std::io;
 use std::io::{Read, Write};
@@ -77,7 +78,7 @@ fn reads_all_of_a_text(rt: HostRuntime) -> Result<(), Fail> {
 
 #[test]
 fn reads_from_a_reader(rt: HostRuntime) -> Result<(), Fail> {
-    let text = vec![in rt.alloc(); b'7'; 40_000]?;
+    let text = filled(rt.alloc(), b'7', 40_000)?;
     let mut source = FromRead::new(text.as_slice());
     let bytes = read_all(rt.alloc(), &mut source, 40_000)?;
     assert_eq!(rt; bytes.as_slice(), text.as_slice());
@@ -140,7 +141,10 @@ fn lists_hold_what_was_pushed(rt: HostRuntime) -> Result<(), Fail> {
     list.push(5u32)?;
     let copy = Seq::from_slice(rt.alloc(), list.as_slice())?;
     assert_eq!(rt; copy.len(), 2);
-    assert_eq!(rt; copy.clone()?.into_vec().as_slice(), [3, 5].as_slice());
+    assert_eq!(rt;
+        copy.copy(rt.alloc())?.into_vec().as_slice(),
+        [3, 5].as_slice()
+    );
     assert_eq!(rt; Seq::from_vec(list.into_vec()).as_slice(), copy.as_slice());
     Ok(())
 }

@@ -1,8 +1,9 @@
 //! What no worked case shows of stimuli: that each is written as it was read, texts that are cut, and the
 //! places of what `judge` refuses.
 
+use base::Refused;
 use graph::{Latch, Lit, Model, Parts, Seq, ToVec};
-use std::alloc::{AllocError, Global};
+use std::alloc::Global;
 use std::test::Fail;
 use stimulus::{JudgeError, judge, read, write};
 
@@ -84,7 +85,7 @@ static PLACELESS: [(JudgeError, u8); 4] = [
     (JudgeError::NotViolated, 65),
 ];
 
-fn literals(alloc: Global, numbers: &[u32]) -> Result<Seq<Lit>, AllocError> {
+fn literals(alloc: Global, numbers: &[u32]) -> Result<Seq<Lit>, Refused> {
     let mut lits = Seq::new(alloc);
     for number in numbers {
         lits.push(Lit(*number))?;
@@ -92,7 +93,7 @@ fn literals(alloc: Global, numbers: &[u32]) -> Result<Seq<Lit>, AllocError> {
     Ok(lits)
 }
 
-fn parts_of(alloc: Global, plain: &Plain<'_>) -> Result<Parts, AllocError> {
+fn parts_of(alloc: Global, plain: &Plain<'_>) -> Result<Parts, Refused> {
     let mut latches = Seq::new(alloc);
     for (lit, next, reset) in plain.latches {
         latches.push(Latch {

@@ -13,8 +13,9 @@ ghost use Rattle.frames.specs.Resets.{IsInitialState};
 use crate::invariant::{clauses_above, is_left};
 use crate::needless::{insert, is_part};
 use crate::resets::reset_entries;
+use base::Refused;
 use graph::{Lit, Model, Seq};
-use std::alloc::{AllocError, Global};
+use std::alloc::Global;
 use transition::StateLit;
 
 /// A clause that holds in each frame up to its level.
@@ -42,7 +43,7 @@ impl std::marker::Model for Frames {
 impl Frames {
     /// The first frame alone, which is open: a clause of one literal for each latch that is reset
     /// to 0 or 1, at level 0.
-    pub fn first(alloc: Global, model: &Model) -> Result<Frames, AllocError>
+    pub fn first(alloc: Global, model: &Model) -> Result<Frames, Refused>
         ensures top { IfOk result (λ f. f.top ≡ 0) }
         ensures level { IfOk result (λ f. All (λ e. e.level ≡ 0) f.entries) }
         ensures laws { (bad : Lit) → IfOk result (AreFrames model.now bad) }
@@ -84,7 +85,7 @@ impl Frames {
     /// Adds a clause to the frames up to `level`, and drops the clauses that it makes needless
     /// there: those of a level no greater that have all its literals. It takes time by the literals
     /// of all clauses. A refusal changes nothing.
-    pub fn add(&mut self, clause: Seq<StateLit>, level: u32) -> Result<(), AllocError>
+    pub fn add(&mut self, clause: Seq<StateLit>, level: u32) -> Result<(), Refused>
         ensures top { self.new.top ≡ self.old.top }
         ensures newest { OnOk result (Contains self.new.entries (record { clause = clause; level = level })) }
         ensures only { OnOk result ((e : Entry) → Contains self.new.entries e → Contains self.old.entries e ⊎ (e ≡ record { clause = clause; level = level })) }
@@ -127,7 +128,7 @@ impl Frames {
         alloc: Global,
         model: &Model,
         level: u32,
-    ) -> Result<Option<Seq<Seq<Lit>>>, AllocError>
+    ) -> Result<Option<Seq<Seq<Lit>>>, Refused>
         requires left { level < self.now.top }
         ensures invariant { AreFrames model.now (bad_literal model.now 0) self.now → IfOk result (λ r. IfSome r (IsInvariant model.now)) }
         ensures none { IfOk result (λ r. r ≡ None → All (λ e. e.level ≢ level) self.now.entries → ⊥) }

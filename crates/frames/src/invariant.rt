@@ -4,8 +4,9 @@ ghost use Rattle.std.specs.Prelude.{◌≡◌, ◌≢◌, ◌↔◌, ◌<◌, Is
 ghost use Rattle.frames.specs.Clauses.{circuit_lit as circuit_lit_of, invariant_above};
 
 use crate::frames::Entry;
+use base::Refused;
 use graph::{Latch, Lit, Seq};
-use std::alloc::{AllocError, Global};
+use std::alloc::Global;
 use transition::StateLit;
 
 /// Whether no clause ends at the level.
@@ -32,7 +33,7 @@ fn circuit_clause(
     alloc: Global,
     latches: &[Latch],
     clause: &[StateLit],
-) -> Result<Seq<Lit>, AllocError>
+) -> Result<Seq<Lit>, Refused>
     requires { All (λ l. l.lit.0 < 4294967295) latches.now }
     ensures { IfOk result (λ c. c ≡ map (circuit_lit_of latches.now) clause.now) }
 {
@@ -49,7 +50,7 @@ pub(crate) fn clauses_above(
     latches: &[Latch],
     entries: &[Entry],
     level: u32,
-) -> Result<Seq<Seq<Lit>>, AllocError>
+) -> Result<Seq<Seq<Lit>>, Refused>
     requires { All (λ l. l.lit.0 < 4294967295) latches.now }
     ensures { IfOk result (λ c. c ≡ invariant_above latches.now entries.now level) }
 {

@@ -6,8 +6,8 @@ ghost use Rattle.transition.specs.States.{IsPartOf};
 ghost use Rattle.frames.specs.Frames.{IsRising, IsNeedless, IsNeeded, IsAdded};
 
 use crate::frames::Entry;
+use base::{Refused, push, reserve_one};
 use graph::Seq;
-use std::alloc::AllocError;
 use transition::StateLit;
 
 /// Whether the literal stands at the place.
@@ -63,12 +63,12 @@ pub(crate) fn insert(
     entries: &mut Vec<Entry>,
     clause: Seq<StateLit>,
     level: u32,
-) -> Result<(), AllocError>
+) -> Result<(), Refused>
     ensures added { OnOk result (IsAdded entries.old.items entries.new.items (record { clause = clause; level = level })) }
     ensures err { OnErr result (entries.new.items ≡ entries.old.items) }
 {
-    entries.reserve(1)?;
+    reserve_one(entries)?;
     drop_needless(entries, clause.as_slice(), level);
-    entries.push(Entry { clause, level })?;
+    push(entries, Entry { clause, level })?;
     Ok(())
 }

@@ -5,8 +5,9 @@ ghost use Rattle.transition.specs.declared.state.StateLit.{StateLit as Lit};
 ghost use Rattle.frames.specs.Clauses.{IsResetLit, IsResetEntry, reset_entry};
 
 use crate::frames::Entry;
+use base::{Refused, push};
 use graph::{Latch, Seq};
-use std::alloc::{AllocError, Global};
+use std::alloc::Global;
 use transition::StateLit;
 
 /// The value to which the latch at a position is reset, if it is reset to one.
@@ -26,7 +27,7 @@ fn reset_lit(latches: &[Latch], latch: u32) -> Option<StateLit>
 }
 
 /// A clause of one literal for each latch that is reset to 0 or 1, at level 0.
-pub(crate) fn reset_entries(alloc: Global, latches: &[Latch]) -> Result<Vec<Entry>, AllocError>
+pub(crate) fn reset_entries(alloc: Global, latches: &[Latch]) -> Result<Vec<Entry>, Refused>
     requires { length latches.now < 2 ^ 32 }
     ensures only { IfOk result (λ v. All (IsResetEntry latches.now) v.items) }
     ensures each { IfOk result (λ v. (a : Lit) → IsResetLit latches.now a → Contains v.items (reset_entry a)) }
@@ -35,7 +36,7 @@ pub(crate) fn reset_entries(alloc: Global, latches: &[Latch]) -> Result<Vec<Entr
     'resetting: for i in 0..latches.len() {
         if let Some(lit) = reset_lit(latches, i as u32) {
             let clause = Seq::from_slice(alloc, &[lit])?;
-            entries.push(Entry { clause, level: 0 })?;
+            push(&mut entries, Entry { clause, level: 0 })?;
         }
     }
     Ok(entries)

@@ -46,7 +46,7 @@ IsFirstFault-append max xs ys (Delta p) h = h
 IsFirstFault-append max xs ys (Symbol p) h = h
 IsFirstFault-append max xs ys (Counts p) h = h
 IsFirstFault-append max xs ys (NoProperty n) h = h
-IsFirstFault-append max xs ys OutOfMemory h = h
+IsFirstFault-append max xs ys (OutOfMemory refused) h = h
 
 pub GoesOn-none : (max before : ℕ) → GoesOn max before [] (Ok before)
 GoesOn-none max before = (omega arith, λ k d k_in. absurd (omega arith))

@@ -4,6 +4,7 @@ use Rattle.std.specs.Prelude.{flat_map, slice_index, IsErrAnd, IfErr, MatchResul
 use Rattle.std.proofs.lemmas.Option.{slice_get_within, unwrap_or-slice_get}
 use Rattle.std.proofs.lemmas.List.{get_or-map, length-map, get_or-append-add, get_or_default}
 use Rattle.std.proofs.lemmas.List.Elements.{All-nil, All-cons, All-head, All-tail, All-append, All-map, All-contains, All-from_recursion, Contains-get_or}
+use Rattle.base.specs.Witness.{witness}
 use Rattle.graph.specs.declared.circuit.Lit.{Lit}
 use Rattle.graph.specs.declared.circuit.Latch.{Latch}
 use Rattle.graph.specs.declared.circuit.Gate.{Gate}
@@ -197,7 +198,7 @@ literal_cause m (Delta p) limits h = absurd h
 literal_cause m (Symbol p) limits h = absurd h
 literal_cause m (Counts p) limits h = absurd h
 literal_cause m (NoProperty n) limits h = absurd h
-literal_cause m OutOfMemory limits h = absurd h
+literal_cause m (OutOfMemory refused) limits h = absurd h
 
 pub cause_told : {X : Type 0} (m : Parts) (r : Result X ReadError) (e : ReadError) → IsErrAnd r (λ x. x ≡ e) → HasCause m e → IfErr r (HasCause m)
 cause_told m (Ok x) e same h = absurd same
@@ -255,7 +256,7 @@ counts_in_limits m h =
     All-from_recursion P (counts_of m) (h.max_var, (h.inputs, (h.latches, (h.outputs, (h.gates, (h.bad, (h.constraints, (h.justice, (h.fairness, (h.justice_sum, tt))))))))))
 
 -- a cause refuses the parts
-pub cause_refuses : (m : Parts) (e : ReadError) → HasCause m e → e ≢ OutOfMemory → IsWellFormed m → ⊥
+pub cause_refuses : (m : Parts) (e : ReadError) → HasCause m e → e ≢ OutOfMemory witness → IsWellFormed m → ⊥
 cause_refuses m (Limit k) h not well = let fits : slice_index (counts_of m) k ≤ 4194303 = counts_in_limits m well.limits k 0 h.inside in let over = h.over in omega (arith, fits, over)
 cause_refuses m (LiteralRange k) h not well = not_fine m k (IsOutOfRange m.max_var) (fine_in_range m.max_var) h.1 (well_formed_fine m well)
 cause_refuses m (Defining k) h not well = not_fine m k (IsNotDefining m.max_var) (fine_defining m.max_var) h.1 (well_formed_fine m well)
@@ -267,7 +268,7 @@ cause_refuses m (Undefined v) (fine, ((proper, mentioned, missing), least)) not 
       | inr found ↦ missing found
     ]
 cause_refuses m (Cyclic v) (fine, ((u, leads, cycle), least)) not well = well.no_cycle u cycle
-cause_refuses m OutOfMemory h not well = not refl
+cause_refuses m (OutOfMemory refused) h not well = not refl
 cause_refuses m TooLong h not well = h
 cause_refuses m (Header p) h not well = h
 cause_refuses m (Number p) h not well = h
@@ -278,7 +279,7 @@ cause_refuses m (Symbol p) h not well = h
 cause_refuses m (Counts p) h not well = h
 cause_refuses m (NoProperty n) h not well = h
 
-pub refused_exact : {X : Type 0} (m : Parts) (r : Result X ReadError) → IfErr r (HasCause m) → IfErr r (λ e. e ≢ OutOfMemory → IsWellFormed m → ⊥)
+pub refused_exact : {X : Type 0} (m : Parts) (r : Result X ReadError) → IfErr r (HasCause m) → IfErr r (λ e. e ≢ OutOfMemory witness → IsWellFormed m → ⊥)
 refused_exact m (Ok x) h = h
 refused_exact m (Err e) h = cause_refuses m e h
 
@@ -295,7 +296,7 @@ pub cycle_told : {V : Type 0} (items : V → List ℕ) (m : Parts) (r : Result V
 cycle_told items m r v checked found same =
     (checked, subst (λ q. MatchResult q (λ w. IsOrder m.gates (items w)) (IsLeast (LeadsIntoCycle m.gates))) same found)
 
-pub exact_told : {X : Type 0} (m : Parts) (r : Result X ReadError) (e : ReadError) → IsErrAnd r (λ x. x ≡ e) → HasCause m e → IfErr r (λ x. x ≢ OutOfMemory → IsWellFormed m → ⊥)
+pub exact_told : {X : Type 0} (m : Parts) (r : Result X ReadError) (e : ReadError) → IsErrAnd r (λ x. x ≡ e) → HasCause m e → IfErr r (λ x. x ≢ OutOfMemory witness → IsWellFormed m → ⊥)
 exact_told m r e same h = refused_exact m r (cause_told m r e same h)
 
 get_or_at : (xs : List Lit) (n : ℕ) (a : Lit) → slice_get xs n ≡ Some a → get_or xs n a ≡ a

@@ -35,7 +35,7 @@ IsFirstFault max uses (Delta p) = ⊥
 IsFirstFault max uses (Symbol p) = ⊥
 IsFirstFault max uses (Counts p) = ⊥
 IsFirstFault max uses (NoProperty n) = ⊥
-IsFirstFault max uses OutOfMemory = ⊥
+IsFirstFault max uses (OutOfMemory refused) = ⊥
 
 -- after fine literals, as many as the count says, these are fine too, or the first fault is told
 abbrev pub GoesOn : ℕ → ℕ → List Use → Result ℕ ReadError → Type 0
@@ -88,7 +88,7 @@ HasCause m (Reset k) = IsInLimits m × IsFirstFault m.max_var (uses_of m) (Reset
 HasCause m (DefinedTwice v) = HasFineLiterals m × IsLeast (IsTwice (defined m)) v
 HasCause m (Undefined v) = HasDistinct m × IsLeast (IsUndefined (used m) (defined m)) v
 HasCause m (Cyclic v) = HasDefined m × IsLeast (LeadsIntoCycle m.gates) v
-HasCause m OutOfMemory = Unit {0}
+HasCause m (OutOfMemory refused) = Unit {0}
 HasCause m TooLong = ⊥
 HasCause m (Header p) = ⊥
 HasCause m (Number p) = ⊥

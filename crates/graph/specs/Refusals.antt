@@ -20,7 +20,7 @@ number_of (Delta p) = 13
 number_of (Symbol p) = 14
 number_of (Counts p) = 16
 number_of (NoProperty n) = 30
-number_of OutOfMemory = 20
+number_of (OutOfMemory refused) = 20
 
 abbrev pub place_of : ReadError → ℕ
 place_of TooLong = 67108864
@@ -39,4 +39,4 @@ place_of (Delta p) = p
 place_of (Symbol p) = p
 place_of (Counts p) = p
 place_of (NoProperty n) = n
-place_of OutOfMemory = 0
+place_of (OutOfMemory refused) = 0

@@ -8,8 +8,8 @@ ghost use Rattle.graph.specs.Tables.{IsCounted, IsMarked, StaysCounted, StaysMar
 
 use crate::circuit::{Gate, Latch, Lit};
 use crate::parts::Parts;
-use base::Seq;
-use std::alloc::{AllocError, Global};
+use base::{Refused, Seq, filled};
+use std::alloc::Global;
 
 /// How often a variable is defined.
 #[derive(Clone, Copy, Debug, PartialEq, Eq)]
@@ -69,13 +69,13 @@ fn define_all(table: &mut [Times], parts: &Parts)
 }
 
 /// How often each variable is defined.
-pub fn definitions_of(alloc: Global, parts: &Parts) -> Result<Vec<Times>, AllocError>
+pub fn definitions_of(alloc: Global, parts: &Parts) -> Result<Vec<Times>, Refused>
     requires small { parts.now.max_var ≤ 4194303 }
     requires in_range { All (λ a. variable a ≤ parts.now.max_var) (defining parts.now) }
     ensures places { IfOk result (λ table. length table.items ≡ parts.now.max_var + 1) }
     ensures counted { IfOk result (λ table. IsCounted table.items (defined parts.now)) }
 {
-    let mut table = vec![in alloc; Times::Never; parts.max_var as usize + 1]?;
+    let mut table = filled(alloc, Times::Never, parts.max_var as usize + 1)?;
     define_all(&mut table, parts);
     Ok(table)
 }
@@ -142,13 +142,13 @@ fn mention_all(table: &mut [bool], parts: &Parts)
 }
 
 /// Which variables are used.
-pub fn mentions_of(alloc: Global, parts: &Parts) -> Result<Vec<bool>, AllocError>
+pub fn mentions_of(alloc: Global, parts: &Parts) -> Result<Vec<bool>, Refused>
     requires small { parts.now.max_var ≤ 4194303 }
     requires in_range { All (λ a. variable a ≤ parts.now.max_var) (used parts.now) }
     ensures places { IfOk result (λ table. length table.items ≡ parts.now.max_var + 1) }
     ensures marked { IfOk result (λ table. IsMarked table.items (map variable (used parts.now))) }
 {
-    let mut table = vec![in alloc; false; parts.max_var as usize + 1]?;
+    let mut table = filled(alloc, false, parts.max_var as usize + 1)?;
     mention_all(&mut table, parts);
     Ok(table)
 }

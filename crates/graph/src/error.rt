@@ -3,7 +3,7 @@
 ghost use Rattle.std.specs.Prelude.{◌≡◌};
 ghost use Rattle.graph.specs.Refusals.{number_of, place_of};
 
-use std::alloc::AllocError;
+use base::Refused;
 use thiserror::Error;
 
 /// Why parts, or a text, make no circuit. Each refusal has a number and a place. In a text the
@@ -49,18 +49,19 @@ pub enum ReadError {
     Counts(u64),
     #[error("there is no property {0}")]
     NoProperty(u32),
-    #[error("out of memory")]
-    OutOfMemory,
+    #[error("{0}")]
+    OutOfMemory(Refused),
 }
 
-impl From<AllocError> for ReadError {
+impl From<Refused> for ReadError {
     ghost use Rattle.std.specs.Prelude.{◌≡◌};
+    ghost use Rattle.base.specs.Witness.{witness};
     ghost use Rattle.graph.specs.declared.error.ReadError.TheVariants.{OutOfMemory};
 
-    ghost from_gives = { λ _ e. e ≡ OutOfMemory };
+    ghost from_gives = { λ _ e. e ≡ OutOfMemory witness };
 
-    fn from(_e: AllocError) -> ReadError {
-        ReadError::OutOfMemory
+    fn from(refused: Refused) -> ReadError {
+        ReadError::OutOfMemory(refused)
     }
 }
 
@@ -85,7 +86,7 @@ impl ReadError {
             ReadError::Delta(_) => 13,
             ReadError::Symbol(_) => 14,
             ReadError::Counts(_) => 16,
-            ReadError::OutOfMemory => 20,
+            ReadError::OutOfMemory(_) => 20,
             ReadError::NoProperty(_) => 30,
         }
     }
@@ -111,7 +112,7 @@ impl ReadError {
             | ReadError::Undefined(variable)
             | ReadError::Cyclic(variable) => u64::from(*variable),
             ReadError::NoProperty(number) => u64::from(*number),
-            ReadError::OutOfMemory => 0,
+            ReadError::OutOfMemory(_) => 0,
         }
     }
 }

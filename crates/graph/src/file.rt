@@ -1,6 +1,7 @@
 //! A whole AIGER file.
 
 ghost use Rattle.std.specs.Prelude.{◌≡◌, ◌⊎◌, ℕ, MatchOption, option_map, Option, IfOk, IfErr};
+ghost use Rattle.base.specs.Witness.{witness};
 ghost use Rattle.graph.specs.Symbols.{symbol_counts, AreSymbols, IsFirstWrong};
 
 use crate::error::ReadError;
@@ -38,7 +39,7 @@ impl AigerFile {
     ) -> Result<AigerFile, ReadError>
         ensures ok { IfOk result (λ f. f ≡ record { model = model; symbols = symbols; comment = comment }) }
         // The first symbol that names nothing, or what has a name already, or has no name.
-        ensures refused { IfErr result (λ e. (e ≡ ReadError.OutOfMemory) ⊎ ((i : ℕ) × (e ≡ ReadError.Symbol i) × IsFirstWrong (symbol_counts model) symbols i)) }
+        ensures refused { IfErr result (λ e. (e ≡ ReadError.OutOfMemory witness) ⊎ ((i : ℕ) × (e ≡ ReadError.Symbol i) × IsFirstWrong (symbol_counts model) symbols i)) }
     {
         match first_wrong(alloc, model.parts(), symbols.as_slice())? {
             Some(i) => Err(ReadError::Symbol(i as u64)),

@@ -26,8 +26,8 @@ mod parts;
 mod symbol;
 
 pub use base::{
-    Budget, Failed, FromBytes, FromRead, ReadAllError, Seq, Sink, Source, ToVec, ToWrite, put_all,
-    read_all,
+    Budget, Failed, FromBytes, FromRead, ReadAllError, ReadToEndError, Refused, Seq, Sink, Source,
+    ToVec, ToWrite, put_all, read_all, read_to_end,
 };
 pub use circuit::{Gate, Latch, Lit, Property};
 pub use error::ReadError;

@@ -1,6 +1,7 @@
 //! Well-formed circuits.
 
 ghost use Rattle.std.specs.Prelude.{◌≡◌, ◌≢◌, ◌+◌, ◌≤◌, ◌⊎◌, ◌↔◌, ◌∷◌, [], List, Bool, length, slice_get, Some, IsTrue, IfOk, IfErr, IsErrOf};
+ghost use Rattle.base.specs.Witness.{witness};
 ghost use Rattle.graph.specs.Faults.{HasCause};
 ghost use Rattle.graph.specs.Valuation.{Agrees, state_of, inputs_of};
 ghost use Rattle.graph.specs.WellFormed.{IsWellFormed, IsOrder, IsOrdered, only_bad};
@@ -10,8 +11,8 @@ use crate::circuit::{Gate, Latch, Lit};
 use crate::error::ReadError;
 use crate::parts::Parts;
 use crate::{fill, numbering};
-use base::Seq;
-use std::alloc::{AllocError, Global};
+use base::{Seq, copied};
+use std::alloc::Global;
 
 /// A circuit whose parts are well formed, with an order in which its gates can be evaluated.
 /// Contracts see its `Parts`.
@@ -40,25 +41,16 @@ fn nth(lits: &[Lit], n: u32) -> Option<Lit>
     lits.get(n as usize).copied()
 }
 
-/// The same order in memory of its own.
-fn copy_order(alloc: Global, order: &[u32]) -> Result<Vec<u32>, AllocError>
-    ensures { IfOk result (λ v. v.items ≡ order.now) }
-{
-    let mut copy = Vec::new(alloc);
-    copy.extend_from_slice(order)?;
-    Ok(copy)
-}
-
 impl Model {
     /// The circuit of these parts, in memory of its own. It takes time and memory by the parts'
     /// length.
     pub fn build(alloc: Global, parts: &Parts) -> Result<Model, ReadError>
         ensures built { IfOk result (λ m. (m ≡ parts.now) × IsWellFormed parts.now) }
         ensures refused { IfErr result (HasCause parts.now) }
-        ensures exact { IfErr result (λ e. e ≢ ReadError.OutOfMemory → IsWellFormed parts.now → ⊥) }
+        ensures exact { IfErr result (λ e. e ≢ ReadError.OutOfMemory witness → IsWellFormed parts.now → ⊥) }
     {
         let order = check(alloc, parts)?;
-        let parts = parts.copy()?;
+        let parts = parts.copy(alloc)?;
         Ok(Model { parts, order })
     }
 
@@ -66,7 +58,7 @@ impl Model {
     pub fn from_parts(alloc: Global, parts: Parts) -> Result<Model, ReadError>
         ensures built { IfOk result (λ m. (m ≡ parts) × IsWellFormed parts) }
         ensures refused { IfErr result (HasCause parts) }
-        ensures exact { IfErr result (λ e. e ≢ ReadError.OutOfMemory → IsWellFormed parts → ⊥) }
+        ensures exact { IfErr result (λ e. e ≢ ReadError.OutOfMemory witness → IsWellFormed parts → ⊥) }
     {
         let order = check(alloc, &parts)?;
         Ok(Model { parts, order })
@@ -162,13 +154,13 @@ impl Model {
     /// justice or fairness.
     pub fn for_bad(&self, alloc: Global, n: u32) -> Result<Model, ReadError>
         ensures found { IfOk result (λ m. (bad : Lit) × (slice_get self.now.bad n ≡ Some bad) × (m ≡ only_bad self.now bad)) }
-        ensures refused { IfErr result (λ e. (e ≡ ReadError.OutOfMemory) ⊎ ((e ≡ ReadError.NoProperty n) × (length self.now.bad ≤ n))) }
+        ensures refused { IfErr result (λ e. (e ≡ ReadError.OutOfMemory witness) ⊎ ((e ≡ ReadError.NoProperty n) × (length self.now.bad ≤ n))) }
     {
         let Some(bad) = nth(self.parts.bad.as_slice(), n) else {
             return Err(ReadError::NoProperty(n));
         };
         let parts = self.parts.only_bad(alloc, bad)?;
-        let order = copy_order(alloc, &self.order)?;
+        let order = copied(alloc, &self.order)?;
         Ok(Model { parts, order })
     }
 

@@ -12,7 +12,8 @@ ghost use Rattle.graph.specs.Search.{lefts, mark_of, weight, ArePlaces, IsSearch
 ghost use Rattle.graph.specs.declared.ordering.Mark.TheVariants.{Waiting, Open, Ordered, Stuck};
 
 use crate::circuit::{Gate, Lit};
-use std::alloc::{AllocError, Global};
+use base::{Refused, filled, push};
+use std::alloc::Global;
 
 /// How far the search has come with a variable.
 #[derive(Clone, Copy, Debug, PartialEq, Eq)]
@@ -75,15 +76,14 @@ pub fn next_step(gate: Gate, marks: &[Mark]) -> Step
 
 impl Search {
     /// Puts a waiting variable on the stack.
-    fn enter(&mut self, v: u32) -> Result<(), AllocError>
+    fn enter(&mut self, v: u32) -> Result<(), Refused>
         requires { v < length self.old.marks.items }
         ensures marks { self.new.marks.items ≡ slice_set self.old.marks.items v Open }
         ensures order { self.new.order.items ≡ self.old.order.items }
         ensures stack { OnOk result (self.new.stack.items ≡ self.old.stack.items ++ v ∷ []) }
     {
         self.marks[v as usize] = Mark::Open;
-        self.stack.push(v)?;
-        Ok(())
+        push(&mut self.stack, v)
     }
 
     /// Takes the top from the stack and marks it.
@@ -100,7 +100,7 @@ impl Search {
     }
 
     /// Does what the gate on top of the stack asks for.
-    fn advance(&mut self, gates: &[Gate], places: &[u32]) -> Result<(), AllocError>
+    fn advance(&mut self, gates: &[Gate], places: &[u32]) -> Result<(), Refused>
         requires search { IsSearch gates.now self.old.marks.items self.old.order.items self.old.stack.items }
         requires some { 0 < length self.old.stack.items }
         requires places { ArePlaces gates.now places.now }
@@ -119,7 +119,7 @@ impl Search {
             }
             Step::Finish => {
                 self.leave(Mark::Ordered);
-                self.order.push(place)?;
+                push(&mut self.order, place)?;
             }
             Step::Stick => {
                 self.leave(Mark::Stuck);
@@ -129,7 +129,7 @@ impl Search {
     }
 
     /// Orders the gate of a variable and what it leads to, or finds what leads into a cycle.
-    fn settle(&mut self, gates: &[Gate], places: &[u32], root: u32) -> Result<(), AllocError>
+    fn settle(&mut self, gates: &[Gate], places: &[u32], root: u32) -> Result<(), Refused>
         requires search { IsSearch gates.now self.old.marks.items self.old.order.items self.old.stack.items }
         requires empty { self.old.stack.items ≡ [] }
         requires places { ArePlaces gates.now places.now }
@@ -153,13 +153,14 @@ impl Search {
 }
 
 /// The place of the gate that defines each variable; 0 for the others.
-fn places_of(alloc: Global, gates: &[Gate], max_var: u32) -> Result<Vec<u32>, AllocError>
+fn places_of(alloc: Global, gates: &[Gate], max_var: u32) -> Result<Vec<u32>, Refused>
     requires few { length gates.now < 2 ^ 32 }
+    requires small { max_var ≤ 4194303 }
     requires in_range { All (λ g. variable g.lhs ≤ max_var) gates.now }
     requires once { AllPairs (λ u v. u ≢ v) (lefts gates.now) }
     ensures { IfOk result (λ v. (length v.items ≡ max_var + 1) × ArePlaces gates.now v.items) }
 {
-    let mut places = vec![in alloc; 0u32; max_var as usize + 1]?;
+    let mut places = filled(alloc, 0u32, max_var as usize + 1)?;
     for (place, gate) in gates.iter().enumerate() {
         places[gate.lhs.variable() as usize] = place as u32;
     }
@@ -167,11 +168,12 @@ fn places_of(alloc: Global, gates: &[Gate], max_var: u32) -> Result<Vec<u32>, Al
 }
 
 /// Every gate's variable is waiting at first.
-fn first_marks(alloc: Global, gates: &[Gate], max_var: u32) -> Result<Vec<Mark>, AllocError>
+fn first_marks(alloc: Global, gates: &[Gate], max_var: u32) -> Result<Vec<Mark>, Refused>
+    requires small { max_var ≤ 4194303 }
     requires in_range { All (λ g. variable g.lhs ≤ max_var) gates.now }
     ensures { IfOk result (λ v. (length v.items ≡ max_var + 1) × IsSearch gates.now v.items [] []) }
 {
-    let mut marks = vec![in alloc; Mark::Ordered; max_var as usize + 1]?;
+    let mut marks = filled(alloc, Mark::Ordered, max_var as usize + 1)?;
     for gate in gates {
         marks[gate.lhs.variable() as usize] = Mark::Waiting;
     }
@@ -196,8 +198,9 @@ pub fn find_order(
     alloc: Global,
     gates: &[Gate],
     max_var: u32,
-) -> Result<Result<Vec<u32>, u32>, AllocError>
+) -> Result<Result<Vec<u32>, u32>, Refused>
     requires few { length gates.now < 2 ^ 32 }
+    requires small { max_var ≤ 4194303 }
     requires in_range { All (λ g. (variable g.lhs ≤ max_var) × (variable g.rhs0 ≤ max_var) × (variable g.rhs1 ≤ max_var)) gates.now }
     requires once { AllPairs (λ u v. u ≢ v) (lefts gates.now) }
     ensures found { IfOk result (λ r. MatchResult r (λ order. IsOrder gates.now order.items) (IsLeast (LeadsIntoCycle gates.now))) }

@@ -4,12 +4,12 @@ ghost use Rattle.std.specs.Prelude.{◌≡◌, IfOk};
 ghost use Rattle.graph.specs.WellFormed.{only_bad as only_bad_of};
 
 use crate::circuit::{Gate, Latch, Lit};
-use base::Seq;
-use std::alloc::{AllocError, Global};
+use base::{Refused, Seq};
+use std::alloc::Global;
 
 /// A circuit as its lists, in the order of the file. Nothing is promised of them: `Model` is for
 /// parts that are well formed.
-#[derive(Clone, Debug, Drop)]
+#[derive(Debug, Drop)]
 pub struct Parts {
     /// The greatest variable, `M`.
     pub max_var: u32,
@@ -27,29 +27,50 @@ pub struct Parts {
     pub gates: Seq<Gate>,
 }
 
+/// The same lists in memory of their own.
+fn copy_lists(alloc: Global, lists: &[Seq<Lit>]) -> Result<Seq<Seq<Lit>>, Refused>
+    ensures { IfOk result (λ copies. copies ≡ lists.now) }
+{
+    let mut copies = Seq::new(alloc);
+    for list in lists {
+        copies.push(list.copy(alloc)?)?;
+    }
+    Ok(copies)
+}
+
 impl Parts {
     /// The same parts in memory of their own.
-    pub(crate) fn copy(&self) -> Result<Parts, AllocError>
+    pub fn copy(&self, alloc: Global) -> Result<Parts, Refused>
         ensures { IfOk result (λ m. m ≡ self.now) }
     {
-        self.clone()
+        Ok(Parts {
+            max_var: self.max_var,
+            inputs: self.inputs.copy(alloc)?,
+            latches: self.latches.copy(alloc)?,
+            outputs: self.outputs.copy(alloc)?,
+            bad: self.bad.copy(alloc)?,
+            constraints: self.constraints.copy(alloc)?,
+            justice: copy_lists(alloc, self.justice.as_slice())?,
+            fairness: self.fairness.copy(alloc)?,
+            gates: self.gates.copy(alloc)?,
+        })
     }
 
     /// The same circuit and constraints with this one bad literal, and no outputs, justice or
     /// fairness.
-    pub(crate) fn only_bad(&self, alloc: Global, bad: Lit) -> Result<Parts, AllocError>
+    pub(crate) fn only_bad(&self, alloc: Global, bad: Lit) -> Result<Parts, Refused>
         ensures { IfOk result (λ m. m ≡ only_bad_of self.now bad) }
     {
         Ok(Parts {
             max_var: self.max_var,
-            inputs: self.inputs.clone()?,
-            latches: self.latches.clone()?,
+            inputs: self.inputs.copy(alloc)?,
+            latches: self.latches.copy(alloc)?,
             outputs: Seq::new(alloc),
             bad: Seq::from_slice(alloc, &[bad])?,
-            constraints: self.constraints.clone()?,
+            constraints: self.constraints.copy(alloc)?,
             justice: Seq::new(alloc),
             fairness: Seq::new(alloc),
-            gates: self.gates.clone()?,
+            gates: self.gates.copy(alloc)?,
         })
     }
 }

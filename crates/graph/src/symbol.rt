@@ -1,13 +1,15 @@
 //! Names of a circuit's literals.
 
-ghost use Rattle.std.specs.Prelude.{◌≡◌, ◌<◌, ◌++◌, ◌∷◌, [], ◌↔◌, false, map, replicate, length, slice_index_or, IsTrue, IfOk, OnErr, MatchOption};
+ghost use Rattle.std.specs.Prelude.{◌≡◌, ◌<◌, ◌++◌, ◌∷◌, [], ◌↔◌, false, map, replicate, length, slice_index_or, IsTrue, IfOk, OnOk, OnErr, MatchOption};
 ghost use Rattle.std.specs.Bool.{OnTrue, OnFalse};
+ghost use Rattle.std.specs.Mem.{type_size};
+ghost use Rattle.base.specs.Sizes.{IsItemSize};
 ghost use Rattle.graph.specs.Symbols.{index_of, symbol_counts, IsName, IsFree, AreSymbols, IsFirstWrong};
 ghost use Rattle.graph.specs.Taken.{rows_of, marked_at, IsUnmarked, AreTaken};
 
 use crate::parts::Parts;
-use base::Seq;
-use std::alloc::{AllocError, Global};
+use base::{Refused, Seq, filled_like, push};
+use std::alloc::Global;
 use std::marker::Model;
 
 /// What a symbol names: the letters `i l o b c j f` of AIGER 1.9.
@@ -40,7 +42,7 @@ impl SymbolKind {
 }
 
 /// A name for what stands at a position among its kind.
-#[derive(Clone, Debug, Drop)]
+#[derive(Debug, Drop)]
 pub struct Symbol {
     pub kind: SymbolKind,
     pub position: u32,
@@ -91,38 +93,41 @@ fn mark(taken: &mut [Vec<bool>], kind: usize, position: usize)
     taken[kind][position] = true;
 }
 
+/// Adds a row of marks, one for each item of the list, none of them set.
+fn push_row<T>(alloc: Global, taken: &mut Vec<Vec<bool>>, list: &[T]) -> Result<(), Refused>
+    requires { IsItemSize (type_size T.row) }
+    ensures { OnOk result (rows_of taken.new.items ≡ rows_of taken.old.items ++ replicate (length list.now) false ∷ []) }
+{
+    push(taken, filled_like(alloc, false, list)?)
+}
+
 /// A row of marks for each kind, none of them set.
-fn unmarked(alloc: Global, counts: &[usize]) -> Result<Vec<Vec<bool>>, AllocError>
-    ensures { IfOk result (λ taken. rows_of taken.items ≡ map (λ n. replicate n false) counts.now) }
+fn unmarked(alloc: Global, parts: &Parts) -> Result<Vec<Vec<bool>>, Refused>
+    ensures { IfOk result (λ taken. rows_of taken.items ≡ map (λ n. replicate n false) (symbol_counts parts.now)) }
 {
     let mut taken = Vec::new(alloc);
-    for count in counts {
-        taken.push(vec![in alloc; false; *count]?)?;
-    }
+    push_row(alloc, &mut taken, parts.inputs.as_slice())?;
+    push_row(alloc, &mut taken, parts.latches.as_slice())?;
+    push_row(alloc, &mut taken, parts.outputs.as_slice())?;
+    push_row(alloc, &mut taken, parts.bad.as_slice())?;
+    push_row(alloc, &mut taken, parts.constraints.as_slice())?;
+    push_row(alloc, &mut taken, parts.justice.as_slice())?;
+    push_row(alloc, &mut taken, parts.fairness.as_slice())?;
     Ok(taken)
 }
 
 /// A mark for each thing of the parts that can have a name, none of them set.
-fn marks_for(alloc: Global, parts: &Parts) -> Result<Vec<Vec<bool>>, AllocError>
+fn marks_for(alloc: Global, parts: &Parts) -> Result<Vec<Vec<bool>>, Refused>
     ensures taken { IfOk result (λ taken. AreTaken (rows_of taken.items) []) }
     ensures counts { IfOk result (λ taken. map length (rows_of taken.items) ≡ symbol_counts parts.now) }
 {
-    let counts = [
-        parts.inputs.len(),
-        parts.latches.len(),
-        parts.outputs.len(),
-        parts.bad.len(),
-        parts.constraints.len(),
-        parts.justice.len(),
-        parts.fairness.len(),
-    ];
-    let taken = unmarked(alloc, &counts)?;
+    let taken = unmarked(alloc, parts)?;
     Ok(taken)
 }
 
 impl Symbols {
     /// No symbols yet, of these parts. It takes a mark for each thing that can have a name.
-    pub fn new(alloc: Global, parts: &Parts) -> Result<Symbols, AllocError>
+    pub fn new(alloc: Global, parts: &Parts) -> Result<Symbols, Refused>
         ensures { IfOk result (λ s. s ≡ record { counts = symbol_counts parts.now; symbols = [] }) }
     {
         Ok(Symbols {
@@ -133,7 +138,7 @@ impl Symbols {
 
     /// Adds a symbol at the end and answers true, where it names something that is there and that
     /// has no name yet; otherwise, and without memory, nothing changes.
-    pub fn add(&mut self, symbol: Symbol) -> Result<bool, AllocError>
+    pub fn add(&mut self, symbol: Symbol) -> Result<bool, Refused>
         requires { IsName symbol.name }
         ensures added { IfOk result (λ added. OnTrue added (self.new ≡ record { counts = self.old.counts; symbols = self.old.symbols ++ symbol ∷ [] })) }
         ensures free { IfOk result (λ added. IsTrue added ↔ IsFree self.old.counts self.old.symbols symbol) }
@@ -145,7 +150,7 @@ impl Symbols {
         if !is_free(&self.taken, kind, position) {
             return Ok(false);
         }
-        self.symbols.push(symbol)?;
+        push(&mut self.symbols, symbol)?;
         mark(&mut self.taken, kind, position);
         Ok(true)
     }
@@ -168,7 +173,7 @@ pub(crate) fn first_wrong(
     alloc: Global,
     parts: &Parts,
     symbols: &[Symbol],
-) -> Result<Option<usize>, AllocError>
+) -> Result<Option<usize>, Refused>
     ensures { IfOk result (λ wrong. MatchOption wrong (AreSymbols (symbol_counts parts.now) symbols.now) (IsFirstWrong (symbol_counts parts.now) symbols.now)) }
 {
     let mut taken = marks_for(alloc, parts)?;

@@ -10,11 +10,12 @@ ghost use Rattle.frames.specs.Frames.{InFrame, AreFrames, IsStateClause};
 ghost use Rattle.ic3.specs.Told.{IsTold, IsSound};
 ghost use Rattle.ic3.specs.Answers.{IsAfter, IsRelative};
 
+use base::Refused;
 use engine::EngineError;
 use frames::{Entry, Frames};
 use graph::{Budget, Model, Seq};
 use solver::Sat;
-use std::alloc::{AllocError, Global};
+use std::alloc::Global;
 use transition::{Consecution, StateLit, Transition, holds_after};
 
 /// The fewest questions with a clause of their own, and clauses that move on, for which a circuit is
@@ -53,7 +54,7 @@ fn questions(circuit: &Model) -> u32
 
 /// The guards of the levels from `first` on, and below `end`, the greatest first: so those of two
 /// questions begin alike, and a solver need not assume them anew (`Cdcl` doesn't).
-pub(crate) fn guards_from(alloc: Global, first: u32, end: u32) -> Result<Seq<u32>, AllocError>
+pub(crate) fn guards_from(alloc: Global, first: u32, end: u32) -> Result<Seq<u32>, Refused>
     ensures { IfOk result (λ guards. All (λ g. (first ≤ g) × (g < end)) guards) }
 {
     let mut guards = Seq::new(alloc);

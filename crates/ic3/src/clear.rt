@@ -11,18 +11,19 @@ use crate::asker::Asker;
 use crate::deny::Denial;
 use crate::obligation::{Obligation, obligation_at, obligation_before};
 use crate::run::run_of;
+use base::{Refused, push};
 use engine::{EngineError, Finding, Reason};
 use frames::Frames;
 use graph::{Budget, Model};
 use solver::Sat;
-use std::alloc::{AllocError, Global};
+use std::alloc::Global;
 use transition::Time;
 
 /// Puts an obligation aside, until what leads to it is denied.
-fn stack(earlier: &mut Vec<Obligation>, now: Obligation) -> Result<(), AllocError>
+fn stack(earlier: &mut Vec<Obligation>, now: Obligation) -> Result<(), Refused>
     ensures { OnOk result (earlier.new.items ≡ earlier.old.items ++ now ∷ []) }
 {
-    earlier.push(now)?;
+    push(earlier, now)?;
     Ok(())
 }
 

@@ -3,9 +3,10 @@
 //! As long as such a state lies in the frame, the clause does not move on, so it need not be asked for
 //! again.
 
+use base::{Refused, push};
 use frames::Entry;
 use graph::Seq;
-use std::alloc::{AllocError, Global};
+use std::alloc::Global;
 use transition::StateLit;
 
 /// A clause that did not hold after the step from a state of the frame at a level.
@@ -73,7 +74,7 @@ impl Failures {
         level: u32,
         clause: &[StateLit],
         state: &[bool],
-    ) -> Result<(), AllocError> {
+    ) -> Result<(), Refused> {
         let failure = Failure {
             clause: Seq::from_slice(alloc, clause)?,
             level,
@@ -81,7 +82,7 @@ impl Failures {
         };
         match self.find(clause) {
             Some(place) if place < self.items.len() => self.items[place] = failure,
-            _ => self.items.push(failure)?,
+            _ => push(&mut self.items, failure)?,
         }
         Ok(())
     }

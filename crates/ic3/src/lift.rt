@@ -8,8 +8,9 @@ ghost use Rattle.transition.specs.States.{Denies};
 ghost use Rattle.frames.specs.Frames.{IsStateClause};
 ghost use Rattle.graph.specs.declared.parts.Parts.{Parts};
 
+use base::{Refused, filled};
 use graph::{Gate, Latch, Lit, Model, Seq};
-use std::alloc::{AllocError, Global};
+use std::alloc::Global;
 use transition::{StateLit, Time};
 
 /// Whether the place of the literal's variable is marked.
@@ -81,7 +82,7 @@ fn clause_of(
     latches: &[Latch],
     state: &[bool],
     needed: &[bool],
-) -> Result<Seq<StateLit>, AllocError>
+) -> Result<Seq<StateLit>, Refused>
     requires small { length latches.now < 2 ^ 32 }
     requires state { length state.now ≡ length latches.now }
     ensures denies { IfOk result (Denies state.now) }
@@ -106,7 +107,7 @@ pub(crate) fn lifted(
     circuit: &Model,
     time: &Time,
     targets: &[Lit],
-) -> Result<Seq<StateLit>, AllocError>
+) -> Result<Seq<StateLit>, Refused>
     requires state { length time.now.state ≡ length circuit.now.latches }
     requires inputs { length time.now.inputs ≡ length circuit.now.inputs }
     ensures denies { IfOk result (Denies time.now.state) }
@@ -114,9 +115,9 @@ pub(crate) fn lifted(
 {
     circuit.parts();
     let places = circuit.max_var() as usize + 1;
-    let mut values = vec![in alloc; false; places]?;
+    let mut values = filled(alloc, false, places)?;
     circuit.eval(time.state.as_slice(), time.inputs.as_slice(), &mut values);
-    let mut needed = vec![in alloc; false; places]?;
+    let mut needed = filled(alloc, false, places)?;
     need_all(&mut needed, targets);
     need_all(&mut needed, circuit.constraints());
     need_gates(&mut needed, &values, circuit);

@@ -4,8 +4,9 @@ ghost use Rattle.std.specs.Prelude.{◌≡◌, ◌≤◌, ℕ, length, IfOk};
 ghost use Rattle.ic3.specs.Answers.{IsObligation};
 
 use crate::lift::lifted;
+use base::Refused;
 use graph::{Latch, Lit, Model, Seq};
-use std::alloc::{AllocError, Global};
+use std::alloc::Global;
 use transition::{StateLit, Time};
 
 /// States that lead to the bad literal, and the frame in which they are to be denied.
@@ -23,7 +24,7 @@ fn next_literals(
     alloc: Global,
     latches: &[Latch],
     clause: &[StateLit],
-) -> Result<Seq<Lit>, AllocError> {
+) -> Result<Seq<Lit>, Refused> {
     let mut lits = Seq::new(alloc);
     'collecting: for lit in clause {
         if let Some(latch) = latches.get(lit.latch as usize) {
@@ -39,7 +40,7 @@ pub(crate) fn obligation_at(
     circuit: &Model,
     time: Time,
     level: u32,
-) -> Result<Obligation, AllocError>
+) -> Result<Obligation, Refused>
     requires state { length time.state ≡ length circuit.now.latches }
     requires inputs { length time.inputs ≡ length circuit.now.inputs }
     ensures { (top : ℕ) → level ≤ top → IfOk result (IsObligation circuit.now top) }
@@ -58,7 +59,7 @@ pub(crate) fn obligation_before(
     circuit: &Model,
     time: Time,
     after: &Obligation,
-) -> Result<Obligation, AllocError>
+) -> Result<Obligation, Refused>
     requires state { length time.state ≡ length circuit.now.latches }
     requires inputs { length time.inputs ≡ length circuit.now.inputs }
     ensures { (top : ℕ) → IsObligation circuit.now top after.now → IfOk result (IsObligation circuit.now top) }

@@ -3,8 +3,10 @@
 //! A latch that is in many clauses of the frames is likely to be needed once more, so the others are
 //! tried first (Een, Mishchenko, Brayton 2011).
 
+use base::{Refused, filled_like, push};
 use frames::Entry;
-use std::alloc::{AllocError, Global};
+use graph::Latch;
+use std::alloc::Global;
 use transition::StateLit;
 
 /// One more clause of each latch of this one.
@@ -17,8 +19,8 @@ fn count(uses: &mut [u32], clause: &[StateLit]) {
 }
 
 /// In how many clauses of the frames each of the first latches is.
-fn uses_of(alloc: Global, entries: &[Entry], latches: usize) -> Result<Vec<u32>, AllocError> {
-    let mut uses = vec![in alloc; 0u32; latches]?;
+fn uses_of(alloc: Global, latches: &[Latch], entries: &[Entry]) -> Result<Vec<u32>, Refused> {
+    let mut uses = filled_like(alloc, 0u32, latches)?;
     for entry in entries {
         count(uses.as_mut_slice(), entry.clause.as_slice());
     }
@@ -29,17 +31,19 @@ fn uses_of(alloc: Global, entries: &[Entry], latches: usize) -> Result<Vec<u32>,
 /// clauses of the frames.
 pub(crate) fn rarest_first(
     alloc: Global,
+    latches: &[Latch],
     entries: &[Entry],
     clause: &[StateLit],
-) -> Result<Vec<u32>, AllocError> {
+) -> Result<Vec<u32>, Refused> {
     let last = clause.last().map_or(0, |lit| lit.latch as usize + 1);
-    let uses = uses_of(alloc, entries, last)?;
-    let mut latches = Vec::new(alloc);
+    let first = &latches[..last.min(latches.len())];
+    let uses = uses_of(alloc, first, entries)?;
+    let mut order = Vec::new(alloc);
     for lit in clause {
-        latches.push(lit.latch)?;
+        push(&mut order, lit.latch)?;
     }
-    latches
+    order
         .as_mut_slice()
         .sort_unstable_by_key(|latch| (uses.get(*latch as usize).copied(), *latch));
-    Ok(latches)
+    Ok(order)
 }

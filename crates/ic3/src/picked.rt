@@ -6,20 +6,21 @@ ghost use Rattle.transition.specs.declared.state.StateLit.{StateLit as Literal};
 ghost use Rattle.transition.specs.States.{IsPartOf};
 ghost use Rattle.ic3.specs.Answers.{IsPicked};
 
+use base::{Refused, push};
 use graph::Seq;
-use std::alloc::{AllocError, Global};
+use std::alloc::Global;
 use transition::StateLit;
 
 /// The latches of the literals, and of one more.
-fn latches_of(alloc: Global, part: &[StateLit], more: StateLit) -> Result<Vec<u32>, AllocError>
+fn latches_of(alloc: Global, part: &[StateLit], more: StateLit) -> Result<Vec<u32>, Refused>
     ensures part { IfOk result (λ v. (a : Literal) → Contains part.now a → Contains v.items a.latch) }
     ensures more { IfOk result (λ v. Contains v.items more.latch) }
 {
     let mut latches = Vec::new(alloc);
     'listing: for lit in part {
-        latches.push(lit.latch)?;
+        push(&mut latches, lit.latch)?;
     }
-    latches.push(more.latch)?;
+    push(&mut latches, more.latch)?;
     Ok(latches)
 }
 
@@ -33,7 +34,7 @@ fn sort(numbers: &mut [u32])
 }
 
 /// The latches in order.
-fn in_order(alloc: Global, part: &[StateLit], more: StateLit) -> Result<Vec<u32>, AllocError>
+fn in_order(alloc: Global, part: &[StateLit], more: StateLit) -> Result<Vec<u32>, Refused>
     ensures rising { IfOk result (λ v. IsNonDecreasing v.items) }
     ensures part { IfOk result (λ v. (a : Literal) → Contains part.now a → Contains v.items a.latch) }
     ensures more { IfOk result (λ v. Contains v.items more.latch) }
@@ -52,7 +53,7 @@ fn contains(numbers: &[u32], number: u32) -> bool
 }
 
 /// The literals of the clause whose latches are among these, which are in order.
-fn among(alloc: Global, clause: &[StateLit], latches: &[u32]) -> Result<Seq<StateLit>, AllocError>
+fn among(alloc: Global, clause: &[StateLit], latches: &[u32]) -> Result<Seq<StateLit>, Refused>
     requires { IsNonDecreasing latches.now }
     ensures picked { IfOk result (λ c. IsPicked c clause.now) }
     ensures each { IfOk result (λ c. (a : Literal) → Contains clause.now a → Contains latches.now a.latch → Contains c a) }
@@ -73,7 +74,7 @@ pub(crate) fn with_part(
     clause: &[StateLit],
     part: &[StateLit],
     more: StateLit,
-) -> Result<Seq<StateLit>, AllocError>
+) -> Result<Seq<StateLit>, Refused>
     requires part { IsPartOf part.now clause.now }
     requires more { Contains clause.now more }
     ensures picked { IfOk result (λ c. IsPicked c clause.now) }
@@ -89,7 +90,7 @@ pub(crate) fn without(
     alloc: Global,
     clause: &[StateLit],
     latch: u32,
-) -> Result<Seq<StateLit>, AllocError>
+) -> Result<Seq<StateLit>, Refused>
     ensures { IfOk result (λ c. c ≡ filter (λ a. not (a.latch == latch)) clause.now) }
 {
     let mut kept = Seq::new(alloc);

@@ -6,9 +6,10 @@ ghost use Rattle.frames.specs.Resets.{HasResets};
 ghost use Rattle.ic3.specs.Answers.{IsFound};
 
 use crate::obligation::Obligation;
+use base::Refused;
 use engine::{EngineError, Finding, shown_run};
 use graph::{Latch, Model, Seq};
-use std::alloc::{AllocError, Global};
+use std::alloc::Global;
 use transition::Time;
 
 /// The latch's first value: its reset, or where it has none this one.
@@ -24,7 +25,7 @@ fn first_value(latch: Latch, value: bool) -> bool
 }
 
 /// The state with each reset of the circuit, and elsewhere its own values.
-fn reset_state(alloc: Global, latches: &[Latch], state: &[bool]) -> Result<Seq<bool>, AllocError>
+fn reset_state(alloc: Global, latches: &[Latch], state: &[bool]) -> Result<Seq<bool>, Refused>
     ensures { IfOk result (HasResets latches.now) }
 {
     let mut values = Seq::new(alloc);
@@ -35,11 +36,7 @@ fn reset_state(alloc: Global, latches: &[Latch], state: &[bool]) -> Result<Seq<b
 }
 
 /// The inputs of the last time and of the earlier ones, the last found first.
-fn lines_of(
-    alloc: Global,
-    last: &Time,
-    earlier: &[Obligation],
-) -> Result<Seq<Seq<bool>>, AllocError>
+fn lines_of(alloc: Global, last: &Time, earlier: &[Obligation]) -> Result<Seq<Seq<bool>>, Refused>
     ensures { IfOk result (λ lines. lines ≡ last.now.inputs ∷ map (λ o. o.time.inputs) (reverse earlier.now)) }
 {
     let mut lines = Seq::new(alloc);

@@ -1,6 +1,7 @@
 //! What is known for sure: the clauses, and a trail whose literals stand for a reason.
 
 ghost use Rattle.std.specs.Prelude.{◌≡◌, ◌≢◌, ◌≤◌, ◌<◌, ◌^◌, ◌++◌, ◌∷◌, [], ℕ, ℤ, pos, neg_ℤ, true, None, List, Option, IsTrue, ◌↔◌, All, Contains, IfOk, IfErr, IfSome, MatchOption, OnOk, OnErr, length, take, map, option_map, slice_get, slice_index_or, unsigned_abs};
+ghost use Rattle.base.specs.Witness.{witness};
 ghost use Rattle.lrat.specs.Literals.{IsLiteral};
 ghost use Rattle.lrat.specs.Lines.{Conflicts};
 ghost use Rattle.kernel.specs.Kept.{find_in, origin_in, added};
@@ -18,9 +19,10 @@ use crate::origin::Origin;
 use crate::sorted::sorted_reasons;
 use crate::store::Store;
 use crate::verdict::{assumed_part, opposed_pair, replacement, values_of};
+use base::{copied, push, reserve_one};
 use lrat::{Fault, Left, Lookup, Trail, derive_with, look_at};
 use solver::SatError;
-use std::alloc::{AllocError, Global};
+use std::alloc::Global;
 use std::marker::Model;
 
 /// Clauses, and a trail of literals.
@@ -70,7 +72,7 @@ impl Kernel {
         requires { vars ≤ 2147483647 }
         ensures ok { OnOk result (self.new ≡ none_known vars) }
         ensures err { OnErr result (self.new ≡ self.old) }
-        ensures refused { IfErr result (λ e. e ≡ OutOfMemory) }
+        ensures refused { IfErr result (λ e. e ≡ OutOfMemory witness) }
     {
         let trail = Trail::new(alloc, vars)?;
         let scratch = Trail::new(alloc, vars)?;
@@ -190,7 +192,7 @@ impl Kernel {
         ensures kept { self.new.kept ≡ self.old.kept }
         ensures tells { IfOk result (λ f. Tells self.old self.new id f) }
         ensures err { OnErr result (self.new ≡ self.old) }
-        ensures refused { IfErr result (λ e. e ≡ OutOfMemory) }
+        ensures refused { IfErr result (λ e. e ≡ OutOfMemory witness) }
     {
         let Some(clause) = self.store.get(id) else {
             return Ok(Found::Missing);
@@ -202,9 +204,9 @@ impl Kernel {
                 if self.trail.holds(literal) {
                     return Ok(Found::Satisfied);
                 }
-                self.reasons.reserve(1)?;
+                reserve_one(&mut self.reasons)?;
                 self.trail.set(literal)?;
-                self.reasons.push(Some(id))?;
+                push(&mut self.reasons, Some(id))?;
                 Ok(Found::Implied(literal))
             }
         }
@@ -217,7 +219,7 @@ impl Kernel {
         ensures kept { self.new.kept ≡ self.old.kept }
         ensures decides { IfOk result (λ b. Decides self.old self.new literal b) }
         ensures err { OnErr result (self.new ≡ self.old) }
-        ensures refused { IfErr result (λ e. e ≡ OutOfMemory) }
+        ensures refused { IfErr result (λ e. e ≡ OutOfMemory witness) }
     {
         if !self.is_literal(literal) {
             return Ok(false);
@@ -225,9 +227,9 @@ impl Kernel {
         if self.trail.holds(literal) || self.trail.denies(literal) {
             return Ok(false);
         }
-        self.reasons.reserve(1)?;
+        reserve_one(&mut self.reasons)?;
         self.trail.set(literal)?;
-        self.reasons.push(None)?;
+        push(&mut self.reasons, None)?;
         Ok(true)
     }
 
@@ -247,14 +249,14 @@ impl Kernel {
     fn shows(&mut self, clause: &[i32], hints: &[u32]) -> Result<bool, SatError>
         ensures same { self.new ≡ self.old }
         ensures shown { IfOk result (λ b. IsTrue b ↔ IsLearned self.old clause.now hints.now) }
-        ensures refused { IfErr result (λ e. e ≡ OutOfMemory) }
+        ensures refused { IfErr result (λ e. e ≡ OutOfMemory witness) }
     {
         if !are_nonzero(clause) {
             return Ok(false);
         }
         match derive_with(&mut self.scratch, &self.store, clause, hints) {
             Ok(()) => return Ok(true),
-            Err(Fault::OutOfMemory) => return Err(SatError::OutOfMemory),
+            Err(Fault::OutOfMemory(refused)) => return Err(SatError::OutOfMemory(refused)),
             Err(_) => return Ok(false),
         }
     }
@@ -300,7 +302,7 @@ impl Kernel {
         ensures reasons { self.new.reasons ≡ self.old.reasons }
         ensures ok { OnOk result (Forgets self.old.kept self.new.kept (reasons self.old.reasons) ids.now) }
         ensures err { OnErr result (self.new ≡ self.old) }
-        ensures refused { IfErr result (λ e. e ≡ OutOfMemory) }
+        ensures refused { IfErr result (λ e. e ≡ OutOfMemory witness) }
     {
         let held = sorted_reasons(alloc, self.reasons.as_slice())?;
         self.store.forget(ids, held.as_slice());
@@ -320,7 +322,7 @@ impl Kernel {
     /// added clauses and the variables.
     pub fn model_of(&self, alloc: Global, assume: &[i32]) -> Result<Option<Vec<bool>>, SatError>
         ensures model { IfOk result (λ r. MatchOption r (HoldsAll self.now assume.now → ⊥) (λ b. IsModel self.now.vars (added self.now.kept) assume.now b.items)) }
-        ensures refused { IfErr result (λ e. e ≡ OutOfMemory) }
+        ensures refused { IfErr result (λ e. e ≡ OutOfMemory witness) }
     {
         if let Some(_) = self.unsatisfied() {
             return Ok(None);
@@ -357,7 +359,7 @@ impl Kernel {
         ensures same { self.new ≡ self.old }
         ensures core { IfOk result (λ r. MatchOption r (DeniesAssumed self.old clause.now hints.now assume.now → ⊥) (λ part. IsCore (added self.old.kept) assume.now part.items)) }
         ensures denials { IfOk result (λ r. IfSome r (λ part. part.items ≡ map neg_ℤ clause.now)) }
-        ensures refused { IfErr result (λ e. e ≡ OutOfMemory) }
+        ensures refused { IfErr result (λ e. e ≡ OutOfMemory witness) }
     {
         let _vars = self.vars();
         if !self.shows(clause, hints)? {
@@ -371,13 +373,13 @@ impl Kernel {
     pub fn opposed_of(&self, alloc: Global, assume: &[i32]) -> Result<Option<Vec<i32>>, SatError>
         requires { All (IsLiteral self.now.vars) assume.now }
         ensures core { IfOk result (λ r. MatchOption r (All (λ l. IsOpposed assume.now l → ⊥) assume.now) (λ part. IsCore (added self.now.kept) assume.now part.items)) }
-        ensures refused { IfErr result (λ e. e ≡ OutOfMemory) }
+        ensures refused { IfErr result (λ e. e ≡ OutOfMemory witness) }
     {
         let _vars = self.vars();
         let Some(literal) = opposed_pair(alloc, assume)? else {
             return Ok(None);
         };
-        let part = Vec::from_slice(alloc, &[literal, negated(literal)])?;
+        let part = copied(alloc, &[literal, negated(literal)])?;
         Ok(Some(part))
     }
 
@@ -385,7 +387,7 @@ impl Kernel {
     fn denial(&self, alloc: Global) -> Result<Vec<i32>, SatError>
         ensures clause { IfOk result (λ c. c.items ≡ map neg_ℤ (decisions self.now.literals self.now.reasons)) }
         ensures shown { IfOk result (λ c. (id : ℕ) → Conflicts (find_in self.now.kept) self.now.literals id → IsLearned self.now c.items (reasons self.now.reasons ++ id ∷ [])) }
-        ensures refused { IfErr result (λ e. e ≡ OutOfMemory) }
+        ensures refused { IfErr result (λ e. e ≡ OutOfMemory witness) }
     {
         let clause = denials(alloc, self.trail.literals(), self.reasons.as_slice())?;
         Ok(clause)

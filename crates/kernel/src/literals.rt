@@ -3,7 +3,8 @@
 ghost use Rattle.std.specs.Prelude.{◌≡◌, ◌≢◌, ◌<◌, ◌^◌, pos, neg_ℤ, IsTrue, ◌↔◌, All, IfOk, length, map, unsigned_abs};
 ghost use Rattle.kernel.specs.Grounds.{decisions};
 
-use std::alloc::{AllocError, Global};
+use base::{Refused, push};
+use std::alloc::Global;
 
 /// The other literal of a variable.
 pub fn negated(literal: i32) -> i32
@@ -18,7 +19,7 @@ pub fn denials(
     alloc: Global,
     literals: &[i32],
     reasons: &[Option<u32>],
-) -> Result<Vec<i32>, AllocError>
+) -> Result<Vec<i32>, Refused>
     requires same { length literals.now ≡ length reasons.now }
     requires small { All (λ l. unsigned_abs l < 2 ^ 31) literals.now }
     ensures { IfOk result (λ c. c.items ≡ map neg_ℤ (decisions literals.now reasons.now)) }
@@ -26,7 +27,7 @@ pub fn denials(
     let mut clause = Vec::new(alloc);
     for place in 0..literals.len() {
         match reasons[place] {
-            None => clause.push(negated(literals[place]))?,
+            None => push(&mut clause, negated(literals[place]))?,
             Some(_) => {}
         }
     }

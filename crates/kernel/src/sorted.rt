@@ -5,7 +5,8 @@ ghost use Rattle.std.specs.List.Sorted.{IsPermutation, IsSorted};
 ghost use Rattle.std.specs.Ordering.{nat_cmp, int_cmp};
 ghost use Rattle.kernel.specs.Grounds.{reasons};
 
-use std::alloc::{AllocError, Global};
+use base::{Refused, copied, push};
+use std::alloc::Global;
 
 /// Whether the id is among these, which ascend.
 pub fn has_id(ids: &[u32], id: u32) -> bool
@@ -24,26 +25,26 @@ pub fn has_literal(literals: &[i32], literal: i32) -> bool
 }
 
 /// The literals, ascending.
-pub fn sorted_literals(alloc: Global, literals: &[i32]) -> Result<Vec<i32>, AllocError>
+pub fn sorted_literals(alloc: Global, literals: &[i32]) -> Result<Vec<i32>, Refused>
     ensures same { IfOk result (λ s. IsPermutation literals.now s.items) }
     ensures sorted { IfOk result (λ s. IsSorted int_cmp s.items) }
 {
-    let mut sorted = Vec::from_slice(alloc, literals)?;
-    sorted.sort()?;
+    let mut sorted = copied(alloc, literals)?;
+    sorted.sort_unstable();
     Ok(sorted)
 }
 
 /// The ids of the clauses that are reasons, ascending.
-pub fn sorted_reasons(alloc: Global, trail: &[Option<u32>]) -> Result<Vec<u32>, AllocError>
+pub fn sorted_reasons(alloc: Global, trail: &[Option<u32>]) -> Result<Vec<u32>, Refused>
     ensures same { IfOk result (λ s. IsPermutation (reasons trail.now) s.items) }
     ensures sorted { IfOk result (λ s. IsSorted nat_cmp s.items) }
 {
     let mut sorted = Vec::new(alloc);
     for reason in trail {
         if let Some(id) = reason {
-            sorted.push(*id)?;
+            push(&mut sorted, *id)?;
         }
     }
-    sorted.sort()?;
+    sorted.sort_unstable();
     Ok(sorted)
 }

@@ -13,6 +13,7 @@ use crate::origin::Origin;
 use crate::place::{Place, close_up};
 use crate::sorted::has_id;
 use crate::verdict::holds_one;
+use base::{extend, push};
 use lrat::{Lookup, Trail};
 use solver::SatError;
 use std::alloc::Global;
@@ -86,12 +87,15 @@ impl Store {
             return Err(SatError::Limit);
         }
         let start = self.literals.len();
-        self.literals.extend_from_slice(clause)?;
-        self.places.push(Place {
-            start,
-            len: clause.len(),
-            origin,
-        })?;
+        extend(&mut self.literals, clause)?;
+        push(
+            &mut self.places,
+            Place {
+                start,
+                len: clause.len(),
+                origin,
+            },
+        )?;
         Ok(())
     }
 

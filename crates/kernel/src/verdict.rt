@@ -8,8 +8,9 @@ ghost use Rattle.kernel.specs.Verdicts.{HoldsOne, IsOpposed, IsReplacement};
 
 use crate::literals::negated;
 use crate::sorted::{has_literal, sorted_literals};
+use base::{Refused, filled, push};
 use lrat::Trail;
-use std::alloc::{AllocError, Global};
+use std::alloc::Global;
 
 /// Whether the trail holds a literal of the clause.
 pub fn holds_one(trail: &Trail, clause: &[i32]) -> bool
@@ -41,14 +42,15 @@ pub fn replacement(trail: &Trail, clause: &[i32], other: i32) -> Option<i32>
 
 /// The values of the variables 1 to `vars` by which the literals are true, after a place 0 that
 /// is false. Variables of which there is no literal are false.
-pub fn values_of(alloc: Global, vars: u32, literals: &[i32]) -> Result<Vec<bool>, AllocError>
+pub fn values_of(alloc: Global, vars: u32, literals: &[i32]) -> Result<Vec<bool>, Refused>
+    requires fits { vars < 2 ^ 31 }
     requires in_range { All (IsLiteral vars) literals.now }
     requires apart { AreApart literals.now }
     ensures places { IfOk result (λ b. length b.items ≡ vars + 1) }
     ensures none { IfOk result (λ b. slice_index_or b.items 0 true ≡ false) }
     ensures are_true { IfOk result (λ b. AreTrue (values b.items) literals.now) }
 {
-    let mut values = vec![in alloc; false; vars as usize + 1]?;
+    let mut values = filled(alloc, false, vars as usize + 1)?;
     for literal in literals {
         values[literal.unsigned_abs() as usize] = *literal > 0;
     }
@@ -60,7 +62,7 @@ pub fn assumed_part(
     alloc: Global,
     clause: &[i32],
     assume: &[i32],
-) -> Result<Option<Vec<i32>>, AllocError>
+) -> Result<Option<Vec<i32>>, Refused>
     requires { All (λ l. unsigned_abs l < 2 ^ 31) clause.now }
     ensures denials { IfOk result (λ r. MatchOption r (All (Contains assume.now) (map neg_ℤ clause.now) → ⊥) (λ part. part.items ≡ map neg_ℤ clause.now)) }
     ensures assumed { IfOk result (λ r. MatchOption r (Unit {0}) (λ part. All (Contains assume.now) part.items)) }
@@ -72,13 +74,13 @@ pub fn assumed_part(
         if !has_literal(sorted.as_slice(), denial) {
             return Ok(None);
         }
-        part.push(denial)?;
+        push(&mut part, denial)?;
     }
     Ok(Some(part))
 }
 
 /// The first assumption whose negation is assumed too, with that.
-pub fn opposed_pair(alloc: Global, assume: &[i32]) -> Result<Option<i32>, AllocError>
+pub fn opposed_pair(alloc: Global, assume: &[i32]) -> Result<Option<i32>, Refused>
     requires { All (λ l. unsigned_abs l < 2 ^ 31) assume.now }
     ensures { IfOk result (λ r. MatchOption r (All (λ l. IsOpposed assume.now l → ⊥) assume.now) (IsOpposed assume.now)) }
 {

@@ -14,14 +14,14 @@ pub record IsSmall (m : Parts) (j : ℕ) : Type 0 where
 abbrev pub HasCause : Parts → ℕ → LiveError → Type 0
 HasCause m j (NoProperty n) = (n ≡ j) × (length m.justice ≤ j)
 HasCause m j Limit = (j < length m.justice) × (4194303 < (shadow_of m j).max_var)
-HasCause m j OutOfMemory = IsSmall m j
+HasCause m j (OutOfMemory refused) = IsSmall m j
 
 abbrev pub number_of : LiveError → ℕ
 number_of (NoProperty n) = 30
 number_of Limit = 4
-number_of OutOfMemory = 20
+number_of (OutOfMemory refused) = 20
 
 abbrev pub place_of : LiveError → ℕ
 place_of (NoProperty n) = n
 place_of Limit = 0
-place_of OutOfMemory = 0
+place_of (OutOfMemory refused) = 0

@@ -3,7 +3,7 @@
 ghost use Rattle.std.specs.Prelude.{◌≡◌};
 ghost use Rattle.live_safe.specs.Causes.{number_of, place_of};
 
-use std::alloc::AllocError;
+use base::Refused;
 use thiserror::Error;
 
 /// Why there is no shadow circuit. Each refusal has a number and a place.
@@ -15,18 +15,19 @@ pub enum LiveError {
     /// The greatest variable would be over 4194303.
     #[error("the shadow circuit has too many variables")]
     Limit,
-    #[error("out of memory")]
-    OutOfMemory,
+    #[error("{0}")]
+    OutOfMemory(Refused),
 }
 
-impl From<AllocError> for LiveError {
+impl From<Refused> for LiveError {
     ghost use Rattle.std.specs.Prelude.{◌≡◌};
+    ghost use Rattle.base.specs.Witness.{witness};
     ghost use Rattle.live_safe.specs.declared.error.LiveError.TheVariants.{OutOfMemory};
 
-    ghost from_gives = { λ _ e. e ≡ OutOfMemory };
+    ghost from_gives = { λ _ e. e ≡ OutOfMemory witness };
 
-    fn from(_e: AllocError) -> LiveError {
-        LiveError::OutOfMemory
+    fn from(refused: Refused) -> LiveError {
+        LiveError::OutOfMemory(refused)
     }
 }
 
@@ -38,7 +39,7 @@ impl LiveError {
         match self {
             LiveError::NoProperty(_) => 30,
             LiveError::Limit => 4,
-            LiveError::OutOfMemory => 20,
+            LiveError::OutOfMemory(_) => 20,
         }
     }
 
@@ -48,7 +49,7 @@ impl LiveError {
     {
         match self {
             LiveError::NoProperty(position) => u64::from(*position),
-            LiveError::Limit | LiveError::OutOfMemory => 0,
+            LiveError::Limit | LiveError::OutOfMemory(_) => 0,
         }
     }
 }

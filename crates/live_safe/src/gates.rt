@@ -8,8 +8,9 @@ ghost use Rattle.live_safe.specs.Shadow.{positive as positive_of, negative as ne
 
 use crate::literals::{joins, negation, negative, positive};
 use crate::numbers::Numbers;
+use base::{Refused, copied, extend, push};
 use graph::{Gate, Latch, Lit};
-use std::alloc::{AllocError, Global};
+use std::alloc::Global;
 
 /// Adds the six gates of a latch: what its copy takes over, and whether the two are equal.
 fn push_copy(
@@ -18,18 +19,21 @@ fn push_copy(
     latch: Latch,
     shadow: u32,
     v: u32,
-) -> Result<(), AllocError>
+) -> Result<(), Refused>
     requires fits { (start < 2 ^ 31) × (shadow < 2 ^ 31) × (v + 6 < 2 ^ 31) × (latch.lit.0 + 1 < 2 ^ 32) }
     ensures { OnOk result (gates.new.items ≡ gates.old.items ++ copy_gates start (latch ∷ []) shadow v) }
 {
-    gates.extend_from_slice(&[
-        joins(v, positive(start), latch.lit),
-        joins(v + 1, negative(start), positive(shadow)),
-        joins(v + 2, negative(v), negative(v + 1)),
-        joins(v + 3, latch.lit, negative(shadow)),
-        joins(v + 4, negation(latch.lit), positive(shadow)),
-        joins(v + 5, negative(v + 3), negative(v + 4)),
-    ])
+    extend(
+        gates,
+        &[
+            joins(v, positive(start), latch.lit),
+            joins(v + 1, negative(start), positive(shadow)),
+            joins(v + 2, negative(v), negative(v + 1)),
+            joins(v + 3, latch.lit, negative(shadow)),
+            joins(v + 4, negation(latch.lit), positive(shadow)),
+            joins(v + 5, negative(v + 3), negative(v + 4)),
+        ],
+    )
 }
 
 /// Adds the gates of all latches.
@@ -39,7 +43,7 @@ fn push_copies(
     latches: &[Latch],
     shadow: u32,
     v: u32,
-) -> Result<(), AllocError>
+) -> Result<(), Refused>
     requires fits { (start < 2 ^ 31) × (shadow + length latches.now < 2 ^ 31) × (v + 6 * length latches.now + 6 < 2 ^ 31) }
     requires literals { All (λ l. l.lit.0 + 1 < 2 ^ 32) latches.now }
     ensures { OnOk result (gates.new.items ≡ gates.old.items ++ copy_gates start latches.now shadow v) }
@@ -57,14 +61,17 @@ fn push_watch(
     wanted: Lit,
     seen: u32,
     v: u32,
-) -> Result<(), AllocError>
+) -> Result<(), Refused>
     requires fits { (idle < 2 ^ 31) × (seen < 2 ^ 31) × (v + 2 < 2 ^ 31) × (wanted.0 + 1 < 2 ^ 32) }
     ensures { OnOk result (gates.new.items ≡ gates.old.items ++ watch_gates idle (wanted ∷ []) seen v) }
 {
-    gates.extend_from_slice(&[
-        joins(v, negative(seen), negation(wanted)),
-        joins(v + 1, negative(idle), negative(v)),
-    ])
+    extend(
+        gates,
+        &[
+            joins(v, negative(seen), negation(wanted)),
+            joins(v + 1, negative(idle), negative(v)),
+        ],
+    )
 }
 
 /// Adds the gates of all wanted literals.
@@ -74,7 +81,7 @@ fn push_watches(
     wanted: &[Lit],
     seen: u32,
     v: u32,
-) -> Result<(), AllocError>
+) -> Result<(), Refused>
     requires fits { (idle < 2 ^ 31) × (seen + length wanted.now < 2 ^ 31) × (v + 2 * length wanted.now + 2 < 2 ^ 31) }
     requires literals { All (λ a. a.0 + 1 < 2 ^ 32) wanted.now }
     ensures { OnOk result (gates.new.items ≡ gates.old.items ++ watch_gates idle wanted.now seen v) }
@@ -86,14 +93,14 @@ fn push_watches(
 }
 
 /// Joins the literals in turn to the first one, and gives the chain's end.
-fn push_chain(gates: &mut Vec<Gate>, rest: &[Lit], first: Lit, v: u32) -> Result<Lit, AllocError>
+fn push_chain(gates: &mut Vec<Gate>, rest: &[Lit], first: Lit, v: u32) -> Result<Lit, Refused>
     requires fits { v + length rest.now < 2 ^ 31 }
     ensures gates { OnOk result (gates.new.items ≡ gates.old.items ++ chain_gates rest.now first v) }
     ensures end { IfOk result (λ a. a ≡ chain_end rest.now first v) }
 {
     let mut so_far = first;
     for (k, lit) in rest.iter().enumerate() {
-        gates.push(joins(v + k as u32, so_far, *lit))?;
+        push(gates, joins(v + k as u32, so_far, *lit))?;
         so_far = positive(v + k as u32);
     }
     Ok(so_far)
@@ -106,16 +113,16 @@ fn chained_literals(
     copies: u32,
     wanted: usize,
     seen: u32,
-) -> Result<Vec<Lit>, AllocError>
+) -> Result<Vec<Lit>, Refused>
     requires fits { (copies + 6 * latches + 6 < 2 ^ 31) × (seen + wanted < 2 ^ 31) }
     ensures { (ls : List LatchOf) (qs : List LitOf) → length ls ≡ latches → length qs ≡ wanted → IfOk result (λ v. v.items ≡ equal_literals ls copies ++ seen_literals qs seen) }
 {
     let mut lits = Vec::new(alloc);
     for i in 0..latches {
-        lits.push(positive(copies + 6 * i as u32 + 5))?;
+        push(&mut lits, positive(copies + 6 * i as u32 + 5))?;
     }
     for k in 0..wanted {
-        lits.push(positive(seen + k as u32))?;
+        push(&mut lits, positive(seen + k as u32))?;
     }
     Ok(lits)
 }
@@ -127,7 +134,7 @@ pub fn all_gates(
     latches: &[Latch],
     wanted: &[Lit],
     n: Numbers,
-) -> Result<(Vec<Gate>, Lit), AllocError>
+) -> Result<(Vec<Gate>, Lit), Refused>
     requires spaced { AreSpaced (length latches.now) (length wanted.now) n }
     requires literals { All (λ l. l.lit.0 + 1 < 2 ^ 32) latches.now }
     requires wanted_literals { All (λ a. a.0 + 1 < 2 ^ 32) wanted.now }
@@ -136,9 +143,12 @@ pub fn all_gates(
         ++ chain_gates (equal_literals latches.now n.copies ++ seen_literals wanted.now n.seen) (positive_of n.saved) n.chain))) }
     ensures bad { IfOk result (λ p. p.1 ≡ chain_end (equal_literals latches.now n.copies ++ seen_literals wanted.now n.seen) (positive_of n.saved) n.chain) }
 {
-    let mut all = Vec::from_slice(alloc, gates)?;
-    all.push(joins(n.start, positive(n.save), negative(n.saved)))?;
-    all.push(joins(n.idle, negative(n.save), negative(n.saved)))?;
+    let mut all = copied(alloc, gates)?;
+    push(
+        &mut all,
+        joins(n.start, positive(n.save), negative(n.saved)),
+    )?;
+    push(&mut all, joins(n.idle, negative(n.save), negative(n.saved)))?;
     push_copies(&mut all, n.start, latches, n.shadow, n.copies)?;
     push_watches(&mut all, n.idle, wanted, n.seen, n.watches)?;
     let rest = chained_literals(alloc, latches.len(), n.copies, wanted.len(), n.seen)?;

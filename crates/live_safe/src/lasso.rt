@@ -9,8 +9,9 @@ ghost use Rattle.live_safe.specs.Laws.{FitsShadow, lasso_from};
 ghost use Rattle.live_safe.specs.Shadow.{shadow_of};
 
 use crate::wanted::wanted_count;
+use base::Refused;
 use graph::{Model, Parts, Property, Seq};
-use std::alloc::{AllocError, Global};
+use std::alloc::Global;
 use stimulus::Stimulus;
 
 /// Whether each line has this many values.
@@ -33,15 +34,15 @@ fn fits(parts: &Parts, position: u32, initial: &[bool], inputs: &[Seq<bool>]) ->
 }
 
 /// The first values of each line.
-fn fronts(alloc: Global, lines: &[Seq<bool>], width: usize) -> Result<Seq<Seq<bool>>, AllocError>
+fn fronts(alloc: Global, lines: &[Seq<bool>], width: usize) -> Result<Seq<Seq<bool>>, Refused>
     requires { All (λ line. width ≤ length line) lines.now }
     ensures { IfOk result (λ rows. rows ≡ map (take width) lines.now) }
 {
-    let mut rows = Vec::new(alloc);
+    let mut rows = Seq::new(alloc);
     for line in lines {
         rows.push(Seq::from_slice(alloc, &line.as_slice()[..width])?)?;
     }
-    Ok(Seq::from_vec(rows))
+    Ok(rows)
 }
 
 /// What the values say of the circuit alone: its latches, and its inputs at all times but the last.
@@ -51,7 +52,7 @@ fn old_part(
     position: u32,
     initial: &[bool],
     inputs: &[Seq<bool>],
-) -> Result<Stimulus, AllocError>
+) -> Result<Stimulus, Refused>
     requires { FitsShadow parts.now position initial.now inputs.now }
     ensures { IfOk result (λ s. s ≡ lasso_from parts.now position initial.now inputs.now) }
 {
@@ -73,7 +74,7 @@ pub fn lasso_of(
     position: u32,
     initial: &[bool],
     inputs: &[Seq<bool>],
-) -> Result<Option<Stimulus>, AllocError>
+) -> Result<Option<Stimulus>, Refused>
     ensures fits { IfOk result (λ found. IsSome found ↔ FitsShadow model.now position initial.now inputs.now) }
     ensures lasso { IfOk result (λ found. IfSome found (λ s. s ≡ lasso_from model.now position initial.now inputs.now)) }
     ensures shows { IfOk result (λ found. position < length model.now.justice → ShowsBad (shadow_of model.now position) (Violated (Bad 0) initial.now inputs.now) → IsSome found × IfSome found (ShowsLasso model.now)) }

@@ -6,8 +6,9 @@ ghost use Rattle.live_safe.specs.Shadow.{cleared as cleared_of, negative as nega
 
 use crate::literals::{cleared, negative, positive};
 use crate::numbers::Numbers;
+use base::{Refused, copied, push};
 use graph::{Latch, Lit};
-use std::alloc::{AllocError, Global};
+use std::alloc::Global;
 
 /// Adds the copies of the latches, whose gates begin at the variable.
 fn push_shadows(
@@ -15,30 +16,25 @@ fn push_shadows(
     latches: &[Latch],
     shadow: u32,
     variable: u32,
-) -> Result<(), AllocError>
+) -> Result<(), Refused>
     requires fits { (shadow + length latches.now < 2 ^ 31) × (variable + 6 * length latches.now + 6 < 2 ^ 31) }
     ensures { OnOk result (all.new.items ≡ all.old.items ++ shadow_latches latches.now shadow variable) }
 {
     for (i, _latch) in latches.iter().enumerate() {
         let next = negative(variable + 6 * i as u32 + 2);
-        all.push(cleared(shadow + i as u32, next))?;
+        push(all, cleared(shadow + i as u32, next))?;
     }
     Ok(())
 }
 
 /// Adds for each wanted literal the latch of what has been seen, whose gates begin at the variable.
-fn push_seens(
-    all: &mut Vec<Latch>,
-    wanted: &[Lit],
-    seen: u32,
-    variable: u32,
-) -> Result<(), AllocError>
+fn push_seens(all: &mut Vec<Latch>, wanted: &[Lit], seen: u32, variable: u32) -> Result<(), Refused>
     requires fits { (seen + length wanted.now < 2 ^ 31) × (variable + 2 * length wanted.now + 2 < 2 ^ 31) }
     ensures { OnOk result (all.new.items ≡ all.old.items ++ seen_latches wanted.now seen variable) }
 {
     for (k, _lit) in wanted.iter().enumerate() {
         let next = positive(variable + 2 * k as u32 + 1);
-        all.push(cleared(seen + k as u32, next))?;
+        push(all, cleared(seen + k as u32, next))?;
     }
     Ok(())
 }
@@ -49,12 +45,12 @@ pub fn all_latches(
     latches: &[Latch],
     wanted: &[Lit],
     n: Numbers,
-) -> Result<Vec<Latch>, AllocError>
+) -> Result<Vec<Latch>, Refused>
     requires { AreSpaced (length latches.now) (length wanted.now) n }
     ensures { IfOk result (λ v. v.items ≡ latches.now ++ cleared_of n.saved (negative_of n.idle) ∷ (shadow_latches latches.now n.shadow n.copies ++ seen_latches wanted.now n.seen n.watches)) }
 {
-    let mut all = Vec::from_slice(alloc, latches)?;
-    all.push(cleared(n.saved, negative(n.idle)))?;
+    let mut all = copied(alloc, latches)?;
+    push(&mut all, cleared(n.saved, negative(n.idle)))?;
     push_shadows(&mut all, latches, n.shadow, n.copies)?;
     push_seens(&mut all, wanted, n.seen, n.watches)?;
     Ok(all)

@@ -9,8 +9,9 @@ ghost use Rattle.live_safe.specs.Shadow.{shadow_of};
 use crate::error::LiveError;
 use crate::shadow::shadow_parts;
 use crate::wanted::{wanted_count, wanted_literals};
+use base::Refused;
 use graph::{Model, Parts, ReadError};
-use std::alloc::{AllocError, Global};
+use std::alloc::Global;
 
 /// The greatest variable that a circuit may have.
 const MAX_VAR: usize = 4_194_303;
@@ -32,20 +33,20 @@ fn check(parts: &Parts, position: u32) -> Result<(), LiveError>
 }
 
 /// The circuit of parts that are well formed.
-fn model_of(alloc: Global, parts: Parts) -> Result<Model, AllocError>
+fn model_of(alloc: Global, parts: Parts) -> Result<Model, Refused>
     requires { IsWellFormed parts }
     ensures { IfOk result (λ m. m ≡ parts) }
 {
     match Model::from_parts(alloc, parts) {
         Ok(model) => Ok(model),
-        Err(ReadError::OutOfMemory) => Err(AllocError),
+        Err(ReadError::OutOfMemory(refused)) => Err(refused),
         // Well-formed parts have no other cause.
         Err(_) => unreachable!(),
     }
 }
 
 /// The shadow circuit of a property that is there, within the limit.
-fn shadow_model(alloc: Global, parts: &Parts, position: u32) -> Result<Model, AllocError>
+fn shadow_model(alloc: Global, parts: &Parts, position: u32) -> Result<Model, Refused>
     requires well_formed { IsWellFormed parts.now }
     requires small { IsSmall parts.now position }
     ensures { IfOk result (λ s. s ≡ shadow_of parts.now position) }

@@ -8,11 +8,12 @@ use crate::gates::all_gates;
 use crate::latches::all_latches;
 use crate::literals::positive;
 use crate::numbers::count_out;
+use base::Refused;
 use graph::{Lit, Parts, Seq};
-use std::alloc::{AllocError, Global};
+use std::alloc::Global;
 
 /// The old inputs, then the new one.
-fn all_inputs(alloc: Global, inputs: &[Lit], save: Lit) -> Result<Seq<Lit>, AllocError>
+fn all_inputs(alloc: Global, inputs: &[Lit], save: Lit) -> Result<Seq<Lit>, Refused>
     ensures { IfOk result (λ v. v ≡ inputs.now ++ save ∷ []) }
 {
     let mut all = Seq::from_slice(alloc, inputs)?;
@@ -21,7 +22,7 @@ fn all_inputs(alloc: Global, inputs: &[Lit], save: Lit) -> Result<Seq<Lit>, Allo
 }
 
 /// The parts of the shadow circuit of the property that wants these literals.
-pub fn shadow_parts(alloc: Global, parts: &Parts, wanted: &[Lit]) -> Result<Parts, AllocError>
+pub fn shadow_parts(alloc: Global, parts: &Parts, wanted: &[Lit]) -> Result<Parts, Refused>
     requires limit { parts.now.max_var + 4 + 8 * length parts.now.latches + 4 * length wanted.now ≤ 4194303 }
     requires literals { All (λ l. l.lit.0 + 1 < 2 ^ 32) parts.now.latches }
     requires wanted_literals { All (λ a. a.0 + 1 < 2 ^ 32) wanted.now }
@@ -37,7 +38,7 @@ pub fn shadow_parts(alloc: Global, parts: &Parts, wanted: &[Lit]) -> Result<Part
         latches: Seq::from_vec(latches),
         outputs: Seq::new(alloc),
         bad: Seq::from_slice(alloc, &[bad])?,
-        constraints: parts.constraints.clone()?,
+        constraints: parts.constraints.copy(alloc)?,
         justice: Seq::new(alloc),
         fairness: Seq::new(alloc),
         gates: Seq::from_vec(gates),

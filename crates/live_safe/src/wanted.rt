@@ -4,8 +4,9 @@ ghost use Rattle.std.specs.Prelude.{◌≡◌, ◌<◌, ◌≤◌, length, IfOk}
 ghost use Rattle.graph.specs.Justice.{wanted_of};
 ghost use Rattle.graph.specs.WellFormed.{IsWellFormed};
 
+use base::{Refused, copied, extend};
 use graph::{Lit, Parts};
-use std::alloc::{AllocError, Global};
+use std::alloc::Global;
 
 /// How many there are. A property that isn't there wants the fairness literals alone.
 pub fn wanted_count(parts: &Parts, position: u32) -> usize
@@ -21,13 +22,12 @@ pub fn wanted_count(parts: &Parts, position: u32) -> usize
 }
 
 /// The property's literals, then the fairness literals.
-pub fn wanted_literals(alloc: Global, parts: &Parts, position: u32) -> Result<Vec<Lit>, AllocError>
+pub fn wanted_literals(alloc: Global, parts: &Parts, position: u32) -> Result<Vec<Lit>, Refused>
     requires { position < length parts.now.justice }
     ensures { IfOk result (λ v. v.items ≡ wanted_of parts.now position) }
 {
-    let mut wanted = Vec::new(alloc);
     let lits = &parts.justice.as_slice()[position as usize];
-    wanted.extend_from_slice(lits.as_slice())?;
-    wanted.extend_from_slice(parts.fairness.as_slice())?;
+    let mut wanted = copied(alloc, lits.as_slice())?;
+    extend(&mut wanted, parts.fairness.as_slice())?;
     Ok(wanted)
 }

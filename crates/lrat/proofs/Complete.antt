@@ -1,4 +1,5 @@
 -- A refused line is not accepted.
+use Rattle.base.specs.Witness.{witness}
 use Rattle.std.proofs.Common.{◌≡◌, ℕ, ◌<◌, ◌≢◌, true, false, List, [], ◌∷◌, ◌++◌, get_or, map, All, Contains, None, Some, ℤ, pos, neg_ℤ, refl, sym, ◌∙◌, ap, subst, inl, inr, arith}
 use Rattle.std.specs.Ordering.{int_eq}
 use Rattle.std.proofs.lemmas.Bool.Decides.{Decides-int_eq}
@@ -47,7 +48,7 @@ several_not s c l sev only =
     (λ e. sev.open_in.1 (only.others sev.other sev.stands.1 (λ f. sev.distinct (e ∙ sym f))))
     (λ ne. sev.open_in.0 (only.others sev.one sev.stands.0 ne))
 
-stops_not_set : (m : Finder) (s : List ℤ) (id : ℕ) (l : ℤ) (e : Fault) → Stops m s id e → e ≢ OutOfMemory → SetsOne m s id l → ⊥
+stops_not_set : (m : Finder) (s : List ℤ) (id : ℕ) (l : ℤ) (e : Fault) → Stops m s id e → e ≢ OutOfMemory witness → SetsOne m s id l → ⊥
 stops_not_set m s id l UnknownId none ne sets = not_found m id sets.clause none sets.found
 stops_not_set m s id l EarlyConflict conflict ne sets =
     let denied : All (IsDenied s) sets.clause = subst (All (IsDenied s)) (same_clause m id conflict.clause sets.clause conflict.found sets.found) conflict.denied in
@@ -57,17 +58,17 @@ stops_not_set m s id l SeveralLeft (d, found, several) ne sets =
 stops_not_set m s id l TrueAlready (d, k, found, only, held) ne sets =
     let other : LeavesOnly s d l = subst (λ c. LeavesOnly s c l) (same_clause m id sets.clause d sets.found found) sets.leaves in
     sets.new_in (subst (Contains s) (only_unique s d k l only other) held)
-stops_not_set m s id l OutOfMemory why ne sets = ne refl
+stops_not_set m s id l (OutOfMemory refused) why ne sets = ne refl
 stops_not_set m s id l _ why ne sets = why
 
-stops_last_not : (m : Finder) (s : List ℤ) (id : ℕ) (e : Fault) → StopsLast m s id e → e ≢ OutOfMemory → Conflicts m s id → ⊥
+stops_last_not : (m : Finder) (s : List ℤ) (id : ℕ) (e : Fault) → StopsLast m s id e → e ≢ OutOfMemory witness → Conflicts m s id → ⊥
 stops_last_not m s id UnknownId none ne conflict = not_found m id conflict.clause none conflict.found
 stops_last_not m s id NotFalse (d, l, found, at, open_) ne conflict =
     open_ (All-contains (IsDenied s) d l (subst (All (IsDenied s)) (same_clause m id conflict.clause d conflict.found found) conflict.denied) at)
-stops_last_not m s id OutOfMemory why ne conflict = ne refl
+stops_last_not m s id (OutOfMemory refused) why ne conflict = ne refl
 stops_last_not m s id _ why ne conflict = why
 
-improper_not : (n : ℕ) (c : List ℤ) (e : Fault) → IsImproper n c e → e ≢ OutOfMemory → IsProper n c → ⊥
+improper_not : (n : ℕ) (c : List ℤ) (e : Fault) → IsImproper n c e → e ≢ OutOfMemory witness → IsProper n c → ⊥
 improper_not n c VariableRange (k, lt, prefix, over) ne proper = let le = proper.0 k (pos 0) lt in omega arith
 improper_not n c RepeatedLiteral (k, lt, prefix, le, inl (j, lt', at)) ne proper =
     let x : ℤ = get_or c k (pos 0) in
@@ -77,7 +78,7 @@ improper_not n c RepeatedLiteral (k, lt, prefix, le, inr (j, lt', at)) ne proper
     let x : ℤ = get_or c k (pos 0) in
     let below : j < k = omega (arith, length-take k c) in
     (proper.1 j k (neg_ℤ x) below lt).1 (sym (get_or-take k c j (neg_ℤ x) below) ∙ at ∙ ap neg_ℤ (get_or_default c k (pos 0) (neg_ℤ x) lt))
-improper_not n c OutOfMemory why ne proper = ne refl
+improper_not n c (OutOfMemory refused) why ne proper = ne refl
 improper_not n c _ why ne proper = why
 
 no_snoc : (xs : List ℕ) (x : ℕ) → [] ≡ xs ++ x ∷ [] → ⊥
@@ -94,7 +95,7 @@ snoc_same (a ∷ xs) (b ∷ ys) x y e =
     let r = snoc_same xs ys x y f in
     ((λ i. g i ∷ r.0 i), r.1)
 
-earlier_not : (m : Finder) (c : List ℤ) (hints : List ℕ) (e : Fault) → StopsEarlier m (map neg_ℤ c) hints e → e ≢ OutOfMemory → Shows m c hints → ⊥
+earlier_not : (m : Finder) (c : List ℤ) (hints : List ℕ) (e : Fault) → StopsEarlier m (map neg_ℤ c) hints e → e ≢ OutOfMemory witness → Shows m c hints → ⊥
 earlier_not m c hints e at ne shows =
     let same = snoc_same at.first shows.first at.last shows.last (sym at.are ∙ shows.are) in
     let stops = at.stops in
@@ -104,7 +105,7 @@ earlier_not m c hints e at ne shows =
     let met : stops.3 ≡ parts.0 = leads_unique m stops.0 (map neg_ℤ c) stops.3 parts.0 stops.5 parts.1 in
     stops_not_set m stops.3 stops.1 parts.2.0 e stops.6 ne (subst (λ s. SetsOne m s stops.1 parts.2.0) (sym met) parts.2.1)
 
-at_end_not : (m : Finder) (c : List ℤ) (hints : List ℕ) (e : Fault) → StopsAtEnd m (map neg_ℤ c) hints e → e ≢ OutOfMemory → Shows m c hints → ⊥
+at_end_not : (m : Finder) (c : List ℤ) (hints : List ℕ) (e : Fault) → StopsAtEnd m (map neg_ℤ c) hints e → e ≢ OutOfMemory witness → Shows m c hints → ⊥
 at_end_not m c hints e at ne shows =
     let same = snoc_same at.first shows.first at.last shows.last (sym at.are ∙ shows.are) in
     let there : Leads m (map neg_ℤ c) at.first shows.reached = subst (λ ids. Leads m (map neg_ℤ c) ids shows.reached) (sym same.0) shows.leads in
@@ -112,7 +113,7 @@ at_end_not m c hints e at ne shows =
     let conflict : Conflicts m at.reached at.last = subst (λ id. Conflicts m at.reached id) (sym same.1) (subst (λ s. Conflicts m s shows.last) (sym met) shows.conflict) in
     stops_last_not m at.reached at.last e at.stops ne conflict
 
-pub refused_not : (n : ℕ) (m : Finder) (c : List ℤ) (hints : List ℕ) (e : Fault) → IsRefusedLine n m c hints e → e ≢ OutOfMemory → IsAcceptedLine n m c hints → ⊥
+pub refused_not : (n : ℕ) (m : Finder) (c : List ℤ) (hints : List ℕ) (e : Fault) → IsRefusedLine n m c hints e → e ≢ OutOfMemory witness → IsAcceptedLine n m c hints → ⊥
 refused_not n m c hints e (inl improper) ne line = improper_not n c e improper ne line.proper
 refused_not n m c hints e (inr (proper, inl (none, is))) ne line = no_snoc line.shown.first line.shown.last (sym none ∙ line.shown.are)
 refused_not n m c hints e (inr (proper, inr (inl early))) ne line = earlier_not m c hints e early ne line.shown

@@ -1,4 +1,5 @@
 -- A line that is refused leads on from no stage.
+use Rattle.base.specs.Witness.{witness}
 use Rattle.std.proofs.Common.{◌≡◌, ◌≢◌, ℕ, ◌<◌, inl, inr, true, false, List, map, All, IsSome, is_some, ℤ, unsigned_abs, refl, ap, subst, arith}
 use Rattle.std.specs.FinMap as fin
 use Rattle.lrat.specs.Literals.{Finder}
@@ -23,7 +24,7 @@ other_cause n m c hints e p q r s (inr (proper, inr (inr late))) = s late.reache
 
 -- an addition that is refused for its clause and hints
 pub halts_add : (n : ℕ) (s : Stage) (id : ℕ) (c hints : List ℤ) (e : Fault) → s.closed ≡ false → s.top < id → All IsPositive hints → IsRefusedLine n (fin.get s.present) c (map unsigned_abs hints) e → Halts n s (Add id c hints) e
-halts_add n s id c hints OutOfMemory o lt all why = tt
+halts_add n s id c hints (OutOfMemory refused) o lt all why = tt
 halts_add n s id c hints UnknownId o lt all why = (o, lt, all, why)
 halts_add n s id c hints IdOrder o lt all why = absurd (other_cause n _ c _ IdOrder (λ x. x) (λ x. cc) (λ t i x. x) (λ t i x. x) why)
 halts_add n s id c hints SeveralLeft o lt all why = (o, lt, all, why)
@@ -38,8 +39,8 @@ halts_add n s id c hints AfterEmpty o lt all why = absurd (other_cause n _ c _ A
 halts_add n s id c hints VariableRange o lt all why = (o, lt, all, why)
 
 -- and what it says
-cause_add : (n : ℕ) (s : Stage) (id : ℕ) (c hints : List ℤ) (e : Fault) → e ≢ OutOfMemory → Halts n s (Add id c hints) e → s.closed ≡ false → s.top < id → All IsPositive hints → IsRefusedLine n (fin.get s.present) c (map unsigned_abs hints) e
-cause_add n s id c hints OutOfMemory ne why o lt all = absurd (ne refl)
+cause_add : (n : ℕ) (s : Stage) (id : ℕ) (c hints : List ℤ) (e : Fault) → e ≢ OutOfMemory witness → Halts n s (Add id c hints) e → s.closed ≡ false → s.top < id → All IsPositive hints → IsRefusedLine n (fin.get s.present) c (map unsigned_abs hints) e
+cause_add n s id c hints (OutOfMemory refused) ne why o lt all = absurd (ne refl)
 cause_add n s id c hints UnknownId ne why o lt all = why.3
 cause_add n s id c hints IdOrder ne why o lt all = absurd (let le = why.1 in omega (arith, le, lt))
 cause_add n s id c hints SeveralLeft ne why o lt all = why.3
@@ -60,8 +61,8 @@ lacks_not m n ids lacks takes =
     let gone : is_some (fin.get lacks.reached lacks.id) ≡ false = ap is_some none in
     cc
 
-delete_not : (n : ℕ) (s : Stage) (id : ℕ) (ids : List ℕ) (e : Fault) → e ≢ OutOfMemory → Halts n s (Delete id ids) e → (t : Stage) → Goes n s (Delete id ids) t → ⊥
-delete_not n s id ids OutOfMemory ne why t goes = ne refl
+delete_not : (n : ℕ) (s : Stage) (id : ℕ) (ids : List ℕ) (e : Fault) → e ≢ OutOfMemory witness → Halts n s (Delete id ids) e → (t : Stage) → Goes n s (Delete id ids) t → ⊥
+delete_not n s id ids (OutOfMemory refused) ne why t goes = ne refl
 delete_not n s id ids UnknownId ne why t goes = lacks_not s.present t.present ids why.1 goes.3
 delete_not n s id ids IdOrder ne why t goes = why
 delete_not n s id ids SeveralLeft ne why t goes = why
@@ -76,7 +77,7 @@ delete_not n s id ids AfterEmpty ne why t goes = let shut : s.closed ≡ true = 
 delete_not n s id ids VariableRange ne why t goes = why
 
 -- a line that is refused leads nowhere
-pub halts_not : (n : ℕ) (s : Stage) (l : Line) (e : Fault) → Halts n s l e → e ≢ OutOfMemory → (t : Stage) → Goes n s l t → ⊥
+pub halts_not : (n : ℕ) (s : Stage) (l : Line) (e : Fault) → Halts n s l e → e ≢ OutOfMemory witness → (t : Stage) → Goes n s l t → ⊥
 halts_not n s (Add id c hints) e why ne t goes =
     refused_not n _ c _ e (cause_add n s id c hints e ne why goes.0 goes.1 goes.2) ne goes.3
 halts_not n s (Delete id ids) e why ne t goes = delete_not n s id ids e ne why t goes

@@ -1,4 +1,5 @@
 -- Lines one after another are read as they are spelled.
+use Rattle.base.specs.Witness.{witness}
 use Rattle.std.proofs.Common.{◌≡◌, ℕ, ◌<◌, List, [], ◌∷◌, ◌++◌, length, Option, Some, None, All, refl, sym, ap, subst, ◌∙◌, append_assoc, arith}
 use Rattle.std.proofs.lemmas.List.{append-nil, length-append}
 use Rattle.std.proofs.lemmas.List.Elements.{All-head, All-tail}
@@ -57,6 +58,10 @@ read_more text rest after lines line h e =
       whole = h.whole ∙ ap (λ (w : List ℕ). h.front ++ w) s.2 ∙ sym (append_assoc h.front s.0 after);
     }
 
+-- a line that was read is without zeros and in the limits
+pub read_line : (rest after : List ℕ) (line : Line) → line_at rest ≡ Some (line, after) → IsLine line
+read_line rest after line e = (line_reads.sound rest line after e).1.within
+
 pub read_shorter : (rest after : List ℕ) (line : Line) → line_at rest ≡ Some (line, after) → length after < length rest
 read_shorter rest after line e =
     let s = line_reads.sound rest line after e in
@@ -81,12 +86,12 @@ read_stuck text rest lines others h lt e s =
     stuck rest r.0 lt e r.2
 
 -- only when out of memory
-pub read_fails : (text rest : List ℕ) (lines others : List Line) (e : Fault Refusal) → HasRead text rest lines → 0 < length rest → Fails e (line_at rest) → SpellsProof text others → e ≡ Memory
-read_fails text rest lines others Memory h lt f s = refl
+pub read_fails : (text rest : List ℕ) (lines others : List Line) (e : Fault Refusal) → HasRead text rest lines → 0 < length rest → Fails e (line_at rest) → SpellsProof text others → e ≡ Memory witness
+read_fails text rest lines others (Memory refused) h lt f s = refl
 read_fails text rest lines others (Text kind left) h lt f s = absurd (read_stuck text rest lines others h lt f s)
 
-pub refused_for_memory : {A : Type 0} (n : ℕ) (e : Fault Refusal) (x : A) (r : Option A) → Fails e r → r ≡ Some x → error_of n e ≡ OutOfMemory
-refused_for_memory n Memory x r f s = refl
+pub refused_for_memory : {A : Type 0} (n : ℕ) (e : Fault Refusal) (x : A) (r : Option A) → Fails e r → r ≡ Some x → error_of n e ≡ OutOfMemory witness
+refused_for_memory n (Memory refused) x r f s = refl
 refused_for_memory n (Text kind left) x r f s = absurd (none-some x (sym f ∙ s))
 
 -- ---- what is written

@@ -1,4 +1,5 @@
 -- What the refusal of a whole proof says.
+use Rattle.base.specs.Witness.{witness}
 use Rattle.std.proofs.Common.{◌≡◌, ◌≢◌, ◌⊎◌, inl, inr, ℕ, ◌+◌, ◌<◌, ◌≤◌, true, false, List, length, take, drop, get_or, refl, sym, ◌∙◌, ap, subst, arith}
 use Rattle.std.proofs.lemmas.List.{length-take-le}
 use Rattle.lrat.specs.Stages.{Stage, GoAlong}
@@ -12,8 +13,8 @@ use Rattle.lrat.specs.declared.fault.Fault.TheVariants.{OutOfMemory, UnknownId, 
 use Rattle.lrat.proofs.Exact.{parts_at, along_next_is, along_unique}
 use Rattle.lrat.proofs.Halting.{halts_not}
 
-is_memory : (e : Fault) → (e ≡ OutOfMemory) ⊎ (e ≢ OutOfMemory)
-is_memory OutOfMemory = inl refl
+is_memory : (e : Fault) → (e ≡ OutOfMemory witness) ⊎ (e ≢ OutOfMemory witness)
+is_memory (OutOfMemory refused) = inl refl
 is_memory UnknownId = inr (λ x. cc)
 is_memory IdOrder = inr (λ x. cc)
 is_memory SeveralLeft = inr (λ x. cc)
@@ -31,10 +32,10 @@ same_error : (e : StepError) (fault : Fault) (line : ℕ) → e.fault ≡ fault 
 same_error e fault line p q = λ i. record { fault = p i; line = q i }
 
 -- the line at place i is refused
-pub refused_at : (f : Formula) (ls : List Line) (i : ℕ) (s : Stage) (x : Line) (fault : Fault) (e : StepError) → i < length ls → GoAlong f.vars (first_stage f) (take i ls) s → x ≡ get_or ls i x → Halts f.vars s x fault → e.fault ≡ fault → (fault ≢ OutOfMemory → e.line ≡ i) → (fault ≡ OutOfMemory → e.line ≡ 0) → IsRefusedProof f ls e
+pub refused_at : (f : Formula) (ls : List Line) (i : ℕ) (s : Stage) (x : Line) (fault : Fault) (e : StepError) → i < length ls → GoAlong f.vars (first_stage f) (take i ls) s → x ≡ get_or ls i x → Halts f.vars s x fault → e.fault ≡ fault → (fault ≢ OutOfMemory witness → e.line ≡ i) → (fault ≡ OutOfMemory witness → e.line ≡ 0) → IsRefusedProof f ls e
 refused_at f ls i s x fault e lt along at halts is line none =
     elim (is_memory fault) [
-      | inl memory ↦ inl (same_error e OutOfMemory 0 (is ∙ memory) (none memory))
+      | inl memory ↦ inl (same_error e (OutOfMemory witness) 0 (is ∙ memory) (none memory))
       | inr ne ↦
           let le : i ≤ length ls = omega arith in
           inr (inl (record {
@@ -50,12 +51,12 @@ refused_at f ls i s x fault e lt along at halts is line none =
     ]
 
 -- no line adds the empty clause
-pub refused_open : (f : Formula) (ls : List Line) (s : Stage) (fault : Fault) (e : StepError) → GoAlong f.vars (first_stage f) ls s → s.closed ≡ false → fault ≡ NoEmptyClause → e.fault ≡ fault → (fault ≢ OutOfMemory → e.line ≡ length ls) → IsRefusedProof f ls e
+pub refused_open : (f : Formula) (ls : List Line) (s : Stage) (fault : Fault) (e : StepError) → GoAlong f.vars (first_stage f) ls s → s.closed ≡ false → fault ≡ NoEmptyClause → e.fault ≡ fault → (fault ≢ OutOfMemory witness → e.line ≡ length ls) → IsRefusedProof f ls e
 refused_open f ls s fault e along shut is same line =
     inr (inr (same ∙ is, record { reached = s; along = along; open_end = shut; place = line (λ x. cc) }))
 
 -- a proof that is refused is not accepted
-pub refused_proof_not : (f : Formula) (ls : List Line) (e : StepError) → IsRefusedProof f ls e → e.fault ≢ OutOfMemory → IsAcceptedProof f ls → ⊥
+pub refused_proof_not : (f : Formula) (ls : List Line) (e : StepError) → IsRefusedProof f ls e → e.fault ≢ OutOfMemory witness → IsAcceptedProof f ls → ⊥
 refused_proof_not f ls e (inl memory) ne accepted = ne (ap (λ x. x.fault) memory)
 refused_proof_not f ls e (inr (inl halt)) ne accepted =
     let next = along_next_is f.vars halt.done halt.line halt.later (first_stage f) halt.reached accepted.0 halt.along (subst (λ us. GoAlong f.vars (first_stage f) us accepted.0) halt.are accepted.1) in

@@ -18,7 +18,7 @@ abbrev pub IsImproper : ℕ → List ℤ → Fault → Type 0
 IsImproper n c VariableRange = (k : ℕ) × (k < length c) × IsProper n (take k c) × (n < unsigned_abs (get_or c k (pos 0)))
 IsImproper n c RepeatedLiteral = (k : ℕ) × (k < length c) × IsProper n (take k c) × (unsigned_abs (get_or c k (pos 0)) ≤ n)
     × (Contains (take k c) (get_or c k (pos 0)) ⊎ Contains (take k c) (neg_ℤ (get_or c k (pos 0))))
-IsImproper n c OutOfMemory = Unit {0}
+IsImproper n c (OutOfMemory refused) = Unit {0}
 IsImproper n c _ = ⊥
 
 -- why a hint before the last stops at the set s
@@ -27,14 +27,14 @@ Stops m s id UnknownId = m id ≡ None
 Stops m s id EarlyConflict = Conflicts m s id
 Stops m s id SeveralLeft = (d : List ℤ) × (m id ≡ Some d) × LeavesSeveral s d
 Stops m s id TrueAlready = (d : List ℤ) × (l : ℤ) × (m id ≡ Some d) × LeavesOnly s d l × Contains s l
-Stops m s id OutOfMemory = Unit {0}
+Stops m s id (OutOfMemory refused) = Unit {0}
 Stops m s id _ = ⊥
 
 -- why the last hint stops at the set s
 abbrev pub StopsLast : Finder → List ℤ → ℕ → Fault → Type 0
 StopsLast m s id UnknownId = m id ≡ None
 StopsLast m s id NotFalse = (d : List ℤ) × (l : ℤ) × (m id ≡ Some d) × Contains d l × (IsDenied s l → ⊥)
-StopsLast m s id OutOfMemory = Unit {0}
+StopsLast m s id (OutOfMemory refused) = Unit {0}
 StopsLast m s id _ = ⊥
 
 -- the hints lead from s up to the one that stops

@@ -22,7 +22,7 @@ pub record LacksOne (m : ById) (ids : List ℕ) : Type 0 where
 -- the first cause of each refusal of a line: one after the empty clause, then the id, then hints
 -- that are negative, and then those of the clause with its hints
 abbrev pub Halts : ℕ → Stage → Line → Fault → Type 0
-Halts n s l OutOfMemory = Unit {0}
+Halts n s l (OutOfMemory refused) = Unit {0}
 Halts n s l AfterEmpty = s.closed ≡ true
 Halts n s (Add id c hints) IdOrder = (s.closed ≡ false) × (id ≤ s.top)
 Halts n s (Add id c hints) NegativeHint = (s.closed ≡ false) × (s.top < id) × (All IsPositive hints → ⊥)

@@ -6,7 +6,7 @@ use Rattle.lrat.specs.declared.fault.Fault.{Fault}
 use Rattle.lrat.specs.declared.fault.Fault.TheVariants.{OutOfMemory, UnknownId, IdOrder, SeveralLeft, TrueAlready, NotFalse, EarlyConflict, NoHints, NegativeHint, RepeatedLiteral, NoEmptyClause, AfterEmpty, VariableRange}
 
 abbrev pub number_of : Fault → ℕ
-number_of OutOfMemory = 20
+number_of (OutOfMemory refused) = 20
 number_of UnknownId = 40
 number_of IdOrder = 41
 number_of SeveralLeft = 42
@@ -24,10 +24,10 @@ abbrev pub lrat_number_of : LratError → ℕ
 lrat_number_of (Number place) = 3
 lrat_number_of (Byte place) = 5
 lrat_number_of (Truncated place) = 6
-lrat_number_of NoMemory = 20
+lrat_number_of (NoMemory refused) = 20
 
 abbrev pub lrat_place_of : LratError → ℕ
 lrat_place_of (Number place) = place
 lrat_place_of (Byte place) = place
 lrat_place_of (Truncated place) = place
-lrat_place_of NoMemory = 0
+lrat_place_of (NoMemory refused) = 0

@@ -1,4 +1,5 @@
 -- When a proof of a formula is accepted, and why it is refused.
+use Rattle.base.specs.Witness.{witness}
 use Rattle.std.specs.Prelude.{◌≡◌, ℕ, ◌+◌, ◌⊎◌, Bool, true, false, List, [], ◌∷◌, ◌++◌, length, All, ℤ}
 use Rattle.std.specs.FinMap as fin
 use Rattle.lrat.specs.Store.{ById}
@@ -49,5 +50,5 @@ pub record StaysOpen (n : ℕ) (s : Stage) (ls : List Line) (k : ℕ) : Type 0 w
 -- out of memory, the first line that is refused, or the want of the empty clause
 abbrev pub IsRefusedProof : Formula → List Line → StepError → Type 0
 IsRefusedProof f ls e =
-    (e ≡ record { fault = OutOfMemory; line = 0 })
+    (e ≡ record { fault = (OutOfMemory witness); line = 0 })
     ⊎ (HaltsAt f.vars (first_stage f) ls e.fault e.line ⊎ ((e.fault ≡ NoEmptyClause) × StaysOpen f.vars (first_stage f) ls e.line))

@@ -1,4 +1,5 @@
 -- Texts of lines and of proofs (LRAT, 2017).
+use Rattle.base.specs.Witness.{witness}
 use Rattle.std.specs.Prelude.{◌≡◌, ℕ, ◌-◌, List, ◌++◌, Option, Result, MatchResult, codes, decimal, flat_map}
 use Rattle.std.specs.Fmt.{signed_decimal}
 use Rattle.std.specs.Io.KnownBytes.{Appends}
@@ -38,11 +39,11 @@ SpellsProof text lines = Each SpellsLine text lines
 
 -- this value is read, unless memory runs out
 abbrev pub IsRead : {V : Type 0} → Result V LratError → V → Type 0
-IsRead result value = MatchResult result (λ v. v ≡ value) (λ e. e ≡ OutOfMemory)
+IsRead result value = MatchResult result (λ v. v ≡ value) (λ e. e ≡ OutOfMemory witness)
 
 -- the error for a fault in a text of so many bytes
 abbrev pub error_of : ℕ → Fault Refusal → LratError
-error_of length Memory = OutOfMemory
+error_of length (Memory refused) = (OutOfMemory witness)
 error_of length (Text NoNumber left) = Number (length - left)
 error_of length (Text OtherByte left) = Byte (length - left)
 error_of length (Text EndsEarly left) = Truncated (length - left)

@@ -2,8 +2,9 @@
 
 ghost use Rattle.std.specs.Prelude.{◌≡◌, IfOk};
 
+use base::{Refused, small};
 use smallvec::SmallVec;
-use std::alloc::{AllocError, Global};
+use std::alloc::Global;
 use std::marker::Model;
 
 /// A clause, which a contract sees as the list of its literals. Up to four take no memory of
@@ -23,11 +24,11 @@ impl Model for Clause {
 
 impl Clause {
     /// The clause of these literals.
-    pub fn from_slice(alloc: Global, literals: &[i32]) -> Result<Clause, AllocError>
+    pub fn from_slice(alloc: Global, literals: &[i32]) -> Result<Clause, Refused>
         ensures { IfOk result (λ c. c ≡ literals.now) }
     {
         Ok(Clause {
-            literals: SmallVec::from_slice(alloc, literals)?,
+            literals: small(alloc, literals)?,
         })
     }
 

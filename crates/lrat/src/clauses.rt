@@ -7,7 +7,8 @@ ghost use Rattle.lrat.specs.Store.{find_in};
 
 use crate::clause::Clause;
 use crate::lookup::Lookup;
-use std::alloc::{AllocError, Global};
+use base::{Refused, insert};
+use std::alloc::Global;
 use std::collections::BTreeMap;
 use std::marker::Model;
 
@@ -47,7 +48,7 @@ impl Clauses {
     }
 
     /// Adds a clause under an id that is free. Without memory nothing changes.
-    pub fn add(&mut self, alloc: Global, id: u32, clause: &[i32]) -> Result<(), AllocError>
+    pub fn add(&mut self, alloc: Global, id: u32, clause: &[i32]) -> Result<(), Refused>
         requires absent { fin.get self.old.by_id id ≡ None }
         requires in_range { All (IsLiteral self.old.vars) clause.now }
         ensures vars { self.new.vars ≡ self.old.vars }
@@ -55,7 +56,7 @@ impl Clauses {
         ensures err { OnErr result (self.new ≡ self.old) }
     {
         let stored = Clause::from_slice(alloc, clause)?;
-        self.by_id.insert(id, stored)?;
+        insert(&mut self.by_id, id, stored)?;
         Ok(())
     }
 

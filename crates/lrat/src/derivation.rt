@@ -1,5 +1,6 @@
 //! One line of a proof.
 
+ghost use Rattle.base.specs.Witness.{witness};
 ghost use Rattle.std.specs.Prelude.{◌≡◌, ◌≢◌, ◌<◌, ◌^◌, ℕ, ℤ, pos, neg_ℤ, Bool, List, [], map, All, MatchResult, IfOk, IfErr};
 ghost use Rattle.lrat.specs.Literals.{IsLiteral, IsProper, IsSatisfied, Satisfies};
 ghost use Rattle.lrat.specs.Lines.{Leads, Conflicts, IsAcceptedLine};
@@ -33,7 +34,7 @@ pub fn derive_with<C: Lookup>(
     ensures same { trail.new ≡ trail.old }
     ensures accepted { IfOk result (λ _. IsAcceptedLine (C.vars clauses.now) (C.find clauses.now) clause.now hints.now) }
     ensures refused { IfErr result (λ e. IsRefusedLine (C.vars clauses.now) (C.find clauses.now) clause.now hints.now e) }
-    ensures complete { IfErr result (λ e. e ≢ OutOfMemory → IsAcceptedLine (C.vars clauses.now) (C.find clauses.now) clause.now hints.now → ⊥) }
+    ensures complete { IfErr result (λ e. e ≢ OutOfMemory witness → IsAcceptedLine (C.vars clauses.now) (C.find clauses.now) clause.now hints.now → ⊥) }
     ensures sound { IfOk result (λ _. (v : ℕ → Bool) → Satisfies v (C.find clauses.now) → IsSatisfied v clause.now) }
 {
     let answer = check(trail, clauses, clause, hints);
@@ -54,11 +55,12 @@ pub fn derive(
     ensures accepted { IfOk result (λ _. IsAcceptedLine clauses.now.vars (find_in clauses.now) clause.now hints.now) }
     ensures refused { IfErr result (λ e. IsRefusedLine clauses.now.vars (find_in clauses.now) clause.now hints.now e.fault) }
     ensures place { IfErr result (λ e. e.line ≡ 0) }
-    ensures complete { IfErr result (λ e. e.fault ≢ OutOfMemory → IsAcceptedLine clauses.now.vars (find_in clauses.now) clause.now hints.now → ⊥) }
+    ensures complete { IfErr result (λ e. e.fault ≢ OutOfMemory witness → IsAcceptedLine clauses.now.vars (find_in clauses.now) clause.now hints.now → ⊥) }
     ensures sound { IfOk result (λ _. (v : ℕ → Bool) → Satisfies v (find_in clauses.now) → IsSatisfied v clause.now) }
 {
-    let Ok(mut trail) = Trail::new(alloc, clauses.vars()) else {
-        return Err(StepError::at(Fault::OutOfMemory, 0));
+    let mut trail = match Trail::new(alloc, clauses.vars()) {
+        Ok(trail) => trail,
+        Err(refused) => return Err(StepError::at(Fault::OutOfMemory(refused), 0)),
     };
     if let Err(fault) = derive_with(&mut trail, clauses, clause, hints) {
         return Err(StepError::at(fault, 0));

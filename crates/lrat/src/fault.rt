@@ -1,18 +1,19 @@
 //! Why a line is refused.
 
 ghost use Rattle.std.specs.Prelude.{◌≡◌};
+ghost use Rattle.base.specs.Witness.{witness};
 ghost use Rattle.lrat.specs.Numbers.{number_of};
 ghost use Rattle.lrat.specs.declared.fault.Fault.TheVariants.{OutOfMemory};
 
-use std::alloc::AllocError;
+use base::Refused;
 use thiserror::Error;
 
 /// Why a line of a proof, or a whole proof, is refused.
 #[derive(Clone, Copy, Debug, PartialEq, Eq, Error)]
 pub enum Fault {
     /// out of memory
-    #[error("out of memory")]
-    OutOfMemory,
+    #[error("{0}")]
+    OutOfMemory(Refused),
     /// a hint or a deletion names no clause that is present
     #[error("no clause has this id")]
     UnknownId,
@@ -51,11 +52,11 @@ pub enum Fault {
     VariableRange,
 }
 
-impl From<AllocError> for Fault {
-    ghost from_gives = { λ _ e. e ≡ OutOfMemory };
+impl From<Refused> for Fault {
+    ghost from_gives = { λ _ e. e ≡ OutOfMemory witness };
 
-    fn from(_e: AllocError) -> Fault {
-        Fault::OutOfMemory
+    fn from(refused: Refused) -> Fault {
+        Fault::OutOfMemory(refused)
     }
 }
 
@@ -65,7 +66,7 @@ impl Fault {
         ensures { result ≡ number_of self }
     {
         match self {
-            Fault::OutOfMemory => 20,
+            Fault::OutOfMemory(_) => 20,
             Fault::UnknownId => 40,
             Fault::IdOrder => 41,
             Fault::SeveralLeft => 42,

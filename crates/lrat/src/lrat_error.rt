@@ -1,10 +1,11 @@
 //! Why lines and texts of proofs are refused.
 
+ghost use Rattle.base.specs.Witness.{witness};
 ghost use Rattle.std.specs.Prelude.{◌≡◌};
 ghost use Rattle.lrat.specs.declared.lrat_error.LratError.TheVariants.{OutOfMemory};
 ghost use Rattle.lrat.specs.Numbers.{lrat_number_of, lrat_place_of};
 
-use std::alloc::{AllocError, AllocFailed};
+use base::Refused;
 use thiserror::Error;
 
 /// Why a line, or the text of a proof, is refused. A place is a byte of the text.
@@ -20,23 +21,15 @@ pub enum LratError {
     #[error("byte {place}: the text ends too early")]
     Truncated { place: u64 },
     /// out of memory
-    #[error("out of memory")]
-    OutOfMemory,
+    #[error("{0}")]
+    OutOfMemory(Refused),
 }
 
-impl From<AllocError> for LratError {
-    ghost from_gives = { λ _ e. e ≡ OutOfMemory };
+impl From<Refused> for LratError {
+    ghost from_gives = { λ _ e. e ≡ OutOfMemory witness };
 
-    fn from(_e: AllocError) -> LratError {
-        LratError::OutOfMemory
-    }
-}
-
-impl<T: Drop> From<AllocFailed<T>> for LratError {
-    ghost from_gives = { λ _ e. e ≡ OutOfMemory };
-
-    fn from(_e: AllocFailed<T>) -> LratError {
-        LratError::OutOfMemory
+    fn from(refused: Refused) -> LratError {
+        LratError::OutOfMemory(refused)
     }
 }
 
@@ -49,7 +42,7 @@ impl LratError {
             LratError::Number { .. } => 3,
             LratError::Byte { .. } => 5,
             LratError::Truncated { .. } => 6,
-            LratError::OutOfMemory => 20,
+            LratError::OutOfMemory(_) => 20,
         }
     }
 
@@ -61,7 +54,7 @@ impl LratError {
             LratError::Number { place } => place,
             LratError::Byte { place } => place,
             LratError::Truncated { place } => place,
-            LratError::OutOfMemory => 0,
+            LratError::OutOfMemory(_) => 0,
         }
     }
 }

@@ -1,5 +1,6 @@
 //! Proofs.
 
+ghost use Rattle.base.specs.Witness.{witness};
 ghost use Rattle.std.specs.Prelude.{◌≡◌, ◌++◌, ◌∷◌, [], All, OnOk, OnErr, IfErr, IsTrue, ◌↔◌, ◌⊎◌};
 ghost use Rattle.lrat.specs.Limits.{IsHint, IsId, IsLine};
 ghost use Rattle.lrat.specs.Literals.{IsLiteral};
@@ -7,7 +8,7 @@ ghost use Rattle.lrat.specs.declared.lrat_error.LratError.TheVariants.{Number, O
 
 use crate::line::Line;
 use crate::lrat_error::LratError;
-use base::Seq;
+use base::{Refused, Seq};
 use std::alloc::Global;
 use std::marker::Model;
 
@@ -42,19 +43,26 @@ impl Proof {
         }
     }
 
+    /// Adds a line without zeros and in the limits at the end.
+    pub fn push_line(&mut self, line: Line) -> Result<(), Refused>
+        requires { IsLine line }
+        ensures ok { OnOk result (self.new ≡ self.old ++ line ∷ []) }
+        ensures err { OnErr result (self.new ≡ self.old) }
+    {
+        self.lines.push(line)
+    }
+
     /// Adds a line at the end. It is refused exactly where a number of it is 0 or over its limit,
     /// or when out of memory, and then the proof stays.
     pub fn push(&mut self, line: Line) -> Result<(), LratError>
         ensures ok { OnOk result (IsLine line × (self.new ≡ self.old ++ line ∷ [])) }
         ensures err { OnErr result (self.new ≡ self.old) }
-        ensures refused { IfErr result (λ e. ((e ≡ Number 0) × (IsLine line → ⊥)) ⊎ ((e ≡ OutOfMemory) × IsLine line)) }
+        ensures refused { IfErr result (λ e. ((e ≡ Number 0) × (IsLine line → ⊥)) ⊎ ((e ≡ OutOfMemory witness) × IsLine line)) }
     {
         if !is_line(&line) {
             return Err(LratError::Number { place: 0 });
         }
-        if self.lines.push(line).is_err() {
-            return Err(LratError::OutOfMemory);
-        }
+        self.push_line(line)?;
         Ok(())
     }
 

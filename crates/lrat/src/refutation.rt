@@ -1,5 +1,6 @@
 //! Whole proofs.
 
+ghost use Rattle.base.specs.Witness.{witness};
 ghost use Rattle.std.specs.Prelude.{◌≡◌, ◌≢◌, ℕ, Bool, IfErr, OnOk};
 ghost use Rattle.lrat.specs.Limits.{IsFormula};
 ghost use Rattle.lrat.specs.Proofs.{IsAcceptedProof, IsRefusedProof, Solves};
@@ -20,11 +21,12 @@ pub fn refutes(alloc: Global, formula: &Formula, proof: &Proof) -> Result<(), St
     requires { IsFormula formula.now }
     ensures accepted { OnOk result (IsAcceptedProof formula.now proof.now) }
     ensures refused { IfErr result (λ e. IsRefusedProof formula.now proof.now e) }
-    ensures complete { IfErr result (λ e. e.fault ≢ OutOfMemory → IsAcceptedProof formula.now proof.now → ⊥) }
+    ensures complete { IfErr result (λ e. e.fault ≢ OutOfMemory witness → IsAcceptedProof formula.now proof.now → ⊥) }
     ensures sound { OnOk result ((v : ℕ → Bool) → Solves v formula.now → ⊥) }
 {
-    let Ok(mut refuter) = Refuter::new(alloc, formula) else {
-        return Err(StepError::at(Fault::OutOfMemory, 0));
+    let mut refuter = match Refuter::new(alloc, formula) {
+        Ok(refuter) => refuter,
+        Err(refused) => return Err(StepError::at(Fault::OutOfMemory(refused), 0)),
     };
     let lines = proof.lines();
     for (i, line) in lines.iter().enumerate() {

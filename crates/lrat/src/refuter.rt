@@ -1,5 +1,6 @@
 //! Proofs, checked line by line.
 
+ghost use Rattle.base.specs.Witness.{witness};
 ghost use Rattle.std.specs.Prelude.{◌≡◌, ◌≢◌, ◌+◌, ◌<◌, ◌^◌, ◌⊎◌, Bool, true, false, None, Some, map, length, All, IfOk, IfErr, IfSome, OnOk, OnErr, unsigned_abs};
 ghost use Rattle.lrat.specs.Courses.{at_formula, at_units};
 ghost use Rattle.lrat.specs.Halts.{Halts, LacksOne};
@@ -15,7 +16,8 @@ use crate::formula::Formula;
 use crate::line::Line;
 use crate::stack::Stack;
 use crate::trail::Trail;
-use std::alloc::{AllocError, Global};
+use base::{Refused, push};
+use std::alloc::Global;
 use std::marker::Model;
 
 /// A refutation in progress, of a formula or of a formula with some literals as further clauses.
@@ -53,7 +55,7 @@ impl Model for Refuter {
 
 impl Refuter {
     /// At the formula, before the first line. It costs the formula's literals and variables.
-    pub fn new(alloc: Global, formula: &Formula) -> Result<Refuter, AllocError>
+    pub fn new(alloc: Global, formula: &Formula) -> Result<Refuter, Refused>
         requires { IsFormula formula.now }
         ensures { IfOk result (λ r. r ≡ at_formula formula.now) }
     {
@@ -74,7 +76,7 @@ impl Refuter {
         ensures base { self.new.base ≡ self.old.base }
         ensures stands { IfSome self.old.refusal (λ e. (result ≡ Err e) × (self.new ≡ self.old)) }
         ensures ok { OnOk result ((self.old.refusal ≡ None) × (self.new ≡ at_units self.old.base units.now)) }
-        ensures memory { IfErr result (λ e. self.old.refusal ≡ None → e ≡ OutOfMemory) }
+        ensures memory { IfErr result (λ e. self.old.refusal ≡ None → e ≡ OutOfMemory witness) }
         ensures from_then { IfErr result (λ e. self.new.refusal ≡ Some e) }
     {
         if let Some(fault) = self.refusal {
@@ -82,9 +84,9 @@ impl Refuter {
         }
         self.closed = false;
         self.stack.rewind();
-        if self.stack.add_units(alloc, units).is_err() {
-            self.refusal = Some(Fault::OutOfMemory);
-            return Err(Fault::OutOfMemory);
+        if let Err(refused) = self.stack.add_units(alloc, units) {
+            self.refusal = Some(Fault::OutOfMemory(refused));
+            return Err(Fault::OutOfMemory(refused));
         }
         Ok(())
     }
@@ -96,7 +98,7 @@ impl Refuter {
         ensures stands { IfSome self.old.refusal (λ e. (result ≡ Err e) × (self.new ≡ self.old)) }
         ensures ok { OnOk result ((self.old.refusal ≡ None) × (self.new.refusal ≡ None) × Goes self.old.base.vars self.old.stage line.now self.new.stage) }
         ensures refused { IfErr result (λ e. self.old.refusal ≡ None → Halts self.old.base.vars self.old.stage line.now e) }
-        ensures complete { IfErr result (λ e. self.old.refusal ≡ None → e ≢ OutOfMemory → (t : Stage) → Goes self.old.base.vars self.old.stage line.now t → ⊥) }
+        ensures complete { IfErr result (λ e. self.old.refusal ≡ None → e ≢ OutOfMemory witness → (t : Stage) → Goes self.old.base.vars self.old.stage line.now t → ⊥) }
         ensures from_then { IfErr result (λ e. self.new.refusal ≡ Some e) }
     {
         if let Some(fault) = self.refusal {
@@ -172,7 +174,7 @@ fn take_out(stack: &mut Stack, ids: &[u32]) -> Result<(), Fault>
     ensures base { stack.new.base ≡ stack.old.base }
     ensures top { stack.new.top ≡ stack.old.top }
     ensures ok { OnOk result (TakesOut stack.old.present ids.now stack.new.present) }
-    ensures refused { IfErr result (λ e. (e ≡ OutOfMemory) ⊎ ((e ≡ UnknownId) × LacksOne stack.old.present ids.now)) }
+    ensures refused { IfErr result (λ e. (e ≡ OutOfMemory witness) ⊎ ((e ≡ UnknownId) × LacksOne stack.old.present ids.now)) }
 {
     for id in ids {
         let was_present = stack.remove(*id)?;
@@ -187,16 +189,14 @@ fn take_out(stack: &mut Stack, ids: &[u32]) -> Result<(), Fault>
 fn positive(buffer: &mut Vec<u32>, hints: &[i64]) -> Result<(), Fault>
     requires { All IsHint hints.now }
     ensures ok { OnOk result (All IsPositive hints.now × (buffer.new.items ≡ map unsigned_abs hints.now)) }
-    ensures refused { IfErr result (λ e. (e ≡ OutOfMemory) ⊎ ((e ≡ NegativeHint) × (All IsPositive hints.now → ⊥))) }
+    ensures refused { IfErr result (λ e. (e ≡ OutOfMemory witness) ⊎ ((e ≡ NegativeHint) × (All IsPositive hints.now → ⊥))) }
 {
     buffer.clear();
     for hint in hints {
         if *hint < 0 {
             return Err(Fault::NegativeHint);
         }
-        if buffer.push(hint.unsigned_abs() as u32).is_err() {
-            return Err(Fault::OutOfMemory);
-        }
+        push(buffer, hint.unsigned_abs() as u32)?;
     }
     Ok(())
 }

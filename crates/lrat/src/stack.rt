@@ -12,7 +12,8 @@ use crate::clause::Clause;
 use crate::clauses::Clauses;
 use crate::formula::Formula;
 use crate::lookup::Lookup;
-use std::alloc::{AllocError, Global};
+use base::{Refused, insert_key, push};
+use std::alloc::Global;
 use std::collections::BTreeSet;
 use std::marker::Model;
 
@@ -46,7 +47,7 @@ impl Model for Stack {
 
 impl Stack {
     /// The formula's clauses, shared. It costs their literals.
-    pub fn new(alloc: Global, formula: &Formula) -> Result<Stack, AllocError>
+    pub fn new(alloc: Global, formula: &Formula) -> Result<Stack, Refused>
         requires { IsFormula formula.now }
         ensures { IfOk result (λ s. s ≡ bare (base_of formula.now)) }
     {
@@ -70,20 +71,20 @@ impl Stack {
     }
 
     /// Adds a clause of the refutation's own. Without memory nothing changes.
-    pub fn add(&mut self, alloc: Global, id: u32, clause: &[i32]) -> Result<(), AllocError>
+    pub fn add(&mut self, alloc: Global, id: u32, clause: &[i32]) -> Result<(), Refused>
         requires above { self.old.top < id }
         requires in_range { All (IsLiteral self.old.base.vars) clause.now }
         ensures ok { OnOk result (self.new ≡ record { base = self.old.base; present = fin.insert self.old.present id clause.now; top = id }) }
         ensures err { OnErr result (self.new ≡ self.old) }
     {
-        self.own.push(id)?;
+        push(&mut self.own, id)?;
         self.clauses.add(alloc, id, clause)?;
         self.top = id;
         Ok(())
     }
 
     /// Adds clauses of one literal each under the next ids. Without memory some of them are added.
-    pub fn add_units(&mut self, alloc: Global, units: &[i32]) -> Result<(), AllocError>
+    pub fn add_units(&mut self, alloc: Global, units: &[i32]) -> Result<(), Refused>
         requires in_range { All (IsLiteral self.old.base.vars) units.now }
         requires few { self.old.top + length units.now < 2 ^ 32 }
         ensures base { self.new.base ≡ self.old.base }
@@ -99,7 +100,7 @@ impl Stack {
 
     /// Takes out the clause with this id, and answers whether there was one. Without memory
     /// nothing changes.
-    pub fn remove(&mut self, id: u32) -> Result<bool, AllocError>
+    pub fn remove(&mut self, id: u32) -> Result<bool, Refused>
         ensures was { IfOk result (λ was. was ≡ fin.contains_key self.old.present id) }
         ensures ok { OnOk result (self.new ≡ record { base = self.old.base; present = fin.remove self.old.present id; top = self.old.top }) }
         ensures err { OnErr result (self.new ≡ self.old) }
@@ -110,7 +111,7 @@ impl Stack {
         if self.get(id).is_none() {
             return Ok(false);
         }
-        self.hidden.insert(id)?;
+        insert_key(&mut self.hidden, id)?;
         Ok(true)
     }
 
@@ -143,7 +144,7 @@ impl Lookup for Stack {
 }
 
 /// The clauses under the ids 1, 2 and so on.
-fn number(alloc: Global, vars: u32, formula: &[Clause]) -> Result<Clauses, AllocError>
+fn number(alloc: Global, vars: u32, formula: &[Clause]) -> Result<Clauses, Refused>
     requires are_literals { All (λ c. All (IsLiteral vars) c) formula.now }
     requires few { length formula.now < 2 ^ 32 }
     ensures vars { IfOk result (λ s. s.vars ≡ vars) }

@@ -1,5 +1,6 @@
 //! Why a proof is refused, and at which line.
 
+ghost use Rattle.base.specs.Witness.{witness};
 ghost use Rattle.std.specs.Prelude.{◌≡◌, ◌≢◌};
 ghost use Rattle.lrat.specs.Numbers.{number_of};
 ghost use Rattle.lrat.specs.declared.fault.Fault.TheVariants.{OutOfMemory};
@@ -20,11 +21,11 @@ impl StepError {
     /// The refusal of a line; out of memory has none.
     pub fn at(fault: Fault, line: u64) -> StepError
         ensures fault { result.fault ≡ fault }
-        ensures line { fault ≢ OutOfMemory → result.line ≡ line }
-        ensures memory { fault ≡ OutOfMemory → result.line ≡ 0 }
+        ensures line { fault ≢ OutOfMemory witness → result.line ≡ line }
+        ensures memory { fault ≡ OutOfMemory witness → result.line ≡ 0 }
     {
         match fault {
-            Fault::OutOfMemory => StepError { fault, line: 0 },
+            Fault::OutOfMemory(_) => StepError { fault, line: 0 },
             _ => StepError { fault, line },
         }
     }

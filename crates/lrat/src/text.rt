@@ -1,5 +1,6 @@
 //! Texts of lines and of proofs.
 
+ghost use Rattle.base.specs.Witness.{witness};
 ghost use Rattle.std.specs.Prelude.{◌≡◌, List, IfOk, MatchResult, length};
 ghost use Rattle.scan.specs.Reading.{Gives, ended};
 ghost use Rattle.scan.specs.declared.fault.Fault.TheVariants.{Memory};
@@ -38,7 +39,7 @@ fn error(length: usize, fault: Fault<Refusal>) -> LratError
     ensures { result ≡ error_of length fault }
 {
     match fault {
-        Fault::Memory => LratError::OutOfMemory,
+        Fault::Memory(refused) => LratError::OutOfMemory(refused),
         Fault::Text { kind, left } => {
             let place = place(length, left);
             match kind {
@@ -81,15 +82,13 @@ pub fn parse_line(alloc: Global, text: &[u8]) -> Result<Line, LratError>
 /// The lines that the whole text is.
 fn lines(alloc: Global, text: &[u8]) -> Result<Proof, Fault<Refusal>>
     ensures found { IfOk result (λ proof. SpellsProof text.now proof) }
-    ensures only { (lines : List ALine) → SpellsProof text.now lines → MatchResult result (λ proof. proof ≡ lines) (λ e. e ≡ Memory) }
+    ensures only { (lines : List ALine) → SpellsProof text.now lines → MatchResult result (λ proof. proof ≡ lines) (λ e. e ≡ Memory witness) }
 {
     let mut proof = Proof::new(alloc);
     let mut rest = text;
     'reading: while !rest.is_empty() {
         let (line, after) = next_line(alloc, rest, IN_LINE)?;
-        if proof.push(line).is_err() {
-            return Err(Fault::Memory);
-        }
+        proof.push_line(line)?;
         rest = after;
     }
     Ok(proof)

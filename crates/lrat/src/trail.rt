@@ -5,7 +5,8 @@ ghost use Rattle.lrat.specs.Literals.{IsLiteral};
 ghost use Rattle.lrat.specs.Marks.{AreApart};
 
 use crate::mark::{Mark, mark_for, unmark};
-use std::alloc::{AllocError, Global};
+use base::{Refused, filled, push};
+use std::alloc::Global;
 use std::marker::Model;
 
 /// Literals that are held true, no variable twice. One mark for each variable tells at once
@@ -36,11 +37,11 @@ impl Model for Trail {
 
 impl Trail {
     /// A trail over the variables 1 to `vars` that holds nothing. It takes a byte for each.
-    pub fn new(alloc: Global, vars: u32) -> Result<Trail, AllocError>
+    pub fn new(alloc: Global, vars: u32) -> Result<Trail, Refused>
         requires { vars < 2 ^ 31 }
         ensures { IfOk result (λ h. h ≡ record { vars = vars; literals = [] }) }
     {
-        let marks = vec![in alloc; Mark::Neither; vars as usize + 1]?;
+        let marks = filled(alloc, Mark::Neither, vars as usize + 1)?;
         Ok(Trail {
             vars,
             marks,
@@ -92,7 +93,7 @@ impl Trail {
     }
 
     /// Holds the literal true from now on. Without memory nothing changes.
-    pub fn set(&mut self, literal: i32) -> Result<(), AllocError>
+    pub fn set(&mut self, literal: i32) -> Result<(), Refused>
         requires in_range { IsLiteral self.old.vars literal }
         requires not_held { Contains self.old.literals literal → ⊥ }
         requires not_denied { Contains self.old.literals (neg_ℤ literal) → ⊥ }
@@ -100,13 +101,13 @@ impl Trail {
         ensures ok { OnOk result (self.new.literals ≡ self.old.literals ++ literal ∷ []) }
         ensures err { OnErr result (self.new ≡ self.old) }
     {
-        self.literals.push(literal)?;
+        push(&mut self.literals, literal)?;
         self.marks[literal.unsigned_abs() as usize] = mark_for(literal);
         Ok(())
     }
 
     /// Holds the literal's negation true from now on. Without memory nothing changes.
-    pub fn deny(&mut self, literal: i32) -> Result<(), AllocError>
+    pub fn deny(&mut self, literal: i32) -> Result<(), Refused>
         requires in_range { IsLiteral self.old.vars literal }
         requires not_held { Contains self.old.literals literal → ⊥ }
         requires not_denied { Contains self.old.literals (neg_ℤ literal) → ⊥ }

@@ -1,6 +1,7 @@
 //! 256 runs at once.
 
 ghost use Rattle.std.specs.Prelude.{◌≡◌, ◌≢◌, ◌⊎◌, [], true, ◌<◌, ℕ, ◌↔◌, IsTrue, false, length, IfOk, IfErr, IfSome};
+ghost use Rattle.base.specs.Witness.{witness};
 ghost use Rattle.graph.specs.declared.circuit.Property.TheVariants.{Bad};
 ghost use Rattle.stimulus.specs.declared.value.Stimulus.TheVariants.{Violated};
 ghost use Rattle.stimulus.specs.Shown.{ShowsBad};
@@ -14,10 +15,11 @@ ghost use Rattle.random.specs.Findings.{IsOneOf, IsRunOf, run_of};
 use crate::drawing::{draw, draw_row};
 use crate::lanes::{Lanes, RUNS, row, rows};
 use crate::one_run::{OneRun, Outcome};
+use base::{Refused, filled_like};
 use engine::{EngineError, Finding};
 use graph::{Latch, Model, Property, Seq};
 use rand_pcg::Lcg128Xsl64;
-use std::alloc::{AllocError, Global};
+use std::alloc::Global;
 use stimulus::{JudgeError, Stimulus, judge};
 
 /// 256 runs of a circuit, time after time. A run is in until it breaks a constraint or sets the bad
@@ -95,7 +97,7 @@ fn judged(
     inputs: Seq<Seq<bool>>,
 ) -> Result<Option<Finding>, EngineError>
     ensures shown { IfOk result (λ found. IfSome found (λ f. (f ≡ Run initial inputs) × ShowsBad circuit.now (Violated (Bad 0) initial inputs))) }
-    ensures memory { IfErr result (λ e. e ≡ EngineError.OutOfMemory) }
+    ensures memory { IfErr result (λ e. e ≡ EngineError.OutOfMemory witness) }
 {
     let stimulus = Stimulus::Violated {
         property: Property::Bad(0),
@@ -104,22 +106,22 @@ fn judged(
     };
     match judge(alloc, circuit, &stimulus) {
         Ok(()) => Ok(told_run(stimulus)),
-        Err(JudgeError::OutOfMemory) => Err(EngineError::OutOfMemory),
+        Err(JudgeError::OutOfMemory(refused)) => Err(EngineError::OutOfMemory(refused)),
         Err(_) => Ok(None),
     }
 }
 
 impl<'a> Batch<'a> {
     /// A batch of which no run is in.
-    pub fn new(alloc: Global, circuit: &'a Model) -> Result<Batch<'a>, AllocError>
+    pub fn new(alloc: Global, circuit: &'a Model) -> Result<Batch<'a>, Refused>
         ensures circuit { IfOk result (λ b. b.circuit ≡ circuit.now) }
         ensures over { IfOk result (λ b. (r : ℕ) → r < 256 → value_in b.running r ≡ false) }
     {
-        let latches = circuit.latches().len();
+        let latches = circuit.latches();
         Ok(Batch {
-            first: vec![in alloc; Lanes::all(false); latches]?,
+            first: filled_like(alloc, Lanes::all(false), latches)?,
             inputs: Seq::new(alloc),
-            state: vec![in alloc; Lanes::all(false); latches]?,
+            state: filled_like(alloc, Lanes::all(false), latches)?,
             running: Lanes::all(false),
             one: OneRun::new(alloc, circuit)?,
         })
@@ -151,7 +153,7 @@ impl<'a> Batch<'a> {
     fn finding(&self, alloc: Global, run: u32) -> Result<Option<Finding>, EngineError>
         requires { run < 256 }
         ensures found { IfOk result (λ found. IfSome found (IsRunOf self.now run)) }
-        ensures memory { IfErr result (λ e. e ≡ EngineError.OutOfMemory) }
+        ensures memory { IfErr result (λ e. e ≡ EngineError.OutOfMemory witness) }
     {
         let initial = row(alloc, &self.first, run)?;
         let inputs = rows(alloc, self.inputs.as_slice(), run)?;
@@ -167,7 +169,7 @@ impl<'a> Batch<'a> {
         ensures others { (r : ℕ) → r ≢ run → StaysAt self.old self.new r }
         ensures on { value_in self.new.running run ≡ true → GoesOn self.old self.new run }
         ensures found { IfOk result (λ found. IfSome found (IsRunOf self.old run)) }
-        ensures memory { IfErr result (λ e. e ≡ EngineError.OutOfMemory) }
+        ensures memory { IfErr result (λ e. e ≡ EngineError.OutOfMemory witness) }
     {
         if !self.running.bit(run) {
             return Ok(None);
@@ -201,7 +203,7 @@ impl<'a> Batch<'a> {
         ensures circuit { self.new.circuit ≡ self.old.circuit }
         ensures drawn { IfOk result (λ _. Draws self.old self.new generator.old generator.new) }
         ensures found { IfOk result (λ found. IfSome found (IsOneOf self.new)) }
-        ensures memory { IfErr result (λ e. e ≡ EngineError.OutOfMemory) }
+        ensures memory { IfErr result (λ e. e ≡ EngineError.OutOfMemory witness) }
     {
         let inputs = draw_row(alloc, self.one.circuit().inputs().len(), generator)?;
         self.inputs.push(inputs)?;

@@ -4,10 +4,11 @@ ghost use Rattle.std.specs.Prelude.{◌≡◌, IfOk, length, map};
 ghost use Rattle.random.specs.Words.{draws, words};
 
 use crate::lanes::Lanes;
+use base::{Refused, push};
 use graph::Seq;
 use rand_core::utils::NextWord;
 use rand_pcg::Lcg128Xsl64;
-use std::alloc::{AllocError, Global};
+use std::alloc::Global;
 
 /// The generator's next four 64-bit words.
 pub fn draw(generator: &mut Lcg128Xsl64) -> [u64; 4]
@@ -25,13 +26,13 @@ pub fn draw_row(
     alloc: Global,
     count: usize,
     generator: &mut Lcg128Xsl64,
-) -> Result<Seq<Lanes>, AllocError>
+) -> Result<Seq<Lanes>, Refused>
     ensures long { IfOk result (λ row. length row ≡ count) }
     ensures drawn { IfOk result (λ row. (map (λ lanes. lanes.words) row, generator.new) ≡ draws count generator.old) }
 {
-    let mut row = Vec::with_capacity(alloc, count)?;
+    let mut row = Vec::new(alloc);
     for _ in 0..count {
-        row.push(Lanes::from_words(draw(generator)))?;
+        push(&mut row, Lanes::from_words(draw(generator)))?;
     }
     Ok(Seq::from_vec(row))
 }

@@ -4,8 +4,9 @@ ghost use Rattle.std.specs.Prelude.{◌≡◌, ◌≢◌, ℕ, ◌<◌, ◌↔�
 ghost use Rattle.std.specs.Int.{bit_at};
 ghost use Rattle.random.specs.Lanes.{value_in, row_of, rows_of};
 
+use base::{Refused, push};
 use graph::Seq;
-use std::alloc::{AllocError, Global};
+use std::alloc::Global;
 
 /// How many runs are played at once.
 pub const RUNS: u32 = 256;
@@ -86,25 +87,25 @@ fn with_bit(word: u64, place: u32, value: bool) -> u64
 }
 
 /// One run's values.
-pub fn row(alloc: Global, lanes: &[Lanes], run: u32) -> Result<Seq<bool>, AllocError>
+pub fn row(alloc: Global, lanes: &[Lanes], run: u32) -> Result<Seq<bool>, Refused>
     requires { run < 256 }
     ensures { IfOk result (λ row. row ≡ row_of run lanes.now) }
 {
-    let mut values = Vec::with_capacity(alloc, lanes.len())?;
+    let mut values = Vec::new(alloc);
     for each in lanes {
-        values.push(each.bit(run))?;
+        push(&mut values, each.bit(run))?;
     }
     Ok(Seq::from_vec(values))
 }
 
 /// One run's values at each time.
-pub fn rows(alloc: Global, times: &[Seq<Lanes>], run: u32) -> Result<Seq<Seq<bool>>, AllocError>
+pub fn rows(alloc: Global, times: &[Seq<Lanes>], run: u32) -> Result<Seq<Seq<bool>>, Refused>
     requires { run < 256 }
     ensures { IfOk result (λ rows. rows ≡ rows_of run times.now) }
 {
-    let mut lines = Vec::with_capacity(alloc, times.len())?;
+    let mut lines = Vec::new(alloc);
     for time in times {
-        lines.push(row(alloc, time.as_slice(), run)?)?;
+        push(&mut lines, row(alloc, time.as_slice(), run)?)?;
     }
     Ok(Seq::from_vec(lines))
 }

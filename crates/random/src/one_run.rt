@@ -7,8 +7,9 @@ ghost use Rattle.random.specs.Lanes.{row_of};
 ghost use Rattle.random.specs.Outcomes.{Does};
 
 use crate::lanes::{Lanes, fill};
+use base::{Refused, filled, filled_like};
 use graph::{Latch, Lit, Model};
-use std::alloc::{AllocError, Global};
+use std::alloc::Global;
 
 /// What a run does at one time.
 #[derive(Clone, Copy, Debug, PartialEq, Eq)]
@@ -80,14 +81,15 @@ fn take_over(latches: &[Latch], values: &[bool], run: u32, state: &mut [Lanes])
 
 impl<'a> OneRun<'a> {
     /// Memory for a state, inputs and a valuation.
-    pub fn new(alloc: Global, circuit: &'a Model) -> Result<OneRun<'a>, AllocError>
+    pub fn new(alloc: Global, circuit: &'a Model) -> Result<OneRun<'a>, Refused>
         ensures { IfOk result (λ o. o.circuit ≡ circuit.now) }
     {
+        circuit.parts();
         Ok(OneRun {
             circuit,
-            state: vec![in alloc; false; circuit.latches().len()]?,
-            inputs: vec![in alloc; false; circuit.inputs().len()]?,
-            values: vec![in alloc; false; circuit.max_var() as usize + 1]?,
+            state: filled_like(alloc, false, circuit.latches())?,
+            inputs: filled_like(alloc, false, circuit.inputs())?,
+            values: filled(alloc, false, circuit.max_var() as usize + 1)?,
         })
     }
 

@@ -2,6 +2,7 @@
 
 ghost use Rattle.std.specs.Prelude.{◌≡◌, ◌≤◌, IfErr, IfOk};
 ghost use Rattle.base.specs.Budget.{Spends};
+ghost use Rattle.base.specs.Witness.{witness};
 ghost use Rattle.engine.specs.Findings.{IsForBad, IsSo};
 ghost use Rattle.random.specs.Findings.{IsRunOrSpent};
 
@@ -61,7 +62,7 @@ impl Engine for Random {
         ensures same { self.new ≡ self.old }
         ensures so { IfOk result (IsSo circuit.now budget.new) }
         ensures kinds { IfOk result IsRunOrSpent }
-        ensures memory { IfErr result (λ e. e ≡ EngineError.OutOfMemory) }
+        ensures memory { IfErr result (λ e. e ≡ EngineError.OutOfMemory witness) }
     {
         let mut generator = Lcg128Xsl64::seed_from_u64(self.seed);
         let mut batch = Batch::new(alloc, circuit)?;

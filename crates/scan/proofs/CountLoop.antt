@@ -43,7 +43,7 @@ counts_go limit i n e cs rest after total lt more w len zeros so_far =
 pub counts_fail : {K : Type 0} (limit i : ℕ) (f : Fault K) (cs rest : List ℕ) (total : Read (List ℕ)) → i < 8 → Fails f (count_at limit i rest)
     → with_front (take i cs) (counts_at limit (8 - i) rest) ≡ total → Fails f total
 unfolding counts_at
-counts_fail limit i Memory cs rest total lt w so_far = tt
+counts_fail limit i (Memory refused) cs rest total lt w so_far = tt
 counts_fail limit i (Text kind left) cs rest total lt w so_far =
     let k : 8 - i ≡ suc (7 - i) = omega arith in
     let step : with_front (take i cs) (counts_at limit (8 - i) rest) ≡ None = rw (k, w) refl in

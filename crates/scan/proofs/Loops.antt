@@ -27,7 +27,7 @@ many_more one front count i bytes n after total lt h so_far =
 pub many_fails : {K A : Type 0} (one : List ℕ → Read A) (e : Fault K) (front : List A) (count i : ℕ) (bytes : List ℕ) (total : Read (List A)) → i < count → Fails e (one bytes)
     → with_front front (many_at one (count - i) bytes) ≡ total → Fails e total
 unfolding many_at
-many_fails one Memory front count i bytes total lt h so_far = tt
+many_fails one (Memory refused) front count i bytes total lt h so_far = tt
 many_fails one (Text kind left) front count i bytes total lt h so_far =
     let k : count - i ≡ suc (count - (i + 1)) = omega arith in
     let step : with_front front (many_at one (count - i) bytes) ≡ None = rw (k, h) refl in
@@ -62,7 +62,7 @@ until_stops {A} one front count i bytes after total lt h so_far =
 pub until_fails : {K A : Type 0} (one : List ℕ → Read (Option A)) (e : Fault K) (front : List A) (count i : ℕ) (bytes : List ℕ) (total : Read (List A)) → i < count → Fails e (one bytes)
     → with_front front (until_at one (count - i) bytes) ≡ total → Fails e total
 unfolding until_at
-until_fails one Memory front count i bytes total lt h so_far = tt
+until_fails one (Memory refused) front count i bytes total lt h so_far = tt
 until_fails one (Text kind left) front count i bytes total lt h so_far =
     let k : count - i ≡ suc (count - (i + 1)) = omega arith in
     let step : with_front front (until_at one (count - i) bytes) ≡ None = rw (k, h) refl in

@@ -25,7 +25,7 @@ tag_more wanted i text rest after total lt one so_far begins =
 
 pub tag_fails : {K : Type 0} (wanted : List ℕ) (i : ℕ) (e : Fault K) (rest : List ℕ) (total : Option (List ℕ)) → i < length wanted → Fails e (byte_at (get_or wanted i 0) rest)
     → tag_at (drop i wanted) rest ≡ total → Fails e total
-tag_fails wanted i Memory rest total lt one so_far = tt
+tag_fails wanted i (Memory refused) rest total lt one so_far = tt
 tag_fails wanted i (Text kind left) rest total lt one so_far =
     let step : tag_at (drop i wanted) rest ≡ None = tag_step wanted i rest lt ∙ rw one refl in
     sym so_far ∙ step

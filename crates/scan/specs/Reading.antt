@@ -18,7 +18,7 @@ ended read = read >>= λ r. if length r.1 == 0 then Some r.0 else None
 
 -- this fault is told where reading gives nothing, and out of memory anywhere
 abbrev pub Fails : {K Y : Type 0} → Fault K → Option Y → Type 0
-Fails Memory read = Unit {0}
+Fails (Memory refused) read = Unit {0}
 Fails (Text kind left) read = read ≡ None
 
 -- what a function returned, seen by view, is what reading gives, unless memory ran out

@@ -10,7 +10,7 @@ use Rattle.scan.specs.Bytes.{byte_at}
 -- no out of memory, and a place from which at most so much is left
 abbrev pub IsWithin : {K X : Type 0} → ℕ → Result X (Fault K) → Type 0
 IsWithin most (Ok x) = Unit {0}
-IsWithin most (Err Memory) = ⊥
+IsWithin most (Err (Memory refused)) = ⊥
 IsWithin most (Err (Text kind left)) = left ≤ most
 
 -- no out of memory, and a place in the text

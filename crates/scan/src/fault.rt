@@ -1,16 +1,17 @@
 //! Why a text is refused.
 
+ghost use Rattle.base.specs.Witness.{witness};
 ghost use Rattle.std.specs.Prelude.{◌≡◌, ◌-◌};
 ghost use Rattle.scan.specs.declared.fault.Fault.TheVariants.{Memory};
 
-use std::alloc::{AllocError, AllocFailed};
+use base::Refused;
 
 /// What a reading function answers where it has no value. Each reader has refusals `K` of its
 /// own, so that its type says which of them can come.
 #[derive(Clone, Copy, Debug, PartialEq, Eq)]
 pub enum Fault<K> {
     /// A growth was refused.
-    Memory,
+    Memory(Refused),
     /// The text is refused at a place from which `left` bytes of it remain.
     Text {
         /// What is wrong there.
@@ -20,19 +21,11 @@ pub enum Fault<K> {
     },
 }
 
-impl<K> From<AllocError> for Fault<K> {
-    ghost from_gives = { λ _ e. e ≡ Memory };
+impl<K> From<Refused> for Fault<K> {
+    ghost from_gives = { λ _ e. e ≡ Memory witness };
 
-    fn from(_e: AllocError) -> Fault<K> {
-        Fault::Memory
-    }
-}
-
-impl<K, T: Drop> From<AllocFailed<T>> for Fault<K> {
-    ghost from_gives = { λ _ e. e ≡ Memory };
-
-    fn from(_e: AllocFailed<T>) -> Fault<K> {
-        Fault::Memory
+    fn from(refused: Refused) -> Fault<K> {
+        Fault::Memory(refused)
     }
 }
 

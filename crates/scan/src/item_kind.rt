@@ -1,10 +1,13 @@
 //! Lists up to an end.
 
+ghost use Rattle.base.specs.Sizes.{IsItemSize};
+ghost use Rattle.std.specs.Mem.{type_size};
 ghost use Rattle.std.specs.Prelude.{◌≡◌};
 ghost use Rattle.scan.specs.Reading.{Gives};
 ghost use Rattle.scan.specs.Lists.{items_at};
 
 use crate::fault::Fault;
+use base::push;
 use std::alloc::Global;
 
 /// One kind of item in a list that ends where an end of its own stands.
@@ -45,7 +48,8 @@ pub fn items<L: ItemKind>(
     context: L::Context,
     endless: L::Refusal,
 ) -> Result<(Vec<L::Item>, &[u8]), Fault<L::Refusal>>
-    requires { L.allows context }
+    requires allows { L.allows context }
+    requires item { IsItemSize (type_size L.Item.row) }
     ensures { Gives (λ x. (x.0.items, x.1.now)) result (items_at (L.at context) text.now) }
 {
     let mut items = Vec::new(alloc);
@@ -55,7 +59,7 @@ pub fn items<L: ItemKind>(
         rest = after;
         match item {
             None => return Ok((items, rest)),
-            Some(item) => items.push(item)?,
+            Some(item) => push(&mut items, item)?,
         }
     }
     Err(Fault::Text {

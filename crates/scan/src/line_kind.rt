@@ -1,10 +1,13 @@
 //! Lists of a known length.
 
+ghost use Rattle.base.specs.Sizes.{IsItemSize};
+ghost use Rattle.std.specs.Mem.{type_size};
 ghost use Rattle.std.specs.Prelude.{◌≡◌};
 ghost use Rattle.scan.specs.Reading.{Gives};
 ghost use Rattle.scan.specs.Lists.{many_at};
 
 use crate::fault::Fault;
+use base::push;
 use std::alloc::Global;
 
 /// One kind of line: what it holds, and how it is read.
@@ -44,14 +47,15 @@ pub fn lines<L: LineKind>(
     text: &[u8],
     context: L::Context,
 ) -> Result<(Vec<L::Item>, &[u8]), Fault<L::Refusal>>
-    requires { L.allows context }
+    requires allows { L.allows context }
+    requires item { IsItemSize (type_size L.Item.row) }
     ensures { Gives (λ x. (x.0.items, x.1.now)) result (many_at (L.at context) count text.now) }
 {
     let mut items = Vec::new(alloc);
     let mut rest = text;
     for _ in 0..count {
         let (item, after) = L::line(alloc, rest, context)?;
-        items.push(item)?;
+        push(&mut items, item)?;
         rest = after;
     }
     Ok((items, rest))

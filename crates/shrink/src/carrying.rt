@@ -8,8 +8,8 @@ ghost use Rattle.shrink.specs.Hashed.{AreCarried, image_of, renamed};
 ghost use Rattle.shrink.specs.Making.{AreMade, IsTable, same_sides};
 
 use crate::making::Making;
+use base::Refused;
 use graph::{Lit, Parts};
-use std::alloc::AllocError;
 
 /// The literal that a literal is carried to: that of its variable, negated where it is.
 pub fn rename(image: &[Lit], lit: Lit) -> Lit
@@ -34,7 +34,7 @@ pub fn carry_gates(
     first: u32,
     image: &mut [Lit],
     making: &mut Making,
-) -> Result<(), AllocError>
+) -> Result<(), Refused>
     requires model { IsModel parts.now order.now }
     requires room { first + length order.now ≤ 4194304 }
     requires begins { AreCarried parts.now order.now first image.old making.old.gates image.old 0 }

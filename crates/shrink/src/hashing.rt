@@ -2,7 +2,6 @@
 
 ghost use Rattle.std.specs.Prelude.{◌≡◌, IfOk};
 ghost use Rattle.graph.specs.WellFormed.{IsWellFormed};
-ghost use Rattle.graph.specs.declared.error.ReadError.TheVariants.{OutOfMemory};
 ghost use Rattle.shrink.specs.Shrunk.{IsShrunk};
 
 use crate::carrying::carry_gates;
@@ -10,11 +9,12 @@ use crate::making::Making;
 use crate::numbering::{bases, numbered_image};
 use crate::renaming::rename_parts;
 use crate::shrink_error::ShrinkError;
+use base::Refused;
 use graph::{Model, Parts, ReadError};
 use std::alloc::Global;
 
 /// The parts of the smaller circuit.
-fn smaller(alloc: Global, model: &Model) -> Result<Parts, ShrinkError>
+fn smaller(alloc: Global, model: &Model) -> Result<Parts, Refused>
     ensures shrunk { IfOk result (λ s. IsShrunk model.now s) }
     ensures well_formed { IfOk result (λ s. IsWellFormed s) }
 {
@@ -34,13 +34,17 @@ fn smaller(alloc: Global, model: &Model) -> Result<Parts, ShrinkError>
     Ok(smaller)
 }
 
-/// The refusal of parts that are well formed: only memory can have been wanting.
-fn wanting(error: ReadError) -> ShrinkError
-    requires { error ≡ OutOfMemory }
-    ensures { result ≡ ShrinkError.OutOfMemory }
+/// The circuit of parts that are well formed.
+fn model_of(alloc: Global, parts: Parts) -> Result<Model, Refused>
+    requires { IsWellFormed parts }
+    ensures { IfOk result (λ m. m ≡ parts) }
 {
-    let _ = error;
-    ShrinkError::OutOfMemory
+    match Model::from_parts(alloc, parts) {
+        Ok(model) => Ok(model),
+        Err(ReadError::OutOfMemory(refused)) => Err(refused),
+        // Well-formed parts have no other cause.
+        Err(_) => unreachable!(),
+    }
 }
 
 /// The circuit made smaller by structural hashing: a circuit in the numbering of the binary layout,
@@ -54,8 +58,6 @@ pub fn shrink(alloc: Global, model: &Model) -> Result<Model, ShrinkError>
     ensures shrunk { IfOk result (λ s. IsShrunk model.now s) }
 {
     let parts = smaller(alloc, model)?;
-    match Model::from_parts(alloc, parts) {
-        Ok(model) => Ok(model),
-        Err(error) => Err(wanting(error)),
-    }
+    let smaller = model_of(alloc, parts)?;
+    Ok(smaller)
 }

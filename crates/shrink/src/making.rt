@@ -6,8 +6,9 @@ ghost use Rattle.graph.specs.Valuation.{Valuation, variable, place, value_of};
 ghost use Rattle.graph.specs.declared.circuit.Gate.{Gate as AGate};
 ghost use Rattle.shrink.specs.Making.{AreMade, Grows, IsConjunction, IsTable, same_sides};
 
+use base::{Refused, insert_hashed};
 use graph::{Gate, Lit, Seq};
-use std::alloc::{AllocError, Global};
+use std::alloc::Global;
 use std::collections::HashMap;
 
 /// The conjunction of two literals, where it is one of them or a constant.
@@ -55,7 +56,7 @@ impl Making {
     }
 
     /// The literal of a gate with these right sides, which is made where there is none.
-    fn gate(&mut self, first: u32, rhs0: Lit, rhs1: Lit) -> Result<Lit, AllocError>
+    fn gate(&mut self, first: u32, rhs0: Lit, rhs1: Lit) -> Result<Lit, Refused>
         requires made { AreMade first self.old.gates }
         requires table { IsTable first self.old.gates (get same_sides self.old.table) }
         requires room { first + length self.old.gates ≤ 4194303 }
@@ -74,13 +75,13 @@ impl Making {
         let variable = first + self.gates.len() as u32;
         let lhs = Lit(2 * variable);
         self.gates.push(Gate { lhs, rhs0, rhs1 })?;
-        self.table.insert((rhs0.0, rhs1.0), variable)?;
+        insert_hashed(&mut self.table, (rhs0.0, rhs1.0), variable)?;
         Ok(lhs)
     }
 
     /// The literal that is the conjunction of two literals; where it is neither a constant nor one of
     /// the two, it is that of a gate, which is made where there is none.
-    pub fn and(&mut self, first: u32, a: Lit, b: Lit) -> Result<Lit, AllocError>
+    pub fn and(&mut self, first: u32, a: Lit, b: Lit) -> Result<Lit, Refused>
         requires made { AreMade first self.old.gates }
         requires table { IsTable first self.old.gates (get same_sides self.old.table) }
         requires room { first + length self.old.gates ≤ 4194303 }

@@ -5,17 +5,17 @@ ghost use Rattle.graph.specs.Valuation.{variable};
 ghost use Rattle.graph.specs.declared.circuit.Lit.{Lit as ALit};
 ghost use Rattle.shrink.specs.Hashed.{AreNumbered, bases as bases_of, image_of};
 
+use base::{Refused, copied, filled, push};
 use graph::{Lit, Parts};
-use std::alloc::{AllocError, Global};
+use std::alloc::Global;
 
 /// The literals of inputs and latches, in their order.
-pub fn bases(alloc: Global, parts: &Parts) -> Result<Vec<Lit>, AllocError>
+pub fn bases(alloc: Global, parts: &Parts) -> Result<Vec<Lit>, Refused>
     ensures { IfOk result (λ v. v.items ≡ bases_of parts.now) }
 {
-    let mut bases = Vec::new(alloc);
-    bases.extend_from_slice(parts.inputs.as_slice())?;
+    let mut bases = copied(alloc, parts.inputs.as_slice())?;
     for latch in parts.latches.as_slice() {
-        bases.push(latch.lit)?;
+        push(&mut bases, latch.lit)?;
     }
     Ok(bases)
 }
@@ -35,14 +35,15 @@ fn number(image: &mut [Lit], bases: &[Lit])
 }
 
 /// The literal that each variable is carried to, where it is the constant or one of the bases.
-pub fn numbered_image(alloc: Global, parts: &Parts, bases: &[Lit]) -> Result<Vec<Lit>, AllocError>
+pub fn numbered_image(alloc: Global, parts: &Parts, bases: &[Lit]) -> Result<Vec<Lit>, Refused>
+    requires small { parts.now.max_var ≤ 4194303 }
     requires in_range { All (λ a. (2 ≤ a.0) × (a.0 ≤ 2 * parts.now.max_var + 1)) bases.now }
     requires once { AllPairs (λ u v. u ≢ v) (map variable bases.now) }
     requires few { length bases.now < 2147483647 }
     ensures whole { IfOk result (λ v. length v.items ≡ parts.now.max_var + 1) }
     ensures numbered { IfOk result (λ v. AreNumbered bases.now v.items) }
 {
-    let mut image = vec![in alloc; Lit(0); parts.max_var as usize + 1]?;
+    let mut image = filled(alloc, Lit(0), parts.max_var as usize + 1)?;
     number(image.as_mut_slice(), bases);
     Ok(image)
 }

@@ -5,11 +5,12 @@ ghost use Rattle.shrink.specs.Hashed.{carried_latch as carried_latch_of, carried
 ghost use Rattle.shrink.specs.Carriable.{IsCarriable, AreCarriable};
 
 use crate::carrying::rename;
+use base::Refused;
 use graph::{Gate, Latch, Lit, Parts, Seq};
-use std::alloc::{AllocError, Global};
+use std::alloc::Global;
 
 /// The literals, carried over.
-fn rename_all(alloc: Global, image: &[Lit], lits: &[Lit]) -> Result<Seq<Lit>, AllocError>
+fn rename_all(alloc: Global, image: &[Lit], lits: &[Lit]) -> Result<Seq<Lit>, Refused>
     requires { All (IsCarriable image.now) lits.now }
     ensures { IfOk result (λ s. s ≡ map (renamed image.now) lits.now) }
 {
@@ -21,11 +22,7 @@ fn rename_all(alloc: Global, image: &[Lit], lits: &[Lit]) -> Result<Seq<Lit>, Al
 }
 
 /// The lists of literals, carried over.
-fn rename_lists(
-    alloc: Global,
-    image: &[Lit],
-    lists: &[Seq<Lit>],
-) -> Result<Seq<Seq<Lit>>, AllocError>
+fn rename_lists(alloc: Global, image: &[Lit], lists: &[Seq<Lit>]) -> Result<Seq<Seq<Lit>>, Refused>
     requires { All (All (IsCarriable image.now)) lists.now }
     ensures { IfOk result (λ s. s ≡ map (map (renamed image.now)) lists.now) }
 {
@@ -51,7 +48,7 @@ fn rename_latch(image: &[Lit], latch: Latch) -> Latch
 }
 
 /// The latches, carried over.
-fn rename_latches(alloc: Global, image: &[Lit], latches: &[Latch]) -> Result<Seq<Latch>, AllocError>
+fn rename_latches(alloc: Global, image: &[Lit], latches: &[Latch]) -> Result<Seq<Latch>, Refused>
     requires { All (λ l. IsCarriable image.now l.lit × IsCarriable image.now l.next) latches.now }
     ensures { IfOk result (λ s. s ≡ map (carried_latch_of image.now) latches.now) }
 {
@@ -68,7 +65,7 @@ pub fn rename_parts(
     parts: &Parts,
     image: &[Lit],
     gates: Seq<Gate>,
-) -> Result<Parts, AllocError>
+) -> Result<Parts, Refused>
     requires carriable { AreCarriable parts.now image.now }
     requires room { length parts.now.inputs + length parts.now.latches + length gates ≤ 4194303 }
     ensures { IfOk result (λ s. s ≡ carried_parts parts.now image.now gates) }

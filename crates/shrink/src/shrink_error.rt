@@ -1,32 +1,25 @@
 //! Why a circuit is not made smaller.
 
 ghost use Rattle.std.specs.Prelude.{◌≡◌};
+ghost use Rattle.base.specs.Witness.{witness};
 ghost use Rattle.shrink.specs.declared.shrink_error.ShrinkError.TheVariants.{OutOfMemory};
 
-use std::alloc::{AllocError, AllocFailed};
+use base::Refused;
 use thiserror::Error;
 
 /// Why a circuit is not made smaller.
 #[derive(Clone, Copy, Debug, PartialEq, Eq, Error)]
 pub enum ShrinkError {
     /// out of memory
-    #[error("out of memory")]
-    OutOfMemory,
+    #[error("{0}")]
+    OutOfMemory(Refused),
 }
 
-impl From<AllocError> for ShrinkError {
-    ghost from_gives = { λ _ e. e ≡ OutOfMemory };
+impl From<Refused> for ShrinkError {
+    ghost from_gives = { λ _ e. e ≡ OutOfMemory witness };
 
-    fn from(_e: AllocError) -> ShrinkError {
-        ShrinkError::OutOfMemory
-    }
-}
-
-impl<T: Drop> From<AllocFailed<T>> for ShrinkError {
-    ghost from_gives = { λ _ e. e ≡ OutOfMemory };
-
-    fn from(_e: AllocFailed<T>) -> ShrinkError {
-        ShrinkError::OutOfMemory
+    fn from(refused: Refused) -> ShrinkError {
+        ShrinkError::OutOfMemory(refused)
     }
 }
 

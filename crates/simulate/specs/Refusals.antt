@@ -7,13 +7,13 @@ use Rattle.simulate.specs.Starts.{IsFirstAgainst}
 
 abbrev pub number_of : ReplayError → ℕ
 number_of (InitialReset latch) = 60
-number_of OutOfMemory = 20
+number_of (OutOfMemory refused) = 20
 
 abbrev pub place_of : ReplayError → ℕ
 place_of (InitialReset latch) = latch
-place_of OutOfMemory = 0
+place_of (OutOfMemory refused) = 0
 
 -- the reason for which a replay from this state is refused stands
 abbrev pub HasCause : List Latch → List Bool → ReplayError → Type 0
 HasCause latches state (InitialReset latch) = IsFirstAgainst latches state latch
-HasCause latches state OutOfMemory = Unit {0}
+HasCause latches state (OutOfMemory refused) = Unit {0}

@@ -1,6 +1,7 @@
 //! Replaying a circuit.
 
 ghost use Rattle.std.specs.Prelude.{◌≡◌, ◌≢◌, ◌<◌, ◌≤◌, length, map, All, IfOk, IfErr, IfSome, IsSome};
+ghost use Rattle.base.specs.Witness.{witness};
 ghost use Rattle.graph.specs.Valuation.{variable, value_of};
 ghost use Rattle.simulate.specs.Refusals.{HasCause};
 ghost use Rattle.simulate.specs.Replays.{begun, Steps};
@@ -8,8 +9,9 @@ ghost use Rattle.simulate.specs.Starts.{Starts};
 
 use crate::initial::first_against;
 use crate::replay_error::ReplayError;
+use base::{copied, filled};
 use graph::{Latch, Lit, Model};
-use std::alloc::{AllocError, Global};
+use std::alloc::Global;
 
 /// A circuit at one time after another. Contracts see the circuit, the state of the next time to be
 /// stepped, and the valuation of the time that was stepped last.
@@ -62,7 +64,7 @@ impl<'a> Replay<'a> {
         requires { length initial.now ≡ length model.now.latches }
         ensures begun { IfOk result (λ r. (r ≡ begun model.now initial.now) × Starts model.now.latches initial.now) }
         ensures refused { IfErr result (HasCause model.now.latches initial.now) }
-        ensures exact { IfErr result (λ e. e ≢ ReplayError.OutOfMemory → Starts model.now.latches initial.now → ⊥) }
+        ensures exact { IfErr result (λ e. e ≢ ReplayError.OutOfMemory witness → Starts model.now.latches initial.now → ⊥) }
     {
         let parts = model.parts();
         if let Some(latch) = first_against(parts.latches.as_slice(), initial) {
@@ -70,9 +72,8 @@ impl<'a> Replay<'a> {
                 latch: latch as u32,
             });
         }
-        let mut state = Vec::new(alloc);
-        state.extend_from_slice(initial)?;
-        let values = vec![in alloc; false; parts.max_var as usize + 1]?;
+        let state = copied(alloc, initial)?;
+        let values = filled(alloc, false, parts.max_var as usize + 1)?;
         Ok(Replay {
             model,
             state,

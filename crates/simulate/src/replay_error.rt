@@ -3,7 +3,7 @@
 ghost use Rattle.std.specs.Prelude.{◌≡◌};
 ghost use Rattle.simulate.specs.Refusals.{number_of, place_of};
 
-use std::alloc::AllocError;
+use base::Refused;
 use thiserror::Error;
 
 /// Why a replay is refused.
@@ -12,18 +12,19 @@ pub enum ReplayError {
     /// The first latch whose initial value is not that of its reset, by its position.
     #[error("latch {latch} is against its reset")]
     InitialReset { latch: u32 },
-    #[error("out of memory")]
-    OutOfMemory,
+    #[error("{0}")]
+    OutOfMemory(Refused),
 }
 
-impl From<AllocError> for ReplayError {
+impl From<Refused> for ReplayError {
     ghost use Rattle.std.specs.Prelude.{◌≡◌};
+    ghost use Rattle.base.specs.Witness.{witness};
     ghost use Rattle.simulate.specs.declared.replay_error.ReplayError.TheVariants.{OutOfMemory};
 
-    ghost from_gives = { λ _ e. e ≡ OutOfMemory };
+    ghost from_gives = { λ _ e. e ≡ OutOfMemory witness };
 
-    fn from(_e: AllocError) -> ReplayError {
-        ReplayError::OutOfMemory
+    fn from(refused: Refused) -> ReplayError {
+        ReplayError::OutOfMemory(refused)
     }
 }
 
@@ -34,7 +35,7 @@ impl ReplayError {
     {
         match self {
             ReplayError::InitialReset { latch: _ } => 60,
-            ReplayError::OutOfMemory => 20,
+            ReplayError::OutOfMemory(_) => 20,
         }
     }
 
@@ -44,7 +45,7 @@ impl ReplayError {
     {
         match self {
             ReplayError::InitialReset { latch } => u64::from(*latch),
-            ReplayError::OutOfMemory => 0,
+            ReplayError::OutOfMemory(_) => 0,
         }
     }
 }

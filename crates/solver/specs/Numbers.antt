@@ -5,4 +5,4 @@ use Rattle.solver.specs.declared.sat_error.SatError.TheVariants.{Limit, OutOfMem
 
 abbrev pub number_of : SatError → ℕ
 number_of Limit = 4
-number_of OutOfMemory = 20
+number_of (OutOfMemory refused) = 20

@@ -4,9 +4,8 @@ ghost use Rattle.std.specs.Prelude.{◌≡◌, ◌≢◌, ◌++◌, ◌∷◌, [
 ghost use Rattle.base.specs.Budget.{Spends};
 ghost use Rattle.solver.specs.Branches.{IsFalse, IsDenied, Finds};
 
-use base::Budget;
+use base::{Budget, Refused, push};
 use lrat::Clause;
-use std::alloc::AllocFailed;
 
 /// What is known of the values that agree with the first ones.
 pub enum Seen {
@@ -80,7 +79,7 @@ pub fn look(
     assume: &[i32],
     core: &mut Vec<i32>,
     budget: &mut Budget,
-) -> Result<Seen, AllocFailed<i32>>
+) -> Result<Seen, Refused>
     requires clauses { All (λ c. All (λ l. l ≢ pos 0) c) clauses.now }
     requires assumed { All (λ l. l ≢ pos 0) assume.now }
     requires among { All (Contains assume.now) core.old.items }
@@ -96,7 +95,7 @@ pub fn look(
             None => Ok(Seen::Open),
             Some(literal) => {
                 if !core.contains(&literal) {
-                    core.push(literal)?;
+                    push(core, literal)?;
                 }
                 Ok(Seen::Closed)
             }

@@ -2,6 +2,7 @@
 
 ghost use Rattle.std.specs.Prelude.{◌≡◌, ◌≤◌, ◌++◌, ◌∷◌, [], length, All, IfOk, IfErr, OnOk, OnErr};
 ghost use Rattle.base.specs.Budget.{Spends};
+ghost use Rattle.base.specs.Witness.{witness};
 ghost use Rattle.lrat.specs.Literals.{IsLiteral};
 ghost use Rattle.solver.specs.Answers.{IsLawful};
 ghost use Rattle.solver.specs.declared.sat_error.SatError.TheVariants.{Limit, OutOfMemory};
@@ -94,7 +95,7 @@ impl Sat for Plain {
         ensures clauses { self.new.clauses ≡ self.old.clauses }
         ensures spends { Spends budget.old budget.new }
         ensures lawful { IfOk result (IsLawful self.old.vars self.old.clauses assume.now budget.new) }
-        ensures refused { IfErr result (λ e. e ≡ OutOfMemory) }
+        ensures refused { IfErr result (λ e. e ≡ OutOfMemory witness) }
     {
         let formula = &self.formula;
         search(

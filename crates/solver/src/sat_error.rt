@@ -1,9 +1,11 @@
 //! Why a solver refuses.
 
+ghost use Rattle.base.specs.Witness.{witness};
 ghost use Rattle.std.specs.Prelude.{◌≡◌};
 ghost use Rattle.solver.specs.Numbers.{number_of};
+ghost use Rattle.solver.specs.declared.sat_error.SatError.TheVariants.{OutOfMemory};
 
-use std::alloc::{AllocError, AllocFailed};
+use base::Refused;
 use thiserror::Error;
 
 /// Why a solver refuses.
@@ -13,27 +15,15 @@ pub enum SatError {
     #[error("more than 4294967295 clauses")]
     Limit,
     /// out of memory
-    #[error("out of memory")]
-    OutOfMemory,
+    #[error("{0}")]
+    OutOfMemory(Refused),
 }
 
-impl From<AllocError> for SatError {
-    ghost use Rattle.solver.specs.declared.sat_error.SatError.TheVariants.{OutOfMemory};
+impl From<Refused> for SatError {
+    ghost from_gives = { λ _ e. e ≡ OutOfMemory witness };
 
-    ghost from_gives = { λ _ e. e ≡ OutOfMemory };
-
-    fn from(_e: AllocError) -> SatError {
-        SatError::OutOfMemory
-    }
-}
-
-impl<T: Drop> From<AllocFailed<T>> for SatError {
-    ghost use Rattle.solver.specs.declared.sat_error.SatError.TheVariants.{OutOfMemory};
-
-    ghost from_gives = { λ _ e. e ≡ OutOfMemory };
-
-    fn from(_e: AllocFailed<T>) -> SatError {
-        SatError::OutOfMemory
+    fn from(refused: Refused) -> SatError {
+        SatError::OutOfMemory(refused)
     }
 }
 
@@ -44,7 +34,7 @@ impl SatError {
     {
         match self {
             SatError::Limit => 4,
-            SatError::OutOfMemory => 20,
+            SatError::OutOfMemory(_) => 20,
         }
     }
 

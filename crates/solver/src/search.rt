@@ -2,6 +2,7 @@
 
 ghost use Rattle.std.specs.Prelude.{◌≡◌, ◌≢◌, ◌≤◌, ◌<◌, ℤ, pos, true, false, length, IfOk, IfErr, All};
 ghost use Rattle.base.specs.Budget.{Spends};
+ghost use Rattle.base.specs.Witness.{witness};
 ghost use Rattle.lrat.specs.Literals.{IsLiteral};
 ghost use Rattle.solver.specs.Answers.{IsLawful};
 ghost use Rattle.solver.specs.declared.sat_error.SatError.TheVariants.{OutOfMemory};
@@ -11,7 +12,7 @@ use crate::answer::Answer;
 use crate::free::is_free;
 use crate::look::{Seen, look};
 use crate::sat_error::SatError;
-use base::Budget;
+use base::{Budget, copied, push};
 use lrat::Clause;
 use std::alloc::Global;
 
@@ -48,10 +49,10 @@ pub fn search(
     requires assumed { All (IsLiteral vars) assume.now }
     ensures spends { Spends budget.old budget.new }
     ensures lawful { IfOk result (IsLawful vars clauses.now assume.now budget.new) }
-    ensures refused { IfErr result (λ e. e ≡ OutOfMemory) }
+    ensures refused { IfErr result (λ e. e ≡ OutOfMemory witness) }
 {
     let mut core = Vec::new(alloc);
-    let mut values = Vec::from_slice(alloc, &[false])?;
+    let mut values = copied(alloc, &[false])?;
     'searching: while budget.tick() {
         match look(values.as_slice(), clauses, assume, &mut core, budget)? {
             Seen::Spent => return Ok(Answer::Spent),
@@ -64,7 +65,7 @@ pub fn search(
                 if values.len() > vars as usize {
                     return Ok(Answer::Model(values));
                 }
-                values.push(false)?;
+                push(&mut values, false)?;
             }
         }
     }

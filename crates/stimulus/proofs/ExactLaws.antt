@@ -1,4 +1,5 @@
 -- Where a cause stands, nothing is shown.
+use Rattle.base.specs.Witness.{witness}
 use Rattle.std.proofs.Common.{◌≡◌, ℕ, ◌+◌, ◌<◌, ◌≢◌, Bool, true, false, List, [], ◌∷◌, length, get_or, refl, sym, ap, ◌∙◌, arith, subst, inl, inr, Result, Ok, Err, IfErr}
 use Rattle.std.specs.Prelude.{slice_get}
 use Rattle.std.proofs.lemmas.List.{get_or-map, length-map, get_or-take}
@@ -92,7 +93,7 @@ broken_both m p initial inputs t b ev =
     b.broken (subst (KeepsAt m) there (ev.keeps t [] t_in))
 
 -- where a cause stands, no violation is shown
-pub nothing_shown : (m : Parts) (p : Property) (initial : List Bool) (inputs : List (List Bool)) (e : JudgeError) → HasCauseIn m p initial inputs e → e ≢ OutOfMemory → Shows m (Violated p initial inputs) → ⊥
+pub nothing_shown : (m : Parts) (p : Property) (initial : List Bool) (inputs : List (List Bool)) (e : JudgeError) → HasCauseIn m p initial inputs e → e ≢ OutOfMemory witness → Shows m (Violated p initial inputs) → ⊥
 nothing_shown m p initial inputs NotViolated c some s = absurd c
 nothing_shown m p initial inputs (NoProperty n) c some s = c.1 (evidence_of m p initial inputs s).exists
 nothing_shown m p initial inputs (LineLength k) c some s =
@@ -111,10 +112,10 @@ nothing_shown m p initial inputs (InitialReset k) c some s =
 nothing_shown m p initial inputs (ConstraintBroken t) c some s = broken_both m p initial inputs t c.2 (evidence_of m p initial inputs s)
 nothing_shown m p initial inputs BadNotSet c some s = bad_both m p initial inputs c s
 nothing_shown m p initial inputs NoLasso c some s = lasso_both m p initial inputs c s
-nothing_shown m p initial inputs OutOfMemory c some s = absurd (some refl)
+nothing_shown m p initial inputs (OutOfMemory refused) c some s = absurd (some refl)
 
 -- the same of what a call answers
 pub exact_of : {X : Type 0} (m : Parts) (p : Property) (initial : List Bool) (inputs : List (List Bool)) (r : Result X JudgeError) → IfErr r (HasCauseIn m p initial inputs)
-    → IfErr r (λ e. e ≢ OutOfMemory → Shows m (Violated p initial inputs) → ⊥)
+    → IfErr r (λ e. e ≢ OutOfMemory witness → Shows m (Violated p initial inputs) → ⊥)
 exact_of m p initial inputs (Ok x) h = h
 exact_of m p initial inputs (Err e) h = nothing_shown m p initial inputs e h

@@ -97,7 +97,7 @@ HasCauseIn m p initial inputs (InitialReset k) = IsFit m p initial inputs × IsF
 HasCauseIn m p initial inputs (ConstraintBroken t) = IsFit m p initial inputs × Starts m.latches initial × BreaksAt m initial inputs t
 HasCauseIn m p initial inputs BadNotSet = LeavesBad m p initial inputs
 HasCauseIn m p initial inputs NoLasso = LeavesLasso m p initial inputs
-HasCauseIn m p initial inputs OutOfMemory = Unit {0}
+HasCauseIn m p initial inputs (OutOfMemory refused) = Unit {0}
 
 -- the reason for which the stimulus shows no violation stands
 abbrev pub HasCause : Parts → Stimulus → JudgeError → Type 0

@@ -70,7 +70,7 @@ HasRunCause m initial inputs (InitialReset k) = IsFirstAgainst m.latches initial
 HasRunCause m initial inputs (ConstraintBroken t) = Starts m.latches initial × BreaksAt m initial inputs t
 HasRunCause m initial inputs BadNotSet = ⊥
 HasRunCause m initial inputs NoLasso = ⊥
-HasRunCause m initial inputs OutOfMemory = Unit {0}
+HasRunCause m initial inputs (OutOfMemory refused) = Unit {0}
 
 -- in no course of the lines a time has this state
 abbrev pub NeverMeets : Parts → List Bool → List (List Bool) → List Bool → Type 0

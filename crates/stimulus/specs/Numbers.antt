@@ -1,5 +1,6 @@
 -- Numbers and places of refusals.
 use Rattle.std.specs.Prelude.{ℕ}
+use Rattle.base.specs.Witness.{witness}
 use Rattle.stimulus.specs.declared.stim_error.StimError.{StimError}
 use Rattle.stimulus.specs.declared.stim_error.StimError.TheVariants.{Status, PropertyLine, Character, Truncated, AfterEnd, OutOfMemory}
 use Rattle.simulate.specs.declared.replay_error.ReplayError.{ReplayError}
@@ -15,7 +16,7 @@ stim_number_of (PropertyLine place) = 81
 stim_number_of (Character place) = 83
 stim_number_of (Truncated place) = 84
 stim_number_of (AfterEnd place) = 85
-stim_number_of OutOfMemory = 20
+stim_number_of (OutOfMemory refused) = 20
 
 abbrev pub stim_place_of : StimError → ℕ
 stim_place_of (Status place) = place
@@ -23,7 +24,7 @@ stim_place_of (PropertyLine place) = place
 stim_place_of (Character place) = place
 stim_place_of (Truncated place) = place
 stim_place_of (AfterEnd place) = place
-stim_place_of OutOfMemory = 0
+stim_place_of (OutOfMemory refused) = 0
 
 abbrev pub judge_number_of : JudgeError → ℕ
 judge_number_of judge.NotViolated = 65
@@ -34,7 +35,7 @@ judge_number_of (judge.InitialReset latch) = 60
 judge_number_of (judge.ConstraintBroken time) = 61
 judge_number_of judge.BadNotSet = 62
 judge_number_of judge.NoLasso = 63
-judge_number_of judge.OutOfMemory = 20
+judge_number_of (judge.OutOfMemory refused) = 20
 
 abbrev pub judge_place_of : JudgeError → ℕ
 judge_place_of judge.NotViolated = 0
@@ -45,12 +46,12 @@ judge_place_of (judge.InitialReset latch) = latch
 judge_place_of (judge.ConstraintBroken time) = time
 judge_place_of judge.BadNotSet = 0
 judge_place_of judge.NoLasso = 0
-judge_place_of judge.OutOfMemory = 0
+judge_place_of (judge.OutOfMemory refused) = 0
 
 -- what a replay's refusal is here
 abbrev pub judged : ReplayError → JudgeError
 judged (replay.InitialReset latch) = judge.InitialReset latch
-judged replay.OutOfMemory = judge.OutOfMemory
+judged (replay.OutOfMemory refused) = judge.OutOfMemory witness
 
 abbrev pub sim_number_of : SimError → ℕ
 sim_number_of sim.NotViolated = 65
@@ -58,7 +59,7 @@ sim_number_of (sim.LineLength line) = 66
 sim_number_of sim.NoInputLine = 64
 sim_number_of (sim.InitialReset latch) = 60
 sim_number_of sim.Device = 21
-sim_number_of sim.OutOfMemory = 20
+sim_number_of (sim.OutOfMemory refused) = 20
 
 abbrev pub sim_place_of : SimError → ℕ
 sim_place_of sim.NotViolated = 0
@@ -66,9 +67,9 @@ sim_place_of (sim.LineLength line) = line
 sim_place_of sim.NoInputLine = 0
 sim_place_of (sim.InitialReset latch) = latch
 sim_place_of sim.Device = 0
-sim_place_of sim.OutOfMemory = 0
+sim_place_of (sim.OutOfMemory refused) = 0
 
 -- what a replay's refusal is for a table
 abbrev pub untold : ReplayError → SimError
 untold (replay.InitialReset latch) = sim.InitialReset latch
-untold replay.OutOfMemory = sim.OutOfMemory
+untold (replay.OutOfMemory refused) = sim.OutOfMemory witness

@@ -1,5 +1,6 @@
 -- What is told of a text that is refused.
 use Rattle.std.specs.Prelude.{◌≡◌, ℕ, ◌-◌, Result, MatchResult}
+use Rattle.base.specs.Witness.{witness}
 use Rattle.scan.specs.declared.fault.Fault.{Fault}
 use Rattle.scan.specs.declared.fault.Fault.TheVariants.{Memory, Text}
 use Rattle.stimulus.specs.declared.stim_error.StimError.{StimError}
@@ -10,7 +11,7 @@ use Rattle.stimulus.specs.declared.value.Stimulus.{Stimulus}
 
 -- this stimulus is read, unless memory runs out
 abbrev pub IsRead : Result Stimulus StimError → Stimulus → Type 0
-IsRead result s = MatchResult result (λ v. v ≡ s) (λ e. e ≡ OutOfMemory)
+IsRead result s = MatchResult result (λ v. v ≡ s) (λ e. e ≡ OutOfMemory witness)
 
 -- a refusal at a byte
 abbrev pub at_byte : Refusal → ℕ → StimError
@@ -22,5 +23,5 @@ at_byte refusal.AfterEnd p = AfterEnd p
 
 -- the error for a fault in a text of so many bytes
 abbrev pub error_of : ℕ → Fault Refusal → StimError
-error_of length Memory = OutOfMemory
+error_of length (Memory refused) = OutOfMemory witness
 error_of length (Text kind left) = at_byte kind (length - left)

@@ -66,7 +66,7 @@ HasSimCauseIn m initial inputs before after (LineLength k) = IsWrongLine m initi
 HasSimCauseIn m initial inputs before after NoInputLine = HasFitLines m initial inputs × (inputs ≡ [])
 HasSimCauseIn m initial inputs before after (InitialReset k) = IsPlayable m initial inputs × IsFirstAgainst m.latches initial k
 HasSimCauseIn m initial inputs before after Device = IsCutOff m initial inputs before after
-HasSimCauseIn m initial inputs before after OutOfMemory = Unit {0}
+HasSimCauseIn m initial inputs before after (OutOfMemory refused) = Unit {0}
 
 -- the reason for which there is no table of the stimulus stands
 abbrev pub HasSimCause : Parts → Stimulus → Option (List ℕ) → Option (List ℕ) → SimError → Type 0

@@ -3,8 +3,8 @@
 ghost use Rattle.std.specs.Prelude.{◌≡◌};
 ghost use Rattle.stimulus.specs.Numbers.{judge_number_of, judge_place_of};
 
+use base::Refused;
 use simulate::ReplayError;
-use std::alloc::AllocError;
 use thiserror::Error;
 
 /// Why a stimulus does not show that its property is violated.
@@ -36,18 +36,19 @@ pub enum JudgeError {
     #[error("there is no lasso")]
     NoLasso,
     /// out of memory
-    #[error("out of memory")]
-    OutOfMemory,
+    #[error("{0}")]
+    OutOfMemory(Refused),
 }
 
-impl From<AllocError> for JudgeError {
+impl From<Refused> for JudgeError {
     ghost use Rattle.std.specs.Prelude.{◌≡◌};
+    ghost use Rattle.base.specs.Witness.{witness};
     ghost use Rattle.stimulus.specs.declared.judge_error.JudgeError.TheVariants.{OutOfMemory};
 
-    ghost from_gives = { λ _ e. e ≡ OutOfMemory };
+    ghost from_gives = { λ _ e. e ≡ OutOfMemory witness };
 
-    fn from(_e: AllocError) -> JudgeError {
-        JudgeError::OutOfMemory
+    fn from(refused: Refused) -> JudgeError {
+        JudgeError::OutOfMemory(refused)
     }
 }
 
@@ -60,7 +61,7 @@ impl From<ReplayError> for JudgeError {
     fn from(e: ReplayError) -> JudgeError {
         match e {
             ReplayError::InitialReset { latch } => JudgeError::InitialReset { latch },
-            ReplayError::OutOfMemory => JudgeError::OutOfMemory,
+            ReplayError::OutOfMemory(refused) => JudgeError::OutOfMemory(refused),
         }
     }
 }
@@ -79,7 +80,7 @@ impl JudgeError {
             JudgeError::ConstraintBroken { .. } => 61,
             JudgeError::BadNotSet => 62,
             JudgeError::NoLasso => 63,
-            JudgeError::OutOfMemory => 20,
+            JudgeError::OutOfMemory(_) => 20,
         }
     }
 
@@ -96,7 +97,7 @@ impl JudgeError {
             | JudgeError::NoInputLine
             | JudgeError::BadNotSet
             | JudgeError::NoLasso
-            | JudgeError::OutOfMemory => 0,
+            | JudgeError::OutOfMemory(_) => 0,
         }
     }
 }

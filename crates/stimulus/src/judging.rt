@@ -1,6 +1,7 @@
 //! Judging stimuli.
 
 ghost use Rattle.std.specs.Prelude.{◌≡◌, ◌≢◌, IfErr, OnOk};
+ghost use Rattle.base.specs.Witness.{witness};
 ghost use Rattle.graph.specs.declared.circuit.Property.TheVariants.{Bad, Justice};
 ghost use Rattle.stimulus.specs.Causes.{HasCause, HasCauseIn, IsFit};
 ghost use Rattle.stimulus.specs.Courses.{HasRun};
@@ -86,7 +87,7 @@ fn judge_violated(
 pub fn judge(alloc: Global, model: &Model, stimulus: &Stimulus) -> Result<(), JudgeError>
     ensures shown { OnOk result (Shows model.now stimulus.now) }
     ensures refused { IfErr result (HasCause model.now stimulus.now) }
-    ensures exact { IfErr result (λ e. e ≢ JudgeError.OutOfMemory → Shows model.now stimulus.now → ⊥) }
+    ensures exact { IfErr result (λ e. e ≢ JudgeError.OutOfMemory witness → Shows model.now stimulus.now → ⊥) }
 {
     match stimulus {
         Stimulus::Violated {

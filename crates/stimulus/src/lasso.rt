@@ -7,9 +7,10 @@ ghost use Rattle.stimulus.specs.Courses.{Course, HasRunCause, Marks, MeetsAt, Ne
 ghost use Rattle.stimulus.specs.Shown.{ClosesLasso};
 
 use crate::judge_error::JudgeError;
+use base::{Refused, extend, filled_like};
 use graph::{Lit, Model, Parts, Seq};
 use simulate::Replay;
-use std::alloc::{AllocError, Global};
+use std::alloc::Global;
 
 /// Steps to the first time of this state, and answers it.
 fn meet(replay: &mut Replay<'_>, closing: &[bool], lines: &[Seq<bool>]) -> Option<usize>
@@ -66,14 +67,14 @@ fn are_all_set(marks: &[bool]) -> bool
 }
 
 /// The literals of a justice property, then the fairness literals.
-pub fn wanted(alloc: Global, parts: &Parts, j: u32) -> Result<Vec<Lit>, AllocError>
+pub fn wanted(alloc: Global, parts: &Parts, j: u32) -> Result<Vec<Lit>, Refused>
     requires { j < length parts.now.justice }
     ensures { IfOk result (λ v. v.items ≡ wanted_of parts.now j) }
 {
     let mut wanted = Vec::new(alloc);
     let lits = &parts.justice.as_slice()[j as usize];
-    wanted.extend_from_slice(lits.as_slice())?;
-    wanted.extend_from_slice(parts.fairness.as_slice())?;
+    extend(&mut wanted, lits.as_slice())?;
+    extend(&mut wanted, parts.fairness.as_slice())?;
     Ok(wanted)
 }
 
@@ -97,7 +98,7 @@ pub fn has_lasso(
     let Some(start) = meet(&mut replay, closing, lines) else {
         return Ok(false);
     };
-    let mut marks = vec![in alloc; false; wanted.len()]?;
+    let mut marks = filled_like(alloc, false, wanted)?;
     gather(&mut replay, wanted, &mut marks, &lines[start..]);
     Ok(are_all_set(&marks))
 }

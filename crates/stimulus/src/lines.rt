@@ -1,6 +1,7 @@
 //! Whether lines fit a circuit.
 
 ghost use Rattle.std.specs.Prelude.{◌≡◌, ◌≢◌, IsTrue, ◌↔◌, All, length, IfOk, IfErr, OnOk, MatchOption};
+ghost use Rattle.base.specs.Witness.{witness};
 ghost use Rattle.stimulus.specs.Causes.{HasCauseIn, HasFitLines, HasProperty, IsFirstWrong, IsFit, IsWrongLine};
 
 use crate::judge_error::JudgeError;
@@ -51,7 +52,7 @@ pub fn check_fit(
 ) -> Result<(), JudgeError>
     ensures fit { OnOk result (IsFit parts.now property initial.now inputs.now) }
     ensures refused { IfErr result (HasCauseIn parts.now property initial.now inputs.now) }
-    ensures no_memory { IfErr result (λ e. e ≢ JudgeError.OutOfMemory) }
+    ensures no_memory { IfErr result (λ e. e ≢ JudgeError.OutOfMemory witness) }
 {
     if !has_property(parts, property) {
         let (Property::Bad(n) | Property::Justice(n)) = property;

@@ -223,7 +223,7 @@ fn error(length: usize, fault: Fault<Refusal>) -> StimError
     ensures { result ≡ error_of length fault }
 {
     match fault {
-        Fault::Memory => StimError::OutOfMemory,
+        Fault::Memory(refused) => StimError::OutOfMemory(refused),
         Fault::Text { kind, left } => {
             let place = place(length, left);
             match kind {

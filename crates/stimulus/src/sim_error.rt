@@ -3,6 +3,7 @@
 ghost use Rattle.std.specs.Prelude.{◌≡◌};
 ghost use Rattle.stimulus.specs.Numbers.{sim_number_of, sim_place_of};
 
+use base::Refused;
 use graph::Failed;
 use simulate::ReplayError;
 use thiserror::Error;
@@ -27,8 +28,8 @@ pub enum SimError {
     #[error("the device failed")]
     Device,
     /// out of memory
-    #[error("out of memory")]
-    OutOfMemory,
+    #[error("{0}")]
+    OutOfMemory(Refused),
 }
 
 impl From<Failed> for SimError {
@@ -51,7 +52,7 @@ impl From<ReplayError> for SimError {
     fn from(e: ReplayError) -> SimError {
         match e {
             ReplayError::InitialReset { latch } => SimError::InitialReset { latch },
-            ReplayError::OutOfMemory => SimError::OutOfMemory,
+            ReplayError::OutOfMemory(refused) => SimError::OutOfMemory(refused),
         }
     }
 }
@@ -67,7 +68,7 @@ impl SimError {
             SimError::NoInputLine => 64,
             SimError::InitialReset { .. } => 60,
             SimError::Device => 21,
-            SimError::OutOfMemory => 20,
+            SimError::OutOfMemory(_) => 20,
         }
     }
 
@@ -81,7 +82,7 @@ impl SimError {
             SimError::NotViolated
             | SimError::NoInputLine
             | SimError::Device
-            | SimError::OutOfMemory => 0,
+            | SimError::OutOfMemory(_) => 0,
         }
     }
 }

@@ -3,6 +3,7 @@
 ghost use Rattle.std.specs.Prelude.{◌≡◌};
 ghost use Rattle.stimulus.specs.Numbers.{stim_number_of, stim_place_of};
 
+use base::Refused;
 use thiserror::Error;
 
 /// Why a text spells no stimulus. A place is a byte of the text.
@@ -24,8 +25,8 @@ pub enum StimError {
     #[error("byte {place}: bytes behind the last line")]
     AfterEnd { place: u64 },
     /// out of memory
-    #[error("out of memory")]
-    OutOfMemory,
+    #[error("{0}")]
+    OutOfMemory(Refused),
 }
 
 impl StimError {
@@ -39,7 +40,7 @@ impl StimError {
             StimError::Character { .. } => 83,
             StimError::Truncated { .. } => 84,
             StimError::AfterEnd { .. } => 85,
-            StimError::OutOfMemory => 20,
+            StimError::OutOfMemory(_) => 20,
         }
     }
 
@@ -53,7 +54,7 @@ impl StimError {
             StimError::Character { place } => place,
             StimError::Truncated { place } => place,
             StimError::AfterEnd { place } => place,
-            StimError::OutOfMemory => 0,
+            StimError::OutOfMemory(_) => 0,
         }
     }
 }

@@ -12,31 +12,32 @@ ghost use Rattle.transition.specs.Readings.{assumptions_of};
 use crate::encoding::guard_literal;
 use crate::reading::{core_lits, time_in};
 use crate::reply::Reply;
+use base::{Refused, push};
 use engine::EngineError;
 use graph::{Budget, Lit, Model};
 use solver::{Answer, Sat};
-use std::alloc::{AllocError, Global};
+use std::alloc::Global;
 
 /// Adds the literal of each guard.
-fn push_guards(literals: &mut Vec<i32>, model: &Model, guards: &[u32]) -> Result<(), AllocError>
+fn push_guards(literals: &mut Vec<i32>, model: &Model, guards: &[u32]) -> Result<(), Refused>
     requires { All (λ g. model.now.max_var + 2 + g < 2 ^ 31) guards.now }
     ensures { OnOk result (literals.new.items ≡ literals.old.items ++ map (guard_literal_of model.now) guards.now) }
 {
     for guard in guards {
-        literals.push(guard_literal(model, *guard))?;
+        push(literals, guard_literal(model, *guard))?;
     }
     Ok(())
 }
 
 /// Adds the literal of clauses for each literal of the circuit.
-fn push_lits(literals: &mut Vec<i32>, model: &Model, lits: &[Lit]) -> Result<(), AllocError>
+fn push_lits(literals: &mut Vec<i32>, model: &Model, lits: &[Lit]) -> Result<(), Refused>
     requires { All (IsInRange model.now.max_var) lits.now }
     ensures { OnOk result (literals.new.items ≡ literals.old.items ++ map (literal model.now.max_var 0) lits.now) }
 {
     model.parts();
     let time = cnf::Time::first(model);
     for lit in lits {
-        literals.push(time.literal(*lit))?;
+        push(literals, time.literal(*lit))?;
     }
     Ok(())
 }
@@ -47,7 +48,7 @@ fn assumptions(
     model: &Model,
     guards: &[u32],
     lits: &[Lit],
-) -> Result<Vec<i32>, AllocError>
+) -> Result<Vec<i32>, Refused>
     requires guards { All (λ g. model.now.max_var + 2 + g < 2 ^ 31) guards.now }
     requires lits { All (IsInRange model.now.max_var) lits.now }
     ensures { IfOk result (λ v. v.items ≡ assumptions_of model.now guards.now lits.now) }

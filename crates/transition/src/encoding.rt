@@ -7,12 +7,13 @@ ghost use Rattle.transition.specs.States.{Guarded};
 ghost use Rattle.transition.specs.Contents.{Contents, IsLoaded, HasGuards, guard_literal as guard_literal_of, guarded_clause, state_literal as state_literal_of};
 
 use crate::state::StateLit;
-use cnf::{CnfError, shared_base};
+use base::{Refused, push};
+use cnf::shared_base;
 use engine::EngineError;
 use graph::Model;
 use lrat::{Clause, Formula};
 use solver::Sat;
-use std::alloc::{AllocError, Global};
+use std::alloc::Global;
 
 /// The greatest number of variables.
 const GREATEST: u32 = 2_147_483_647;
@@ -46,28 +47,26 @@ fn guarded(
     model: &Model,
     guard: u32,
     clause: &[StateLit],
-) -> Result<Vec<i32>, AllocError>
+) -> Result<Vec<i32>, Refused>
     requires guard { model.now.max_var + 2 + guard < 2 ^ 31 }
     requires latches { All (λ a. a.latch < length model.now.latches) clause.now }
     ensures { IfOk result (λ v. v.items ≡ guarded_clause model.now (record { guard = guard; clause = clause.now })) }
 {
-    let mut literals = vec![in alloc; -guard_literal(model, guard)]?;
+    let mut literals = Vec::new(alloc);
+    push(&mut literals, -guard_literal(model, guard))?;
     for lit in clause {
-        literals.push(state_literal(model, *lit))?;
+        push(&mut literals, state_literal(model, *lit))?;
     }
     Ok(literals)
 }
 
 /// Truth, gates and constraints of the circuit.
-fn base(alloc: Global, model: &Model) -> Result<Formula, EngineError>
+fn clauses_of(alloc: Global, model: &Model) -> Result<Formula, Refused>
     ensures clauses { IfOk result (λ f. f.clauses ≡ time_clauses model.now 0) }
     ensures literals { IfOk result (λ f. All (All (IsLiteral (model.now.max_var + 1))) f.clauses) }
 {
-    match shared_base(alloc, model, &[]) {
-        Ok(formula) => Ok(formula),
-        Err(CnfError::Limit) => Err(EngineError::Limit),
-        Err(CnfError::OutOfMemory) => Err(EngineError::OutOfMemory),
-    }
+    let formula = shared_base(alloc, model, &[])?;
+    Ok(formula)
 }
 
 /// Adds each clause.
@@ -96,7 +95,7 @@ pub(crate) fn load<S: Sat>(
     if guards > GREATEST - variables {
         return Err(EngineError::Limit);
     }
-    let formula = base(alloc, model)?;
+    let formula = clauses_of(alloc, model)?;
     solver.reset(alloc, variables + guards)?;
     add_all(solver, alloc, formula.clauses.as_slice())
 }

@@ -4,16 +4,17 @@ ghost use Rattle.std.specs.Prelude.{◌≡◌, ◌↔◌, IsTrue, ℕ, length, m
 ghost use Rattle.std.specs.List.Sorted.{IsNonDecreasing};
 ghost use Rattle.graph.specs.declared.circuit.Lit.{Lit as Literal};
 
+use base::{Refused, push};
 use graph::Lit;
-use std::alloc::{AllocError, Global};
+use std::alloc::Global;
 
 /// The numbers of the literals.
-fn numbers(alloc: Global, lits: &[Lit]) -> Result<Vec<u32>, AllocError>
+fn numbers(alloc: Global, lits: &[Lit]) -> Result<Vec<u32>, Refused>
     ensures { IfOk result (λ v. v.items ≡ map (λ a. a.0) lits.now) }
 {
     let mut numbers = Vec::new(alloc);
     for lit in lits {
-        numbers.push(lit.0)?;
+        push(&mut numbers, lit.0)?;
     }
     Ok(numbers)
 }
@@ -28,7 +29,7 @@ fn sort(numbers: &mut [u32])
 }
 
 /// The numbers of the literals in order.
-pub(crate) fn in_order(alloc: Global, lits: &[Lit]) -> Result<Vec<u32>, AllocError>
+pub(crate) fn in_order(alloc: Global, lits: &[Lit]) -> Result<Vec<u32>, Refused>
     ensures rising { IfOk result (λ v. IsNonDecreasing v.items) }
     ensures same { IfOk result (λ v. (a : Literal) → Contains v.items a.0 ↔ Contains lits.now a) }
 {

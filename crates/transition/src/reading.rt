@@ -5,8 +5,9 @@ ghost use Rattle.graph.specs.Valuation.{variable};
 ghost use Rattle.transition.specs.Readings.{value_at, time_at, is_negation as is_negation_of, circuit_lit as circuit_lit_of, lit_for as lit_for_of, core_lits as core_lits_of};
 
 use crate::state::Time;
+use base::Refused;
 use graph::{Lit, Model, Seq};
-use std::alloc::{AllocError, Global};
+use std::alloc::Global;
 
 /// The value of a literal's variable.
 fn value(values: &[bool], lit: Lit) -> bool
@@ -17,7 +18,7 @@ fn value(values: &[bool], lit: Lit) -> bool
 }
 
 /// The values of the latches.
-fn state_in(alloc: Global, model: &Model, values: &[bool]) -> Result<Seq<bool>, AllocError>
+fn state_in(alloc: Global, model: &Model, values: &[bool]) -> Result<Seq<bool>, Refused>
     requires { model.now.max_var < length values.now }
     ensures { IfOk result (λ s. s ≡ (time_at model.now values.now).state) }
 {
@@ -30,7 +31,7 @@ fn state_in(alloc: Global, model: &Model, values: &[bool]) -> Result<Seq<bool>, 
 }
 
 /// The values of the inputs.
-fn inputs_in(alloc: Global, model: &Model, values: &[bool]) -> Result<Seq<bool>, AllocError>
+fn inputs_in(alloc: Global, model: &Model, values: &[bool]) -> Result<Seq<bool>, Refused>
     requires { model.now.max_var < length values.now }
     ensures { IfOk result (λ s. s ≡ (time_at model.now values.now).inputs) }
 {
@@ -43,7 +44,7 @@ fn inputs_in(alloc: Global, model: &Model, values: &[bool]) -> Result<Seq<bool>,
 }
 
 /// The time that the values are.
-pub(crate) fn time_in(alloc: Global, model: &Model, values: &[bool]) -> Result<Time, AllocError>
+pub(crate) fn time_in(alloc: Global, model: &Model, values: &[bool]) -> Result<Time, Refused>
     requires { model.now.max_var < length values.now }
     ensures { IfOk result (λ t. t ≡ time_at model.now values.now) }
 {
@@ -86,7 +87,7 @@ fn lit_for(max_var: u32, literal: i32) -> Option<Lit>
 }
 
 /// The circuit's literals of a core. Those of guards are left out.
-pub(crate) fn core_lits(alloc: Global, model: &Model, core: &[i32]) -> Result<Seq<Lit>, AllocError>
+pub(crate) fn core_lits(alloc: Global, model: &Model, core: &[i32]) -> Result<Seq<Lit>, Refused>
     ensures { IfOk result (λ lits. lits ≡ core_lits_of model.now.max_var core.now) }
 {
     model.parts();

@@ -11,10 +11,11 @@ use crate::lookup::{contains, in_order};
 use crate::reply::Reply;
 use crate::state::{StateLit, Time};
 use crate::transition::Transition;
+use base::Refused;
 use engine::EngineError;
 use graph::{Budget, Latch, Lit, Model, Seq};
 use solver::Sat;
-use std::alloc::{AllocError, Global};
+use std::alloc::Global;
 
 /// What is known of a clause after each step.
 #[derive(Debug, Drop)]
@@ -51,7 +52,7 @@ fn unset_after(latches: &[Latch], lit: StateLit) -> Lit
 }
 
 /// The literals that are true where the clause does not hold after the step.
-fn denials(alloc: Global, latches: &[Latch], clause: &[StateLit]) -> Result<Seq<Lit>, AllocError>
+fn denials(alloc: Global, latches: &[Latch], clause: &[StateLit]) -> Result<Seq<Lit>, Refused>
     requires latches { All (λ a. a.latch < length latches.now) clause.now }
     requires small { All (λ l. l.next.0 < 4294967295) latches.now }
     ensures { IfOk result (λ lits. lits ≡ map (denial latches.now) clause.now) }
@@ -70,7 +71,7 @@ fn needed(
     latches: &[Latch],
     clause: &[StateLit],
     core: &[Lit],
-) -> Result<Seq<StateLit>, AllocError>
+) -> Result<Seq<StateLit>, Refused>
     requires latches { All (λ a. a.latch < length latches.now) clause.now }
     requires small { All (λ l. l.next.0 < 4294967295) latches.now }
     ensures part { IfOk result (λ part. IsPartOf part clause.now) }

@@ -52,7 +52,7 @@ asked_there m one (Justice n) asked = asked.showable.exists
 
 pub engine_refused : (m : Parts) (p : Property) (e : EngineError) → HasProperty m p → HasCause m p (of_engine e)
 engine_refused m p engine.Limit there = there
-engine_refused m p engine.OutOfMemory there = there
+engine_refused m p (engine.OutOfMemory refused) there = there
 
 -- ---- runs
 
@@ -103,7 +103,7 @@ refused_to m p inv after (NoProperty k) there cause good = absurd (cause.1 there
 refused_to m p inv after Limit there cause good = tt
 refused_to m p inv after (NotLatch k) there cause good = absurd (first_fault_refuses (circuit_of m p) inv k fault.NotLatch cause.1.first good)
 refused_to m p inv after (Repeated k) there cause good = absurd (first_fault_refuses (circuit_of m p) inv k fault.Repeated cause.1.first good)
-refused_to m p inv after OutOfMemory there cause good = tt
+refused_to m p inv after (OutOfMemory refused) there cause good = tt
 
 pub refused_meant : (m : Parts) (p : Property) (inv : List (List Lit)) (after : Steps) (e : CertifyError) (r : Result Verdict DecideError) → r ≡ of_certify e →
     HasProperty m p → IsUncertified m p inv e → All (IsGood (circuit_of m p)) inv → IfOk r (IsMeant m p after)

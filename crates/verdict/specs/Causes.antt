@@ -1,5 +1,6 @@
 -- Why nothing is answered of a property.
 use Rattle.std.specs.Prelude.{◌≡◌, Result, Ok, Err}
+use Rattle.base.specs.Witness.{witness}
 use Rattle.checker.specs.Accepted.{HasProperty}
 use Rattle.graph.specs.declared.circuit.Property.{Property}
 use Rattle.graph.specs.declared.parts.Parts.{Parts}
@@ -16,13 +17,13 @@ use Rattle.verdict.specs.declared.decide_error.DecideError.TheVariants.{NoProper
 abbrev pub HasCause : Parts → Property → DecideError → Type 0
 HasCause m p (NoProperty n) = (n ≡ position_of p) × (HasProperty m p → ⊥)
 HasCause m p Limit = HasProperty m p
-HasCause m p OutOfMemory = HasProperty m p
+HasCause m p (OutOfMemory refused) = HasProperty m p
 
 -- what comes of clauses of which no certificate is made: a limit and out of memory end the asking, and clauses with a
 -- fault are no evidence
 abbrev pub of_certify : CertifyError → Result Verdict DecideError
 of_certify certify.Limit = Err Limit
-of_certify certify.OutOfMemory = Err OutOfMemory
+of_certify (certify.OutOfMemory refused) = Err (OutOfMemory witness)
 of_certify (certify.NoProperty n) = Ok (Unknown NoEvidence)
 of_certify (certify.NotLatch k) = Ok (Unknown NoEvidence)
 of_certify (certify.Repeated k) = Ok (Unknown NoEvidence)

@@ -1,5 +1,6 @@
 -- The numbers and places of refusals.
 use Rattle.std.specs.Prelude.{ℕ}
+use Rattle.base.specs.Witness.{witness}
 use Rattle.engine.specs.declared.engine_error.EngineError.{EngineError}
 use Rattle.engine.specs.declared.engine_error.EngineError.TheVariants as engine
 use Rattle.verdict.specs.declared.decide_error.DecideError.{DecideError}
@@ -8,14 +9,14 @@ use Rattle.verdict.specs.declared.decide_error.DecideError.TheVariants.{NoProper
 abbrev pub number_of : DecideError → ℕ
 number_of (NoProperty n) = 30
 number_of Limit = 4
-number_of OutOfMemory = 20
+number_of (OutOfMemory refused) = 20
 
 abbrev pub place_of : DecideError → ℕ
 place_of (NoProperty n) = n
 place_of Limit = 0
-place_of OutOfMemory = 0
+place_of (OutOfMemory refused) = 0
 
 -- what a refusal of an engine is here
 abbrev pub of_engine : EngineError → DecideError
 of_engine engine.Limit = Limit
-of_engine engine.OutOfMemory = OutOfMemory
+of_engine (engine.OutOfMemory refused) = OutOfMemory witness

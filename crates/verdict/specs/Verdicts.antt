@@ -11,16 +11,17 @@ use Rattle.stimulus.specs.declared.value.Stimulus.TheVariants as stimulus
 use Rattle.stimulus.specs.Shown.{Shows, ShowsBad, ShowsLasso}
 use Rattle.stimulus.specs.Texts.{property_of}
 use Rattle.live_safe.specs.Shadow.{shadow_of}
-use Rattle.checker.specs.Accepted.{IsAcceptedCertificate, IsShowable}
+use Rattle.checker.specs.Accepted.{IsAcceptedCertificate, IsShowable, IsUpheld}
 use Rattle.engine.specs.Bounds.{IsClear}
 use Rattle.engine.specs.declared.finding.Reason.{Reason}
 use Rattle.engine.specs.declared.finding.Reason.TheVariants.{Budget, Depth, NoEvidence}
 use Rattle.verdict.specs.declared.verdict.Verdict.{Verdict}
 use Rattle.verdict.specs.declared.verdict.Verdict.TheVariants.{Safe, Unsafe, Unknown}
 
--- the certificate is accepted, or the replay of the stimulus shows the violation, and it is of this property
+-- the certificate is accepted and the property upheld, or the replay of the stimulus shows the violation, and the evidence is
+-- of this property
 abbrev pub IsBacked : Parts → Property → Verdict → Type 0
-IsBacked m p (Safe c) = IsAcceptedCertificate m c × (c.property ≡ p)
+IsBacked m p (Safe c) = IsAcceptedCertificate m c × (c.property ≡ p) × IsUpheld m p
 IsBacked m p (Unsafe s) = Shows m s × (property_of s ≡ p)
 IsBacked m p (Unknown reason) = Unit {0}
 

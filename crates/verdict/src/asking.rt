@@ -54,7 +54,7 @@ fn judged(
 {
     match judge(alloc, model, &stimulus) {
         Ok(()) => Ok(Verdict::Unsafe(stimulus)),
-        Err(JudgeError::OutOfMemory) => Err(DecideError::OutOfMemory),
+        Err(JudgeError::OutOfMemory(refused)) => Err(DecideError::OutOfMemory(refused)),
         Err(_) => Ok(Verdict::Unknown(Reason::NoEvidence)),
     }
 }
@@ -86,7 +86,7 @@ fn ran(
             match lasso_of(alloc, model, n, initial.as_slice(), inputs.as_slice()) {
                 Ok(Some(lasso)) => judged(alloc, model, property, lasso),
                 Ok(None) => Ok(Verdict::Unknown(Reason::NoEvidence)),
-                Err(_) => Err(DecideError::OutOfMemory),
+                Err(refused) => Err(DecideError::OutOfMemory(refused)),
             }
         }
     }
@@ -107,7 +107,7 @@ fn checked(
 {
     match check(alloc, model, &certificate) {
         Ok(()) => Ok(Verdict::Safe(certificate)),
-        Err(CheckError::OutOfMemory) => Err(DecideError::OutOfMemory),
+        Err(CheckError::OutOfMemory(refused)) => Err(DecideError::OutOfMemory(refused)),
         Err(CheckError::Limit) => Err(DecideError::Limit),
         Err(_) => Ok(Verdict::Unknown(Reason::NoEvidence)),
     }
@@ -132,18 +132,18 @@ fn certified(
         Ok(Certified::Certificate(certificate)) => checked(alloc, model, property, certificate),
         Ok(Certified::NotInvariant) => Ok(Verdict::Unknown(Reason::NoEvidence)),
         Ok(Certified::Spent) => Ok(Verdict::Unknown(Reason::Budget)),
-        Err(error) => refused(error),
+        Err(error) => uncertified(error),
     }
 }
 
 /// What comes of clauses of which no certificate is made. A fault of theirs only makes them no
 /// evidence.
-fn refused(error: CertifyError) -> Result<Verdict, DecideError>
+fn uncertified(error: CertifyError) -> Result<Verdict, DecideError>
     ensures { result ≡ of_certify error }
 {
     match error {
         CertifyError::Limit => Err(DecideError::Limit),
-        CertifyError::OutOfMemory => Err(DecideError::OutOfMemory),
+        CertifyError::OutOfMemory(refused) => Err(DecideError::OutOfMemory(refused)),
         CertifyError::NoProperty(_) => Ok(Verdict::Unknown(Reason::NoEvidence)),
         CertifyError::NotLatch { .. } => Ok(Verdict::Unknown(Reason::NoEvidence)),
         CertifyError::Repeated { .. } => Ok(Verdict::Unknown(Reason::NoEvidence)),

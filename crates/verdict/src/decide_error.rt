@@ -3,6 +3,7 @@
 ghost use Rattle.std.specs.Prelude.{◌≡◌};
 ghost use Rattle.verdict.specs.Numbers.{number_of, of_engine, place_of};
 
+use base::Refused;
 use engine::EngineError;
 use thiserror::Error;
 
@@ -16,8 +17,8 @@ pub enum DecideError {
     #[error("over a limit")]
     Limit,
     /// out of memory
-    #[error("out of memory")]
-    OutOfMemory,
+    #[error("{0}")]
+    OutOfMemory(Refused),
 }
 
 impl From<EngineError> for DecideError {
@@ -26,7 +27,7 @@ impl From<EngineError> for DecideError {
     fn from(e: EngineError) -> DecideError {
         match e {
             EngineError::Limit => DecideError::Limit,
-            EngineError::OutOfMemory => DecideError::OutOfMemory,
+            EngineError::OutOfMemory(refused) => DecideError::OutOfMemory(refused),
         }
     }
 }
@@ -38,7 +39,7 @@ impl DecideError {
     {
         match self {
             DecideError::Limit => 4,
-            DecideError::OutOfMemory => 20,
+            DecideError::OutOfMemory(_) => 20,
             DecideError::NoProperty(_) => 30,
         }
     }
@@ -49,7 +50,7 @@ impl DecideError {
     {
         match self {
             DecideError::NoProperty(position) => u64::from(position),
-            DecideError::Limit | DecideError::OutOfMemory => 0,
+            DecideError::Limit | DecideError::OutOfMemory(_) => 0,
         }
     }
 }

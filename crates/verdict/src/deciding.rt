@@ -15,7 +15,7 @@ use crate::decide_error::DecideError;
 use crate::reasons::weightier;
 use crate::verdict::Verdict;
 use engine::{Engine, Reason};
-use graph::{Budget, Model, Property};
+use graph::{Budget, Model, Property, ReadError};
 use live_safe::{LiveError, to_safety};
 use std::alloc::Global;
 
@@ -32,16 +32,18 @@ fn circuit_for(alloc: Global, model: &Model, property: Property) -> Result<Model
             if n as usize >= model.bad().len() {
                 return Err(DecideError::NoProperty(n));
             }
-            let Ok(circuit) = model.for_bad(alloc, n) else {
-                return Err(DecideError::OutOfMemory);
-            };
-            Ok(circuit)
+            match model.for_bad(alloc, n) {
+                Ok(circuit) => Ok(circuit),
+                Err(ReadError::OutOfMemory(refused)) => Err(DecideError::OutOfMemory(refused)),
+                // the circuit has the property
+                Err(_) => unreachable!(),
+            }
         }
         Property::Justice(n) => match to_safety(alloc, model, n) {
             Ok(shadow) => Ok(shadow),
             Err(LiveError::NoProperty(_)) => Err(DecideError::NoProperty(n)),
             Err(LiveError::Limit) => Err(DecideError::Limit),
-            Err(LiveError::OutOfMemory) => Err(DecideError::OutOfMemory),
+            Err(LiveError::OutOfMemory(refused)) => Err(DecideError::OutOfMemory(refused)),
         },
     }
 }

@@ -1,4 +1,5 @@
-use Rattle.std.proofs.Common.{rules, ◌≡◌, ◌+◌, ◌*◌, ◌<◌, ◌≤◌, ◌∙◌, List, All, Option, None, ℤ, length, get_or, replicate, length-set, SFits, w32, arith}
+use Rattle.std.proofs.Common.{rules, ap, ◌≡◌, ◌+◌, ◌*◌, ◌<◌, ◌≤◌, ◌∙◌, List, All, Option, None, ℤ, length, get_or, replicate, length-set, SFits, w32, arith}
+use Rattle.std.proofs.lemmas.List.{length-replicate}
 use Rattle.graph.specs.declared.circuit.Latch.{Latch}
 use Rattle.graph.specs.Valuation.{variable}
 use Rattle.graph.proofs.Evaluation.{latches_in_range}
@@ -16,7 +17,7 @@ loop-latch-init c =
     let m = c.args.circuit.now in
     let blank : Option ℤ = None in
     let items : c.in_ok-next.next.items ≡ replicate (c.max_var.result + 1) blank = search rules in
-    let long : length c.in_ok-next.next.items ≡ m.max_var + 1 = search rules in
+    let long : length c.in_ok-next.next.items ≡ m.max_var + 1 = ap length items ∙ length-replicate (c.max_var.result + 1) blank ∙ ap (λ n. n + 1) c.max_var.ensures in
     (long, rw items (held_none m (c.args.steps + 1) (c.max_var.result + 1)))
 
 pub literal_after-requires-clause-in_range : goal.literal_after-requires-clause-in_range

@@ -2,8 +2,8 @@ use Rattle.std.proofs.Common.{◌≡◌, ◌<◌, ◌≤◌, suc, length, Some, 
 use Rattle.std.proofs.lemmas.Result.{err_from_is_err_and}
 use Rattle.scan.specs.Lists.{items_at}
 use Rattle.scan.proofs.Loops.{until_more, until_stops, until_fails, until_over}
-use Rattle.lrat.proofs.Fit.{on_ok}
 use Rattle.certificate.specs.Reading.{item_at}
+use Rattle.certificate.proofs.SectionLaws.{item_line}
 use Rattle.certificate.proofs.sections.section_lines.Goals as goal
 
 pub returns-in_err-item : goal.returns-in_err-item
@@ -18,12 +18,16 @@ returns-in_default c =
     let none : item_at c.loop.rest.now ≡ Some (None, c.in_ok-item.after.now) = rw (← c.in_default.is) c.in_ok-item.ensures in
     until_stops item_at c.loop.proof (suc (length c.args.text.now)) c.loop.counter c.loop.rest.now c.in_ok-item.after.now (items_at item_at c.args.text.now) lt none c.loop.invariant
 
+pub push_line-requires : goal.push_line-requires
+push_line-requires c =
+    let some : item_at c.loop.rest.now ≡ Some (Some c.in-Some.line, c.in_ok-item.after.now) = rw (← c.in-Some.is) c.in_ok-item.ensures in
+    item_line c.loop.rest.now c.in_ok-item.after.now c.in-Some.line some
+
 pub loop-preserved : goal.loop-preserved
 loop-preserved c =
     let lt : c.loop.counter < suc (length c.args.text.now) = omega (arith, c.loop-test.true) in
     let some : item_at c.loop.rest.now ≡ Some (Some c.in-Some.line, c.in_ok-item.after.now) = rw (← c.in-Some.is) c.in_ok-item.ensures in
-    let pushed = on_ok c.push.result c.push.ensures.ok c.is_err.ensures.value c.if-is_err.false in
-    rw pushed.1 (until_more item_at c.loop.proof (suc (length c.args.text.now)) c.loop.counter c.loop.rest.now c.in-Some.line c.in_ok-item.after.now (items_at item_at c.args.text.now) lt some c.loop.invariant)
+    rw c.in_ok-push_line.ensures.ok (until_more item_at c.loop.proof (suc (length c.args.text.now)) c.loop.counter c.loop.rest.now c.in-Some.line c.in_ok-item.after.now (items_at item_at c.args.text.now) lt some c.loop.invariant)
 
 pub returns : goal.returns
 returns c =

@@ -1,4 +1,5 @@
 use Rattle.std.proofs.Common.{◌≢◌}
+use Rattle.base.specs.Witness.{witness}
 use Rattle.lrat.proofs.Fit.{if_err}
 use Rattle.checker.specs.Accepted.{IsAcceptedCertificate, IsUpheld}
 use Rattle.checker.specs.Causes.{HasCause}
@@ -8,7 +9,7 @@ use Rattle.checker.proofs.acceptance.check.Goals as goal
 
 pub returns-in-Bad-clause-complete : goal.returns-in-Bad-clause-complete
 returns-in-Bad-clause-complete c =
-    if_err (HasCause c.args.model.now c.args.certificate.now) (λ e. e ≢ OutOfMemory → IsAcceptedCertificate c.args.model.now c.args.certificate.now → ⊥) _
+    if_err (HasCause c.args.model.now c.args.certificate.now) (λ e. e ≢ OutOfMemory witness → IsAcceptedCertificate c.args.model.now c.args.certificate.now → ⊥) _
     (λ e cause. cause_refuses c.args.model.now c.args.certificate.now e cause) c.examine_bad.ensures.refused
 
 pub returns-in-Bad-clause-upheld : goal.returns-in-Bad-clause-upheld
@@ -18,7 +19,7 @@ returns-in-Bad-clause-upheld c =
 
 pub returns-in-Justice-clause-complete : goal.returns-in-Justice-clause-complete
 returns-in-Justice-clause-complete c =
-    if_err (HasCause c.args.model.now c.args.certificate.now) (λ e. e ≢ OutOfMemory → IsAcceptedCertificate c.args.model.now c.args.certificate.now → ⊥) _
+    if_err (HasCause c.args.model.now c.args.certificate.now) (λ e. e ≢ OutOfMemory witness → IsAcceptedCertificate c.args.model.now c.args.certificate.now → ⊥) _
     (λ e cause. cause_refuses c.args.model.now c.args.certificate.now e cause) c.examine_justice.ensures.refused
 
 pub returns-in-Justice-clause-upheld : goal.returns-in-Justice-clause-upheld

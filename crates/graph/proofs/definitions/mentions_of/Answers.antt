@@ -5,4 +5,4 @@ use Rattle.graph.proofs.definitions.mentions_of.Goals as goal
 pub returns-clause-marked : goal.returns-clause-marked
 returns-clause-marked c =
     rw (take_whole c.in_ok-table.table.len c.mention_all.new.table (drop (length c.mention_all.new.table) c.in_ok-table.table.items) (omega arith))
-    (c.mention_all.ensures.marks [] (rw (c.deref_mut.ensures.value, c.in_ok-table.ensures.items_if_clones_equal (λ y same. same)) (marked_none (c.args.parts.now.max_var + 1))))
+    (c.mention_all.ensures.marks [] (rw (c.deref_mut.ensures.value, c.in_ok-table.ensures) (marked_none (c.args.parts.now.max_var + 1))))

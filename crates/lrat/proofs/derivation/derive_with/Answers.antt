@@ -1,3 +1,4 @@
+use Rattle.base.specs.Witness.{witness}
 use Rattle.std.proofs.Common.{ℕ, Bool, ◌≢◌}
 use Rattle.lrat.specs.Literals.{Satisfies, IsSatisfied}
 use Rattle.lrat.specs.Lines.{IsAcceptedLine}
@@ -17,5 +18,5 @@ returns-clause-sound g c =
 pub returns-clause-complete : goal.returns-clause-complete
 returns-clause-complete g c =
     if_err (λ e. IsRefusedLine (g.C.Lookup.vars c.args.clauses.now) (g.C.Lookup.find c.args.clauses.now) c.args.clause.now c.args.hints.now e)
-    (λ e. e ≢ OutOfMemory → IsAcceptedLine (g.C.Lookup.vars c.args.clauses.now) (g.C.Lookup.find c.args.clauses.now) c.args.clause.now c.args.hints.now → ⊥) _
+    (λ e. e ≢ OutOfMemory witness → IsAcceptedLine (g.C.Lookup.vars c.args.clauses.now) (g.C.Lookup.find c.args.clauses.now) c.args.clause.now c.args.hints.now → ⊥) _
     (λ e why ne line. refused_not _ _ _ _ e why ne line) c.check-answer.ensures.refused

@@ -1,3 +1,4 @@
+use Rattle.base.specs.Witness.{witness}
 use Rattle.std.proofs.Common.{rules, sym, SFits, w32}
 use Rattle.lrat.specs.Lines.{LeavesOnly}
 use Rattle.lrat.specs.declared.fault.Fault.TheVariants.{UnknownId, SeveralLeft, TrueAlready, EarlyConflict, OutOfMemory}
@@ -27,7 +28,7 @@ returns-then-holds-clause-answer g c =
     (c.in-Some.clause.now, c.in-One.literal, sym c.in-Some.ensures.value, only, rw (read32 _ f) at (c.holds.ensures.0 c.if-holds.true))
 
 pub returns-in_err-set-in-One-clause-answer : goal.returns-in_err-set-in-One-clause-answer
-returns-in_err-set-in-One-clause-answer g c = match_gives _ _ _ _ c.from_residual.ensures.1 (stops_at _ _ _ _ _ OutOfMemory c.loop-hint-test.true c.loop-hint.invariant.leads tt)
+returns-in_err-set-in-One-clause-answer g c = match_gives _ _ _ _ c.from_residual.ensures.1 (stops_at _ _ _ _ _ (OutOfMemory witness) c.loop-hint-test.true c.loop-hint.invariant.leads tt)
 
 pub loop-hint-preserved : goal.loop-hint-preserved
 loop-hint-preserved g c =

@@ -18,17 +18,17 @@ loop-i-preserved c =
           (subst (λ k. Goes k c.loop-i.refuter.stage c.index-lines-i.result c.feed.new.self.stage) n c.in-Ok-feed.ensures.ok.2);
     }
 
-pub returns-in-Err-clause-refused : goal.returns-in-Err-clause-refused
-returns-in-Err-clause-refused c =
+pub returns-in-Err-feed-clause-refused : goal.returns-in-Err-feed-clause-refused
+returns-in-Err-feed-clause-refused c =
     let i = c.loop-i.invariant in
     let n : c.loop-i.refuter.base.vars ≡ c.args.formula.now.vars = ap (λ b. b.vars) i.base in
-    let a = c.at-in-Err.ensures in
-    subst (λ ls. IsRefusedProof c.args.formula.now ls c.at-in-Err.result) c.lines-lines.ensures.lines
-    (refused_at c.args.formula.now c.lines-lines.result.now c.loop-i.i c.loop-i.refuter.stage c.index-lines-i.result c.in-Err.fault _ c.loop-i-test.true i.along c.index-lines-i.is
-    (subst (λ k. Halts k c.loop-i.refuter.stage c.index-lines-i.result c.in-Err.fault) n (c.in-Err.ensures.refused i.open_)) a.fault a.line a.memory)
+    let a = c.at-in-Err-feed.ensures in
+    subst (λ ls. IsRefusedProof c.args.formula.now ls c.at-in-Err-feed.result) c.lines-lines.ensures.lines
+    (refused_at c.args.formula.now c.lines-lines.result.now c.loop-i.i c.loop-i.refuter.stage c.index-lines-i.result c.in-Err-feed.fault _ c.loop-i-test.true i.along c.index-lines-i.is
+    (subst (λ k. Halts k c.loop-i.refuter.stage c.index-lines-i.result c.in-Err-feed.fault) n (c.in-Err-feed.ensures.refused i.open_)) a.fault a.line a.memory)
 
-pub returns-in-Err-clause-complete : goal.returns-in-Err-clause-complete
-returns-in-Err-clause-complete c ne accepted = refused_proof_not _ _ _ (returns-in-Err-clause-refused c) ne accepted
+pub returns-in-Err-feed-clause-complete : goal.returns-in-Err-feed-clause-complete
+returns-in-Err-feed-clause-complete c ne accepted = refused_proof_not _ _ _ (returns-in-Err-feed-clause-refused c) ne accepted
 
 pub returns-in-Err-finish-clause-refused : goal.returns-in-Err-finish-clause-refused
 returns-in-Err-finish-clause-refused c =

@@ -19,7 +19,7 @@ returns-clause-numbered c =
     let kept : length c.number.new.image ≡ c.in_ok-image.image.len = search rules in
     let blank : Lit = record { 0 = 0 } in
     let begin : image_of c.as_mut_slice.result.now 0 ≡ blank =
-    ap (λ xs. image_of xs 0) (c.as_mut_slice.ensures.value ∙ c.in_ok-image.ensures.items_if_clones_equal (λ y same. same)) ∙ get_or-replicate (c.args.parts.now.max_var + 1) 0 blank blank (omega arith) in
+    ap (λ xs. image_of xs 0) (c.as_mut_slice.ensures.value ∙ c.in_ok-image.ensures) ∙ get_or-replicate (c.args.parts.now.max_var + 1) 0 blank blank (omega arith) in
     rw (take_whole c.in_ok-image.image.len c.number.new.image (drop (length c.number.new.image) c.in_ok-image.image.items) kept) (record {
       constant = elim (c.number.ensures.kept 0) [
         | inl found ↦ absurd (not_base c.args.bases.now c.args.parts.now.max_var c.requires.in_range found)

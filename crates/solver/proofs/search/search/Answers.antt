@@ -44,7 +44,7 @@ returns-then-len-vars-clause-lawful c =
 
 pub searching-preserved : goal.searching-preserved
 searching-preserved c =
-    let longer : length c.push.new.self.items ≡ length c.searching.values.items + 1 = ap length c.in_ok-push-in-Open.ensures.items ∙ length_push c.searching.values.items false in
+    let longer : length c.push.new.to.items ≡ length c.searching.values.items + 1 = ap length c.in_ok-push-in-Open.ensures.items ∙ length_push c.searching.values.items false in
     record {
       spends = search rules;
       among = c.look.ensures.among;

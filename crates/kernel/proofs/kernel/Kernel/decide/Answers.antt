@@ -11,7 +11,7 @@ invariant_of-self-2 c =
       same_vars = c.in_ok-set.ensures.vars ∙ s.same_vars;
       scratch_vars = s.scratch_vars;
       scratch_clear = s.scratch_clear;
-      grounded = rw (c.in_ok-set.ensures.ok, c.in_ok-push.ensures.items, c.in_ok-reserve.ensures.items, read32 c.args.literal f)
+      grounded = rw (c.in_ok-set.ensures.ok, c.in_ok-push.ensures.items, c.in_ok-reserve_one.ensures.items, read32 c.args.literal f)
           (grounded_push _ _ _ [] _ None s.grounded (record {
             not_held = λ h. not_true c.holds.ensures.1 c.if-holds.false (rw (read32 c.args.literal f) h);
             not_denied = λ h. not_true c.denies.ensures.1 c.if-denies.false (rw (read32 c.args.literal f) h);

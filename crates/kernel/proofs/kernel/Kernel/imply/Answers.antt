@@ -13,7 +13,7 @@ invariant_of-self-in-One c =
       same_vars = c.in_ok-set-in-One.ensures.vars ∙ s.same_vars;
       scratch_vars = s.scratch_vars;
       scratch_clear = s.scratch_clear;
-      grounded = rw (c.in_ok-set-in-One.ensures.ok, c.in_ok-push-in-One.ensures.items, c.in_ok-reserve-in-One.ensures.items, read32 c.in-One.literal f)
+      grounded = rw (c.in_ok-set-in-One.ensures.ok, c.in_ok-push-in-One.ensures.items, c.in_ok-reserve_one-in-One.ensures.items, read32 c.in-One.literal f)
           (grounded_push _ _ _ [] _ (Some c.args.id) s.grounded (record {
             not_held = λ h. not_true c.holds.ensures.1 c.if-holds.false (rw (read32 c.in-One.literal f) h);
             not_denied = only.open_in;

@@ -9,4 +9,4 @@ returns-clause-core c =
     let f : SFits w32 c.in-Some.literal = search rules in
     let g : SFits w32 c.negated.result = search rules in
     let opposed = rw c.in-Some.is at c.in_ok-literal.ensures in
-    rw (c.in_ok-part.ensures.items, read32 c.negated.result g, c.negated.ensures, read32 c.in-Some.literal f) (core_opposed (added c.args.self.now.kept) c.args.assume.now c.in-Some.literal opposed)
+    rw (c.in_ok-part.ensures, read32 c.negated.result g, c.negated.ensures, read32 c.in-Some.literal f) (core_opposed (added c.args.self.now.kept) c.args.assume.now c.in-Some.literal opposed)

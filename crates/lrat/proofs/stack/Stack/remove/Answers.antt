@@ -28,5 +28,5 @@ returns-then-is_none-clause-ok c =
 pub returns-clause-ok : goal.returns-clause-ok
 returns-clause-ok c =
     let s = c.self.inside in
-    rw (← c.self.view_is) (changed_layers s.clauses s.clauses s.mark s.hidden c.insert.new.self s.top s.top _ refl refl
-    (hides s.clauses.by_id s.hidden c.insert.new.self c.args.id c.in_ok-insert.ensures.updates.0))
+    rw (← c.self.view_is) (changed_layers s.clauses s.clauses s.mark s.hidden c.insert_key.new.to s.top s.top _ refl refl
+    (hides s.clauses.by_id s.hidden c.insert_key.new.to c.args.id c.in_ok-insert_key.ensures.updates.0))

@@ -46,9 +46,9 @@ returns-clause-table c =
     let gs : List Gate = c.args.self.now.gates in
     let g : Gate = made_gate (c.args.first + c.len.result) c.args.rhs0 c.args.rhs1 in
     let is : c.push.new.self ≡ gs ++ g ∷ [] = c.in_ok-push.ensures.ok in
-    let updates = c.in_ok-insert.ensures.updates in
-    subst (λ hs. IsTable c.args.first hs (get same_sides c.insert.new.self)) (sym is)
-    (table_push c.args.first gs g (get same_sides c.args.self.now.table) (get same_sides c.insert.new.self) c.requires.table (sym c.in_default.ensures.value)
+    let updates = c.in_ok-insert_hashed.ensures.updates in
+    subst (λ hs. IsTable c.args.first hs (get same_sides c.insert_hashed.new.to)) (sym is)
+    (table_push c.args.first gs g (get same_sides c.args.self.now.table) (get same_sides c.insert_hashed.new.to) c.requires.table (sym c.in_default.ensures.value)
     (updates.1 ∙ ap (λ n. Some (c.args.first + n)) c.len.ensures) updates.2)
 
 pub returns-clause-conjunction : goal.returns-clause-conjunction
