@@ -41,13 +41,13 @@ end_few j c e ten = elim (or_cases (eqb c 32 && ltb 0 j) (eqb c 10 && leb j 4) e
   | inr n ↦ leb-true j 4 (and_parts (eqb c 10) (leb j 4) n).1
 ]
 
-end_more : (j c : ℕ) → ends_count j c ≡ true → eqb c 10 ≡ false → (c ≡ 32) × (0 < j)
+pub end_more : (j c : ℕ) → ends_count j c ≡ true → eqb c 10 ≡ false → (c ≡ 32) × (0 < j)
 end_more j c e off = elim (or_cases (eqb c 32 && ltb 0 j) (eqb c 10 && leb j 4) e) [
   | inl s ↦ let p = and_parts (eqb c 32) (ltb 0 j) s in (eqb-true c 32 p.0, ltb-true 0 j p.1)
   | inr n ↦ absurd (both off (and_parts (eqb c 10) (leb j 4) n).0)
 ]
 
-end_digit : (j c : ℕ) → ends_count j c ≡ true → is_ascii_digit c ≡ false
+pub end_digit : (j c : ℕ) → ends_count j c ≡ true → is_ascii_digit c ≡ false
 end_digit j c e = elim (or_cases (eqb c 32 && ltb 0 j) (eqb c 10 && leb j 4) e) [
   | inl s ↦ rw (eqb-true c 32 (and_parts (eqb c 32) (ltb 0 j) s).0) refl
   | inr n ↦ rw (eqb-true c 10 (and_parts (eqb c 10) (leb j 4) n).0) refl

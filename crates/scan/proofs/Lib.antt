@@ -8,3 +8,4 @@ pub mod WordLaws
 pub mod ListLaws
 pub mod SignedLaws
 pub mod CountLaws
+pub mod CountFaults

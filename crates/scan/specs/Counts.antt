@@ -1,8 +1,11 @@
 -- The counts of a header.
-use Rattle.std.specs.Prelude.{◌≡◌, ℕ, ◌-◌, ◌≤◌, Bool, ◌&&◌, ◌||◌, zero, suc, All, List, [], ◌∷◌, ◌++◌, length, replicate, decimal, Some, nat_lt, nat_le, ◌==◌, if◌then◌else◌}
+use Rattle.std.specs.Prelude.{◌≡◌, ℕ, ◌-◌, ◌<◌, ◌≤◌, Bool, ◌&&◌, ◌||◌, zero, suc, All, List, [], ◌∷◌, ◌++◌, length, replicate, decimal, Some, None, nat_lt, nat_le, ◌==◌, if◌then◌else◌}
 use Rattle.std.specs.List.{flat_map}
 use Rattle.scan.specs.Reading.{◌>>=◌, Read}
 use Rattle.scan.specs.Words.{any, word_at}
+use Rattle.scan.specs.declared.fault.Fault.{Fault}
+use Rattle.scan.specs.declared.fault.Kinds.{Kinds}
+use Rattle.scan.specs.Refusals.{word_fault}
 
 -- what may end a count that at most k others follow, of which four may be left out
 abbrev pub ends_count : ℕ → ℕ → Bool
@@ -27,3 +30,13 @@ pub record IsCounts (limit : ℕ) (text counts : List ℕ) : Type 0 where
   pub within : All (λ n. n ≤ limit) written
   pub padded : counts ≡ written ++ replicate (8 - length written) 0
   pub spells : text ≡ flat_map spaced written ++ 10 ∷ []
+
+-- the fault is that of the first count that is missing, over its limit, or followed by a byte that may not end it
+pub record IsCountsFault {K : Type 0} (kinds : Kinds K) (limit : ℕ) (text : List ℕ) (e : Fault K) : Type 0 where
+  pub before : List ℕ
+  pub rest : List ℕ
+  pub few : length before < 8
+  pub within : All (λ n. n ≤ limit) before
+  pub begins : text ≡ flat_map (λ n. decimal n ++ 32 ∷ []) before ++ rest
+  pub none : word_at limit any (ends_count (7 - length before)) rest ≡ None
+  pub fault : e ≡ word_fault kinds limit rest

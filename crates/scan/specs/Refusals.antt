@@ -1,5 +1,5 @@
 -- Which fault is told, and at which place.
-use Rattle.std.specs.Prelude.{◌≡◌, ℕ, ◌<◌, ◌≤◌, List, [], ◌∷◌, ◌++◌, length, take, get_or, Result, Ok, Err, Some, None, if◌then◌else◌}
+use Rattle.std.specs.Prelude.{◌≡◌, ℕ, ◌<◌, ◌≤◌, List, [], ◌∷◌, ◌++◌, length, take, get_or, Result, Ok, Err, Some, None, if◌then◌else◌, ◌==◌}
 use Rattle.scan.specs.declared.fault.Fault.{Fault}
 use Rattle.scan.specs.declared.fault.Fault.TheVariants.{Memory, Text}
 use Rattle.scan.specs.declared.fault.Kinds.{Kinds}
@@ -35,6 +35,16 @@ fault_behind kinds text (Some n) = byte_fault kinds n.1
 -- what is told of a text with no number and byte behind it
 abbrev pub word_fault : {K : Type 0} → Kinds K → ℕ → List ℕ → Fault K
 word_fault kinds limit text = fault_behind kinds text (number_at limit text)
+
+-- what is reported of a text with no number behind a minus, which stands at the place from which left bytes are left
+abbrev pub fault_behind_minus : {K : Type 0} → Kinds K → ℕ → List ℕ → Read ℕ → Fault K
+fault_behind_minus kinds left text None = number_fault kinds left text
+fault_behind_minus kinds left text (Some n) = if n.0 == 0 then Text kinds.number left else byte_fault kinds n.1
+
+-- what is reported of a text with no signed number and byte behind it: a fault of a number with a minus has the place of the minus
+abbrev pub signed_fault : {K : Type 0} → Kinds K → ℕ → List ℕ → Fault K
+signed_fault kinds limit [] = word_fault kinds limit []
+signed_fault kinds limit (c ∷ cs) = if c == 45 then fault_behind_minus kinds (length (c ∷ cs)) cs (number_at limit cs) else word_fault kinds limit (c ∷ cs)
 
 -- the fault is that of the first byte that differs
 pub record IsTagFault {K : Type 0} (kinds : Kinds K) (wanted text : List ℕ) (e : Fault K) : Type 0 where

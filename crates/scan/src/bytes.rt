@@ -26,7 +26,7 @@ pub fn byte<K: Copy>(text: &[u8], wanted: u8, kinds: Kinds<K>) -> Result<&[u8], 
     }
 }
 
-/// What follows these bytes. A fault is told at the first byte that differs.
+/// What follows these bytes. A fault is reported at the first byte that differs.
 pub fn tag<'a, K: Copy>(
     text: &'a [u8],
     wanted: &[u8],

@@ -1,10 +1,10 @@
 //! The counts of a header.
 
-ghost use Rattle.std.specs.Prelude.{◌≡◌, ◌-◌, ◌<◌, ◌≤◌, All, IfOk, length};
+ghost use Rattle.std.specs.Prelude.{◌≡◌, ◌-◌, ◌<◌, ◌≤◌, All, IfErr, IfOk, length};
 ghost use Rattle.scan.specs.Reading.{Gives};
-ghost use Rattle.scan.specs.Refusals.{IsPlaced};
+ghost use Rattle.scan.specs.Refusals.{IsPlaced, word_fault};
 ghost use Rattle.scan.specs.Words.{any, word_at};
-ghost use Rattle.scan.specs.Counts.{counts_at, ends_count};
+ghost use Rattle.scan.specs.Counts.{IsCountsFault, counts_at, ends_count};
 
 use crate::fault::{Fault, Kinds};
 use crate::numbers::number;
@@ -27,6 +27,7 @@ fn count<K: Copy>(
     ensures value { Gives (λ x. ((x.0, x.1), x.2.now)) result (word_at limit any (ends_count (7 - i)) text.now) }
     ensures within { IfOk result (λ x. x.0 ≤ limit) }
     ensures shorter { IfOk result (λ x. length x.2.now ≤ length text.now) }
+    ensures refusal { IfErr result (λ e. e ≡ word_fault kinds limit text.now) }
     ensures place { IsPlaced text.now result }
 {
     let (count, rest) = number(text, limit, kinds)?;
@@ -46,7 +47,7 @@ fn count<K: Copy>(
 
 /// The counts that follow the first number of an AIGER header and its space: four to eight of at
 /// most `limit`, a space between them and a line end behind the last, and 0 for each that is left
-/// out (AIGER 1.9). A byte that may not end a count is told as `kinds.byte`.
+/// out (AIGER 1.9). A byte that may not end a count is reported as `kinds.byte`.
 pub fn counts<K: Copy>(
     text: &[u8],
     limit: u32,
@@ -54,6 +55,7 @@ pub fn counts<K: Copy>(
 ) -> Result<([u32; 8], &[u8]), Fault<K>>
     ensures value { Gives (λ x. (x.0, x.1.now)) result (counts_at limit 8 text.now) }
     ensures within { IfOk result (λ x. All (λ n. n ≤ limit) x.0) }
+    ensures refusal { IfErr result (λ e. IsCountsFault kinds limit text.now e) }
     ensures place { IsPlaced text.now result }
 {
     let mut counts = [0; MOST];

@@ -41,7 +41,7 @@ pub trait ItemKind {
 
 /// The items before the first end, and what follows that. The list grows item by item. Where each
 /// item takes a byte, as it should, every refusal is one of `item`; items that take none would
-/// never come to an end, and `endless` is told of them at the text's end.
+/// never come to an end, and `endless` is reported at the text's end.
 pub fn items<L: ItemKind>(
     alloc: Global,
     text: &[u8],

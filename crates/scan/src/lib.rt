@@ -7,8 +7,8 @@
 //!
 //! - `number`, `byte`, `tag`, `field`, `word` read numbers in canonical decimal and the bytes
 //!   between them, `signed` a number of an LRAT text, `counts` the counts of an AIGER header. None
-//!   of them wants memory, every place is in the text (`place`), and the first five tell exactly
-//!   the fault that their clause `refusal` names.
+//!   of them takes memory, every place is in the text (`place`), and each reports exactly the fault
+//!   that its clause `refusal` names.
 //! - `lines` reads as many lines of one `LineKind` as a count says, `items` the items of one
 //!   `ItemKind` up to their end.
 //!

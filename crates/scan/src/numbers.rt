@@ -70,7 +70,7 @@ pub(crate) fn number_from<K: Copy>(
 }
 
 /// The number that the text begins with, of at most `limit`, and what follows it: the longest run
-/// of digits, of which no 0 stands before another. Every fault of it is told at its first byte, in
+/// of digits, of which no 0 stands before another. Every fault of it is reported at its first byte, in
 /// one pass however long the run is.
 pub fn number<K: Copy>(text: &[u8], limit: u32, kinds: Kinds<K>) -> Result<(u32, &[u8]), Fault<K>>
     ensures value { Gives (λ x. (x.0, x.1.now)) result (number_at limit text.now) }

@@ -1,15 +1,16 @@
 //! Numbers with a sign, in a list that a 0 ends.
 
-ghost use Rattle.std.specs.Prelude.{◌≡◌, ◌<◌, length};
+ghost use Rattle.std.specs.Prelude.{◌≡◌, ◌<◌, length, IfErr};
 ghost use Rattle.scan.specs.Reading.{Gives};
-ghost use Rattle.scan.specs.Refusals.{IsPlaced, IsWithin};
+ghost use Rattle.scan.specs.Refusals.{IsPlaced, IsWithin, fault_behind_minus, signed_fault, word_fault};
+ghost use Rattle.scan.specs.Numbers.{number_at};
 ghost use Rattle.scan.specs.Signed.{negative_at, positive_at, signed_at};
 
 use crate::bytes::byte;
 use crate::fault::{Fault, Kinds};
 use crate::numbers::{number, number_from};
 
-/// What follows a minus. A fault of the number is told at the minus, where the number begins.
+/// What follows a minus. A fault of the number is reported at the minus, where the number begins.
 fn negative<K: Copy>(
     text: &[u8],
     left: usize,
@@ -17,6 +18,7 @@ fn negative<K: Copy>(
     kinds: Kinds<K>,
 ) -> Result<(Option<i64>, &[u8]), Fault<K>>
     ensures value { Gives (λ x. (x.0, x.1.now)) result (negative_at limit text.now) }
+    ensures refusal { IfErr result (λ e. e ≡ fault_behind_minus kinds left text.now (number_at limit text.now)) }
     ensures place { length text.now < left → IsWithin left result }
 {
     let (size, rest) = number_from(text, left, limit, kinds)?;
@@ -38,6 +40,7 @@ fn positive<K: Copy>(
     kinds: Kinds<K>,
 ) -> Result<(Option<i64>, &[u8]), Fault<K>>
     ensures value { Gives (λ x. (x.0, x.1.now)) result (positive_at limit end text.now) }
+    ensures refusal { IfErr result (λ e. e ≡ word_fault kinds limit text.now) }
     ensures place { IsPlaced text.now result }
 {
     let (value, rest) = number(text, limit, kinds)?;
@@ -51,7 +54,7 @@ fn positive<K: Copy>(
 
 /// A number other than 0 of at most `limit` on either side, which a space follows, or none for the
 /// 0 that ends a list, which `end` follows; and what follows that (LRAT, 2017). A digit from 1 to 9
-/// has to follow a minus, and every fault of such a number is told at its minus.
+/// has to follow a minus, and every fault of such a number is reported at its minus.
 pub fn signed<K: Copy>(
     text: &[u8],
     limit: u32,
@@ -59,6 +62,7 @@ pub fn signed<K: Copy>(
     kinds: Kinds<K>,
 ) -> Result<(Option<i64>, &[u8]), Fault<K>>
     ensures value { Gives (λ x. (x.0, x.1.now)) result (signed_at limit end text.now) }
+    ensures refusal { IfErr result (λ e. e ≡ signed_fault kinds limit text.now) }
     ensures place { IsPlaced text.now result }
 {
     match text {

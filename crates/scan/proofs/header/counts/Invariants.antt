@@ -1,6 +1,7 @@
 use Rattle.std.proofs.Common.{◌≡◌, ◌-◌, length, take, drop, replicate, All, ◌≤◌}
 use Rattle.scan.specs.Counts.{counts_at}
 use Rattle.scan.proofs.Loops.{with_front}
+use Rattle.scan.proofs.CountFaults.{IsBehind}
 use Rattle.scan.proofs.header.counts.Given as goal
 
 abbrev pub invariant-loop-i : goal.invariant-loop-i
@@ -10,3 +11,4 @@ invariant-loop-i g l =
     × (length l.counts ≡ 8)
     × All (λ n. n ≤ l.limit) l.counts
     × (length l.rest ≤ length l.text)
+    × IsBehind l.limit l.i l.text l.rest
