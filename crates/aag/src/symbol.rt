@@ -70,36 +70,23 @@ fn add_symbol<'a, L: Copy>(
 {
     let (kind, digits) = kind::<L>(text)?;
     let (position, behind) = number(digits, u32::MAX, Refusal::<L>::IN_SYMBOL)?;
-    let not_free = Fault::Text {
-        kind: Refusal::Symbol,
-        left: digits.len(),
-    };
-    match label::<L>(alloc, behind) {
-        Ok((name, rest)) => {
-            let symbol = Symbol {
-                kind,
-                position,
-                name,
-            };
-            if symbols.add(symbol)? {
-                Ok(rest)
-            } else {
-                Err(not_free)
-            }
-        }
-        Err(fault) => {
-            let symbol = Symbol {
-                kind,
-                position,
-                name: Seq::from_slice(alloc, b"?")?,
-            };
-            if symbols.add(symbol)? {
-                Err(fault)
-            } else {
-                Err(not_free)
-            }
-        }
+    if !symbols.is_free(kind, position) {
+        return Err(Fault::Text {
+            kind: Refusal::Symbol,
+            left: digits.len(),
+        });
     }
+    let (name, rest) = label::<L>(alloc, behind)?;
+    let symbol = Symbol {
+        kind,
+        position,
+        name,
+    };
+    if !symbols.add(symbol)? {
+        // it is free
+        unreachable!()
+    }
+    Ok(rest)
 }
 
 /// The symbols of these parts that the text begins with, and what follows the last one's line. A

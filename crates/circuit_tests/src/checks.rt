@@ -2,7 +2,7 @@
 
 use base::Refused;
 use certificate::Certificate;
-use checker::{CheckError, check};
+use checker::check;
 use graph::{AigerFile, Lit, Property, Seq};
 use lrat::Proof;
 use std::alloc::Global;
@@ -13,13 +13,18 @@ static HOLD: &[u8] = b"aag 1 0 1 0 0 1\n2 2\n2\n";
 
 /// What `check` says of a certificate for the latch that keeps its value, by number, place and
 /// section.
-fn refusal(alloc: Global, certificate: &[u8]) -> Option<(u8, u64, u64)> {
+fn refusal_of(alloc: Global, certificate: &Certificate) -> Option<(u8, u64, u64)> {
     let file: AigerFile = aiger::read(alloc, HOLD).ok()?;
-    let certificate = certificate::read(alloc, certificate).ok()?;
-    match check(alloc, file.model(), &certificate) {
+    match check(alloc, file.model(), certificate) {
         Ok(()) => None,
         Err(error) => Some((error.number(), error.place(), error.section())),
     }
+}
+
+/// The same of the certificate that a text spells.
+fn refusal(alloc: Global, text: &[u8]) -> Option<(u8, u64, u64)> {
+    let certificate = certificate::read(alloc, text).ok()?;
+    refusal_of(alloc, &certificate)
 }
 
 /// Certificates for the latch that keeps its value, with number, place and section of the refusal.
@@ -107,10 +112,7 @@ fn without_a_section(alloc: Global) -> Result<Certificate, Refused> {
 
 #[test]
 fn sections_are_counted(rt: HostRuntime) -> Result<(), Fail> {
-    let file = aiger::read(rt.alloc(), HOLD)?;
     let certificate = without_a_section(rt.alloc())?;
-    let answer = check(rt.alloc(), file.model(), &certificate);
-    assert_eq!(rt; answer, Err(CheckError::Sections { found: 2 }));
-    assert_eq!(rt; answer.map_err(CheckError::place), Err(2));
+    assert_eq!(rt; refusal_of(rt.alloc(), &certificate), Some((34, 2, 0)));
     Ok(())
 }

@@ -10,14 +10,8 @@ mod bounded;
 #[cfg(test)]
 mod inductive;
 #[cfg(test)]
-mod levels;
-#[cfg(test)]
 mod literals;
 #[cfg(test)]
 mod random_runs;
 #[cfg(test)]
 mod solvers;
-#[cfg(test)]
-mod trails;
-#[cfg(test)]
-mod transitions;

@@ -1,6 +1,6 @@
 //! Names of a circuit's literals.
 
-ghost use Rattle.std.specs.Prelude.{◌≡◌, ◌<◌, ◌++◌, ◌∷◌, [], ◌↔◌, false, map, replicate, length, slice_index_or, IsTrue, IfOk, OnOk, OnErr, MatchOption};
+ghost use Rattle.std.specs.Prelude.{◌≡◌, ◌<◌, ◌++◌, ◌∷◌, [], ◌↔◌, ℕ, List, false, map, replicate, length, slice_index_or, IsTrue, IfOk, OnOk, OnErr, MatchOption};
 ghost use Rattle.std.specs.Bool.{OnTrue, OnFalse};
 ghost use Rattle.std.specs.Mem.{type_size};
 ghost use Rattle.base.specs.Sizes.{IsItemSize};
@@ -134,6 +134,13 @@ impl Symbols {
             taken: marks_for(alloc, parts)?,
             symbols: Vec::new(alloc),
         })
+    }
+
+    /// Whether there is something of this kind at this position, and no symbol names it.
+    pub fn is_free(&self, kind: SymbolKind, position: u32) -> bool
+        ensures { (name : List ℕ) → IsTrue result ↔ IsFree self.now.counts self.now.symbols (record { kind = kind; position = position; name = name }) }
+    {
+        is_free(&self.taken, kind.index(), position as usize)
     }
 
     /// Adds a symbol at the end and answers true, where it names something that is there and that
