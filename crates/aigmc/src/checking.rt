@@ -1,6 +1,7 @@
 //! The command `check`.
 
 use crate::files::{circuit, keep, print};
+use crate::making::is_same;
 use crate::stop::Stop;
 use arguments::{EngineKind, Search};
 use base::{boxed, push};
@@ -56,6 +57,11 @@ fn report(
     print(rt, property, verdict)
 }
 
+/// Whether a certificate's file would be the circuit's, or the one that standard output goes to.
+fn is_taken(rt: &HostRuntime, circuit: &str, certificate: &str) -> bool {
+    is_same(rt, certificate, circuit) || is_same(rt, certificate, "/dev/stdout")
+}
+
 /// Looks for evidence about the property of this name, and reports the verdict.
 pub fn check(
     rt: &HostRuntime,
@@ -65,6 +71,9 @@ pub fn check(
     search: Search,
 ) -> Result<u8, Stop> {
     let property = property_named(property).ok_or(Stop::BadArgument)?;
+    if certificate.is_some_and(|out| is_taken(rt, name, out)) {
+        return Err(Stop::BadArgument);
+    }
     let file = circuit(rt, name)?;
     let verdict = ask(rt.alloc(), &file, property, search)?;
     report(rt, property, &verdict, certificate)

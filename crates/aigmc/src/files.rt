@@ -1,5 +1,6 @@
 //! The files that commands read and make.
 
+use crate::making::Making;
 use crate::stop::{Stop, finished};
 use base::buffered;
 use certificate::Certificate;
@@ -26,22 +27,39 @@ pub fn stimulus_of(rt: &HostRuntime, name: &str) -> Result<Stimulus, Stop> {
     Ok(stimulus)
 }
 
-/// Makes the file of this name, and puts the circuit's text to it.
-pub fn make(rt: &HostRuntime, name: &str, file: &AigerFile, layout: Layout) -> Result<(), Stop> {
-    let out = finished(File::create(rt, name))?;
+/// Writes the circuit's text to the file.
+fn write_circuit(
+    rt: &HostRuntime,
+    out: File,
+    file: &AigerFile,
+    layout: Layout,
+) -> Result<(), Stop> {
     let out = buffered(rt.alloc(), out)?;
     let mut out = ToWrite::new(out);
     put_file(file, layout, &mut out)?;
     finished(out.into_inner().flush())
 }
 
-/// Makes the file of this name, and puts the certificate's text to it.
-pub fn keep(rt: &HostRuntime, name: &str, certificate: &Certificate) -> Result<(), Stop> {
-    let out = finished(File::create(rt, name))?;
+/// Makes the file of this name with the circuit's text.
+pub fn make(rt: &HostRuntime, name: &str, file: &AigerFile, layout: Layout) -> Result<(), Stop> {
+    let (making, out) = Making::begin(rt, name)?;
+    let written = write_circuit(rt, out, file, layout);
+    making.end(rt, written)
+}
+
+/// Writes the certificate's text to the file.
+fn write_certificate(rt: &HostRuntime, out: File, certificate: &Certificate) -> Result<(), Stop> {
     let out = buffered(rt.alloc(), out)?;
     let mut out = ToWrite::new(out);
     put_certificate(certificate, &mut out).map_err(CliError::from)?;
     finished(out.into_inner().flush())
+}
+
+/// Makes the file of this name with the certificate's text.
+pub fn keep(rt: &HostRuntime, name: &str, certificate: &Certificate) -> Result<(), Stop> {
+    let (making, out) = Making::begin(rt, name)?;
+    let written = write_certificate(rt, out, certificate);
+    making.end(rt, written)
 }
 
 /// Prints the values in the replay of a stimulus.

@@ -3,7 +3,7 @@
 //! `aigmc convert FILE OUT` writes the circuit FILE (AIGER 1.9, binary where its second byte is `i`,
 //! else ASCII) to OUT: in ASCII where that ends in `.aag`, and in binary where it ends in `.aig`. For
 //! the binary layout a circuit that is not in its numbering is made smaller by structural hashing. OUT
-//! is made only after all reading; where writing fails it may hold a beginning.
+//! is the old file until the new one is whole.
 //!
 //! `aigmc sim FILE STIM` prints the values in the replay of the stimulus STIM, a line for each time:
 //! `TIME STATE INPUTS OUTPUTS BAD`, and `TIME STATE` for the state after the last; it looks at neither
@@ -14,8 +14,8 @@
 //! it holds, or `2` and P where nothing is known. `--engine` says what looks: `bmc`, bounded search through
 //! runs of at most `--depth` steps; `ic3`; `all`, the one and then the other, which is the default; or
 //! `random`, random simulation from `--seed`. `--budget` is how many steps the search may cost. With `--cert
-//! OUT` the certificate of a property that holds is written to OUT before anything is printed. What is
-//! said is `cli::decide`'s.
+//! OUT` the certificate of a property that holds is written to OUT before anything is printed; OUT may name neither the
+//! circuit's file nor the file that standard output goes to. What is said is `cli::decide`'s.
 //!
 //! The status of `check` is 0 where the property holds, 1 for a violation and 2 where nothing is known. Else
 //! the status is 0, and 3 where the command failed.
@@ -23,6 +23,7 @@
 
 mod checking;
 mod files;
+mod making;
 mod stop;
 
 use arguments::{Request, Wrong, parse};

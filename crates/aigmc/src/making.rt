@@ -1,0 +1,90 @@
+//! Files that are made whole or not at all.
+
+use crate::stop::{Stop, finished};
+use cli::CliError;
+use std::fs;
+use std::fs::{File, OpenOptions};
+use std::io::ErrorKind;
+use std::os::unix::fs::MetadataExt;
+
+/// How many names beside a file are tried.
+const NAMES: u32 = 100;
+
+/// A file that is being made.
+///
+/// What is written goes to a file beside it, which takes its name once it is whole. So the name is of the
+/// old file or of the whole new one, whatever happens. A device or a pipe is written to as it is.
+#[derive(Drop)]
+pub struct Making<'a> {
+    name: &'a str,
+    /// The name of the file beside it, where there is one.
+    beside: Option<String>,
+}
+
+/// Whether the name is of something that is no file: a device, a pipe or a folder.
+fn is_special(rt: &HostRuntime, name: &str) -> bool {
+    match fs::metadata(rt, name) {
+        Ok(found) => !found.is_file(),
+        Err(_) => false,
+    }
+}
+
+/// Whether two names are of one file.
+pub fn is_same(rt: &HostRuntime, one: &str, other: &str) -> bool {
+    match (fs::metadata(rt, one), fs::metadata(rt, other)) {
+        (Ok(one), Ok(other)) => {
+            one.is_file() && one.dev() == other.dev() && one.ino() == other.ino()
+        }
+        _ => false,
+    }
+}
+
+impl<'a> Making<'a> {
+    /// The file to write to. It is a new one, but for a device or a pipe.
+    pub fn begin(rt: &HostRuntime, name: &'a str) -> Result<(Making<'a>, File), Stop> {
+        if is_special(rt, name) {
+            let file = finished(File::create(rt, name))?;
+            return Ok((Making { name, beside: None }, file));
+        }
+        for number in 0..NAMES {
+            let beside = beside(rt, name, number)?;
+            let made = OpenOptions::new()
+                .write(true)
+                .create_new(true)
+                .open(rt, beside.as_str());
+            match made {
+                Err(error) if error.kind() == ErrorKind::AlreadyExists => {}
+                _ => {
+                    let file = finished(made)?;
+                    let beside = Some(beside);
+                    return Ok((Making { name, beside }, file));
+                }
+            }
+        }
+        Err(Stop::Refused(CliError::Device))
+    }
+
+    /// Gives what was written its name, where all was written; else takes it away.
+    pub fn end(self, rt: &HostRuntime, written: Result<(), Stop>) -> Result<(), Stop> {
+        let Making { name, beside } = self;
+        let Some(beside) = beside else {
+            return written;
+        };
+        let named = match written {
+            Ok(()) => finished(fs::rename(rt, beside.as_str(), name)),
+            Err(stop) => Err(stop),
+        };
+        if named.is_err() {
+            let _ = fs::remove_file(rt, beside.as_str());
+        }
+        named
+    }
+}
+
+/// A name beside this one.
+fn beside(rt: &HostRuntime, name: &str, number: u32) -> Result<String, Stop> {
+    match format!(in rt.alloc(); "{name}.part{number}") {
+        Ok(beside) => Ok(beside),
+        Err(_) => Err(Stop::Memory),
+    }
+}
