@@ -1,279 +1,219 @@
 -- What each change of the clauses in a `Stack` does to the shared ones and to those that are present.
-use Rattle.std.proofs.Common.{◌≡◌, ℕ, ◌<◌, ◌≤◌, Bool, true, false, not, ◌&&◌, cond, List, [], ◌∷◌, Option, None, Some, ℤ, nat_le, refl, sym, ◌∙◌, ap, subst, arith, inl, inr, IsSome, IsTrue, option_map, is_some, All, ◌++◌, length}
-use Rattle.std.specs.List.{Contains}
-use Rattle.std.proofs.lemmas.Bool.{leb-true, leb-false, lt-leb}
-use Rattle.std.specs.declared.cmp.Ordering.TheVariants.{Less, Equal, Greater}
-use Rattle.std.specs.Ordering.{nat_cmp, eq_by_cmp, is_eq}
-use Rattle.std.specs.Cmp.{nat_cmp_total, eq_by_cmp_equiv}
-use Rattle.std.specs.List.{list_any}
-use Rattle.std.specs.BTreeMap.{is_at}
-use Rattle.std.proofs.lemmas.List.Elements.{All-contains, All-nil, All-push, Contains-push, Contains-push_cases, Contains-append_left}
-use Rattle.lrat.proofs.Stored.{turned}
+use Rattle.std.proofs.Common.{◌≡◌, ◌≢◌, ℕ, zero, suc, ◌+◌, ◌<◌, ◌≤◌, Bool, true, false, List, [], ◌∷◌, ◌++◌, ℤ, refl, sym, ◌∙◌, ap, subst, arith, inl, inr, ◌⊎◌, All, Contains, length, take, map, get_or, set, get_or-set_other}
+use Rattle.std.proofs.lemmas.List.{take_all, take-map, take-append-le, take-set-le, map-append, length-map, length_push, length-set, length-take-le, get_or-take, get_or_past, get_or-set_same}
+use Rattle.std.proofs.lemmas.List.Elements.{All-contains, All-nil, All-push, All-take, Contains-push, Contains-push_cases, Contains-append_left}
+use Rattle.std.proofs.Math.Seq.{map-set_same}
 use Rattle.std.specs.FinMap as fin
-use Rattle.std.specs.FinMap.{nat_cmp-IsAntisymmetric}
-use Rattle.std.specs.BTreeSet.{BTreeSet, contains}
-use Rattle.lrat.specs.Store.{ById, Store}
-use Rattle.lrat.specs.Layers.{layers_of, bare, shared_of, present_of, DropsIds, AreLayered}
+use Rattle.lrat.specs.Store.{ById}
+use Rattle.lrat.specs.Slots.{Slot, Row, blank, ids_in, live_at, live_of, revived, IsRising}
+use Rattle.lrat.specs.Layers.{layers_of, bare, AreLayered, AreFresh}
 use Rattle.lrat.specs.Proofs.{numbered_from}
-use Rattle.lrat.proofs.Numbered.{get_removed, apart_keys, unused_next, numbered_above}
+use Rattle.lrat.proofs.Numbered.{take_next, numbered_next}
+use Rattle.lrat.proofs.Closing.{by_lt}
+use Rattle.lrat.proofs.Rising.{rising_push, rising_take, live_push, revived_all}
 
-same_key : (q k : ℕ) → eq_by_cmp nat_cmp q k ≡ true → q ≡ k
-same_key q k =
-    elim (nat_cmp q k) as (λ o. nat_cmp q k ≡ o → is_eq o ≡ true → q ≡ k) [
-      | Less ↦ λ e f. absurd (let g : false ≡ true = f in cc)
-      | Equal ↦ λ e f. nat_cmp-IsAntisymmetric q k e
-      | Greater ↦ λ e f. absurd (let g : false ≡ true = f in cc)
-    ] refl
+-- ---- slots one by one
 
-own_key : (q : ℕ) → eq_by_cmp nat_cmp q q ≡ true
-own_key q = (eq_by_cmp_equiv nat_cmp_total).refl q
+above_all : (xs : List ℕ) (top id : ℕ) → All (λ q. q ≤ top) xs → top < id → Contains xs id → ⊥
+above_all xs top id up lt has = let le : id ≤ top = All-contains (λ q. q ≤ top) xs id up has in omega arith
 
--- cases of two tests
-swapped : (p e : Bool) (x y : Option (List ℤ)) → (e ≡ true → p ≡ true) → cond p (cond e x y) None ≡ cond e x (cond p y None)
-swapped true e x y h = refl
-swapped false true x y h = absurd (let g : false ≡ true = h refl in cc)
-swapped false false x y h = refl
+higher : (xs : List ℕ) (a b : ℕ) → a ≤ b → All (λ q. q ≤ a) xs → All (λ q. q ≤ b) xs
+higher xs a b le up = λ k d lt. let u = up k d lt in omega arith
 
-passed : (p e : Bool) (x y : Option (List ℤ)) → (e ≡ true → p ≡ false) → cond p (cond e x y) None ≡ cond p y None
-passed true true x y h = absurd (let g : true ≡ false = h refl in cc)
-passed true false x y h = refl
-passed false e x y h = refl
+ids_push : (ss : List Slot) (s : Slot) → ids_in (ss ++ s ∷ []) ≡ ids_in ss ++ s.id ∷ []
+ids_push ss s = map-append (λ (t : Slot). t.id) ss (s ∷ [])
 
-crossed : (p e : Bool) (y : Option (List ℤ)) → cond p (cond e None y) None ≡ cond e None (cond p y None)
-crossed true e y = refl
-crossed false true y = refl
-crossed false false y = refl
+ids_set : (ss : List Slot) (i : ℕ) (s : Slot) → s.id ≡ (get_or ss i blank).id → ids_in (set ss i s) ≡ ids_in ss
+ids_set ss i s e = map-set_same (λ (t : Slot). t.id) ss i s blank e
 
-both : (e p : Bool) (y : Option (List ℤ)) → cond (not e && p) y None ≡ cond e None (cond p y None)
-both true p y = refl
-both false p y = refl
+ids_revived : (ss : List Slot) → ids_in (map revived ss) ≡ ids_in ss
+ids_revived [] = refl
+ids_revived (s ∷ ss) = ap (λ (xs : List ℕ). s.id ∷ xs) (ids_revived ss)
 
-once : (p : Bool) (y z : Option (List ℤ)) → z ≡ cond p y None → cond p z None ≡ z
-once true y z h = refl
-once false y z h = sym h
+live_push_at : (ss : List Slot) (s : Slot) (i : ℕ) → s.live ≡ true → live_at ss i ≡ true → live_at (ss ++ s ∷ []) i ≡ true
+live_push_at [] s zero on e = on
+live_push_at [] s (suc i) on e = refl
+live_push_at (t ∷ ss) s zero on e = e
+live_push_at (t ∷ ss) s (suc i) on e = live_push_at ss s i on e
 
-pub get_kept : (m : ById) (p : ℕ → Bool) (q : ℕ) → fin.get (fin.retain_keys m p) q ≡ cond (p q) (fin.get m q) None
-get_kept m p q = fin.get-retain_keys m p q (λ x e. ap p (sym (nat_cmp-IsAntisymmetric q x e)))
+live_push_below : (ss : List Slot) (s : Slot) (i : ℕ) → i < length ss → live_at (ss ++ s ∷ []) i ≡ live_at ss i
+live_push_below [] s i lt = absurd (omega arith)
+live_push_below (t ∷ ss) s zero lt = refl
+live_push_below (t ∷ ss) s (suc i) lt = live_push_below ss s i (omega arith)
 
-same_maps : (m n : ById) → ((q : ℕ) → fin.get m q ≡ fin.get n q) → m ≡ n
-same_maps m n h = fin.same_map nat_cmp_total nat_cmp-IsAntisymmetric m n h
+-- ---- a formula's clauses as they come
 
--- a clause whose id is kept
-pub kept_insert : (m : ById) (p : ℕ → Bool) (id : ℕ) (c : List ℤ) → p id ≡ true → fin.retain_keys (fin.insert m id c) p ≡ fin.insert (fin.retain_keys m p) id c
-kept_insert m p id c on = same_maps _ _ (λ q.
-    get_kept (fin.insert m id c) p q ∙ ap (λ x. cond (p q) x None) (fin.get-insert nat_cmp_total m id c q)
-    ∙ swapped (p q) (eq_by_cmp nat_cmp q id) (Some c) (fin.get m q) (λ e. ap p (same_key q id e) ∙ on)
-    ∙ ap (cond (eq_by_cmp nat_cmp q id) (Some c)) (sym (get_kept m p q)) ∙ sym (fin.get-insert nat_cmp_total (fin.retain_keys m p) id c q))
+pub fresh_none : AreFresh [] []
+fresh_none = record { present = refl; number = refl; rising = tt; up = All-nil (λ q. q ≤ 0); live = λ i. refl }
 
--- and one whose id is not
-pub lost_insert : (m : ById) (p : ℕ → Bool) (id : ℕ) (c : List ℤ) → p id ≡ false → fin.retain_keys (fin.insert m id c) p ≡ fin.retain_keys m p
-lost_insert m p id c off = same_maps _ _ (λ q.
-    get_kept (fin.insert m id c) p q ∙ ap (λ x. cond (p q) x None) (fin.get-insert nat_cmp_total m id c q)
-    ∙ passed (p q) (eq_by_cmp nat_cmp q id) (Some c) (fin.get m q) (λ e. ap p (same_key q id e) ∙ off) ∙ sym (get_kept m p q))
-
-pub lost_remove : (m : ById) (p : ℕ → Bool) (id : ℕ) → p id ≡ false → fin.retain_keys (fin.remove m id) p ≡ fin.retain_keys m p
-lost_remove m p id off = same_maps _ _ (λ q.
-    get_kept (fin.remove m id) p q ∙ ap (λ x. cond (p q) x None) (fin.get-remove nat_cmp_total m id q)
-    ∙ passed (p q) (eq_by_cmp nat_cmp q id) None (fin.get m q) (λ e. ap p (same_key q id e) ∙ off) ∙ sym (get_kept m p q))
-
-pub kept_remove : (m : ById) (p : ℕ → Bool) (id : ℕ) → fin.retain_keys (fin.remove m id) p ≡ fin.remove (fin.retain_keys m p) id
-kept_remove m p id = same_maps _ _ (λ q.
-    get_kept (fin.remove m id) p q ∙ ap (λ x. cond (p q) x None) (fin.get-remove nat_cmp_total m id q)
-    ∙ crossed (p q) (eq_by_cmp nat_cmp q id) (fin.get m q)
-    ∙ ap (cond (eq_by_cmp nat_cmp q id) None) (sym (get_kept m p q)) ∙ sym (fin.get-remove nat_cmp_total (fin.retain_keys m p) id q))
-
--- cases of a test of presence
-gone : (p : Bool) (y : Option (List ℤ)) → (p ≡ false → y ≡ None) → cond p y None ≡ y
-gone true y h = refl
-gone false y h = sym (h refl)
-
-above_mark : (q mark : ℕ) → nat_le q mark ≡ false → mark < q
-above_mark q mark e = leb-false q mark e
-
--- all clauses are shared where none is above the mark
-pub shared_all : (m : ById) (mark : ℕ) → ((q : ℕ) → mark < q → fin.get m q ≡ None) → shared_of m mark ≡ m
-shared_all m mark unused = same_maps _ _ (λ q. get_kept m (λ x. nat_le x mark) q ∙ gone (nat_le q mark) (fin.get m q) (λ e. unused q (above_mark q mark e)))
-
--- all clauses are present where none is hidden
-pub present_all : (m : ById) (hidden : BTreeSet ℕ) → ((q : ℕ) → contains nat_cmp hidden q ≡ false) → present_of m hidden ≡ m
-present_all m hidden none = same_maps _ _ (λ q. get_kept m (λ x. not (contains nat_cmp hidden x)) q ∙ gone (not (contains nat_cmp hidden q)) (fin.get m q) (λ e. let f = none q in cc))
-
--- a set without keys has none
-pub no_key : (s : BTreeSet ℕ) → s.keys ≡ [] → (q : ℕ) → contains nat_cmp s q ≡ false
-no_key s e q = ap (list_any (is_at (nat_cmp q))) e
-
--- an id above the mark is not hidden
-pub shown_above : (hidden : BTreeSet ℕ) (mark id : ℕ) → ((q : ℕ) → IsTrue (contains nat_cmp hidden q) → q ≤ mark) → mark < id → contains nat_cmp hidden id ≡ false
-shown_above hidden mark id below above =
-    elim (contains nat_cmp hidden id) as (λ b. contains nat_cmp hidden id ≡ b → b ≡ false) [
-      | true ↦ λ e. absurd (let le : id ≤ mark = below id e in omega (arith, le, above))
-      | false ↦ λ e. refl
-    ] refl
-
--- which clause is present under an id
-pub get_present : (m : ById) (hidden : BTreeSet ℕ) (id : ℕ) → contains nat_cmp hidden id ≡ false → fin.get (present_of m hidden) id ≡ fin.get m id
-get_present m hidden id off = get_kept m (λ x. not (contains nat_cmp hidden x)) id ∙ ap (λ b. cond (not b) (fin.get m id) None) off
-
-pub get_hidden : (m : ById) (hidden : BTreeSet ℕ) (id : ℕ) → contains nat_cmp hidden id ≡ true → fin.get (present_of m hidden) id ≡ None
-get_hidden m hidden id on = get_kept m (λ x. not (contains nat_cmp hidden x)) id ∙ ap (λ b. cond (not b) (fin.get m id) None) on
-
--- a clause of the refutation's own is added, and is taken out
-pub added_shared : (m : ById) (mark id : ℕ) (c : List ℤ) → mark < id → shared_of (fin.insert m id c) mark ≡ shared_of m mark
-added_shared m mark id c above = lost_insert m (λ q. nat_le q mark) id c (lt-leb id mark above)
-
-pub added_present : (m : ById) (hidden : BTreeSet ℕ) (id : ℕ) (c : List ℤ) → contains nat_cmp hidden id ≡ false → present_of (fin.insert m id c) hidden ≡ fin.insert (present_of m hidden) id c
-added_present m hidden id c off = kept_insert m (λ q. not (contains nat_cmp hidden q)) id c (ap not off)
-
-pub dropped_shared : (m : ById) (mark id : ℕ) → mark < id → shared_of (fin.remove m id) mark ≡ shared_of m mark
-dropped_shared m mark id above = lost_remove m (λ q. nat_le q mark) id (lt-leb id mark above)
-
-pub dropped_present : (m : ById) (hidden : BTreeSet ℕ) (id : ℕ) → present_of (fin.remove m id) hidden ≡ fin.remove (present_of m hidden) id
-dropped_present m hidden id = kept_remove m (λ q. not (contains nat_cmp hidden q)) id
-
-absent_too : (e : Bool) (y : Option (List ℤ)) → (e ≡ true → y ≡ None) → cond e None y ≡ y
-absent_too true y h = sym (h refl)
-absent_too false y h = refl
-
--- nothing changes where an absent id is taken out
-pub remove_absent : (m : ById) (id : ℕ) → fin.get m id ≡ None → fin.remove m id ≡ m
-remove_absent m id none = same_maps _ _ (λ q.
-    fin.get-remove nat_cmp_total m id q ∙ absent_too (eq_by_cmp nat_cmp q id) (fin.get m q) (λ e. ap (fin.get m) (same_key q id e) ∙ none))
-
-hidden_too : (e p : Bool) (y : Option (List ℤ)) → cond (not (cond e true p)) y None ≡ cond e None (cond (not p) y None)
-hidden_too true p y = refl
-hidden_too false p y = refl
-
--- a shared clause is taken out for now
-pub hides : (m : ById) (old new : BTreeSet ℕ) (id : ℕ) → ((q : ℕ) → contains nat_cmp new q ≡ cond (is_at (nat_cmp id) q) true (contains nat_cmp old q)) → present_of m new ≡ fin.remove (present_of m old) id
-hides m old new id up = same_maps _ _ (λ q.
-    get_kept m (λ x. not (contains nat_cmp new x)) q
-    ∙ ap (λ b. cond (not b) (fin.get m q) None) (up q ∙ ap (λ b. cond b true (contains nat_cmp old q)) (turned id q))
-    ∙ hidden_too (eq_by_cmp nat_cmp q id) (contains nat_cmp old q) (fin.get m q)
-    ∙ ap (cond (eq_by_cmp nat_cmp q id) None) (sym (get_kept m (λ x. not (contains nat_cmp old x)) q)) ∙ sym (fin.get-remove nat_cmp_total (present_of m old) id q))
-
-below_cond : (e p : Bool) (mark q id : ℕ) → (e ≡ true → q ≡ id) → id ≤ mark → (IsTrue p → q ≤ mark) → IsTrue (cond e true p) → q ≤ mark
-below_cond true p mark q id same le old t = subst (λ x. x ≤ mark) (sym (same refl)) le
-below_cond false p mark q id same le old t = old t
-
--- what is hidden stays shared
-pub hides_below : (old new : BTreeSet ℕ) (id mark : ℕ) → ((q : ℕ) → contains nat_cmp new q ≡ cond (is_at (nat_cmp id) q) true (contains nat_cmp old q)) → id ≤ mark → ((q : ℕ) → IsTrue (contains nat_cmp old q) → q ≤ mark) → (q : ℕ) → IsTrue (contains nat_cmp new q) → q ≤ mark
-hides_below old new id mark up le below q t =
-    below_cond (eq_by_cmp nat_cmp q id) (contains nat_cmp old q) mark q id (same_key q id) le (below q)
-    (subst IsTrue (up q ∙ ap (λ b. cond b true (contains nat_cmp old q)) (turned id q)) t)
-
-some_kept : (e : Bool) (y : Option (List ℤ)) → IsSome (cond e None y) → IsSome y
-some_kept true y t = absurd (let f : false ≡ true = t in cc)
-some_kept false y t = t
-
--- a removal makes no clause present
-pub get_some : (m : ById) (id q : ℕ) → IsSome (fin.get (fin.remove m id) q) → IsSome (fin.get m q)
-get_some m id q t = some_kept (eq_by_cmp nat_cmp q id) (fin.get m q) (subst IsSome (fin.get-remove nat_cmp_total m id q) t)
-
-some_new : (e : Bool) (c : List ℤ) (y : Option (List ℤ)) {P : Type 0} → (e ≡ true → P) → (IsSome y → P) → IsSome (cond e (Some c) y) → P
-some_new true c y p r t = p refl
-some_new false c y p r t = r t
-
--- each id above the mark stays listed
-pub listed_more : (m : ById) (id : ℕ) (c : List ℤ) (own : List ℕ) (mark : ℕ) → ((q : ℕ) → mark < q → IsSome (fin.get m q) → Contains own q) → (q : ℕ) → mark < q → IsSome (fin.get (fin.insert m id c) q) → Contains (own ++ id ∷ []) q
-listed_more m id c own mark listed q above t =
-    some_new (eq_by_cmp nat_cmp q id) c (fin.get m q) {P = Contains (own ++ id ∷ []) q} (λ e. subst (Contains (own ++ id ∷ [])) (sym (same_key q id e)) (Contains-push own id))
-    (λ u. Contains-append_left own (id ∷ []) q (listed q above u)) (subst IsSome (fin.get-insert nat_cmp_total m id c q) t)
-
--- one id more is dropped
-pub drops_more : (m n : ById) (ids : List ℕ) (id : ℕ) → DropsIds m n ids → DropsIds m (fin.remove n id) (ids ++ id ∷ [])
-drops_more m n ids id d = record {
-  gone = λ q has. elim (Contains-push_cases ids id q has) [
-    | inl old ↦ get_removed n id q (d.gone q old)
-    | inr same ↦ subst (λ x. fin.get (fin.remove n id) x ≡ None) same (fin.get-remove nat_cmp_total n id id ∙ ap (λ b. cond b None (fin.get n id)) (own_key id))
-  ];
-  kept = λ q lacks. fin.get-remove nat_cmp_total n id q
-      ∙ ap (λ b. cond b None (fin.get n q)) (apart_keys q id (λ e. lacks (subst (Contains (ids ++ id ∷ [])) (sym e) (Contains-push ids id))))
-      ∙ d.kept q (λ has. lacks (Contains-append_left ids (id ∷ []) q has));
-  fewer = λ q none. get_removed n id q (d.fewer q none);
-}
-
-none_in : (q : ℕ) → Contains [] q → ⊥
-none_in q (k, lt, at) = omega arith
-
--- none is dropped
-pub drops_none : (m : ById) → DropsIds m m []
-drops_none m = record { gone = λ q has. absurd (none_in q has); kept = λ q lacks. refl; fewer = λ q none. none }
-
-same_when : (p : Bool) (x y : Option (List ℤ)) → (p ≡ true → x ≡ y) → cond p x None ≡ cond p y None
-same_when true x y h = h refl
-same_when false x y h = refl
-
-below_own : (q mark : ℕ) (own : List ℕ) → All (λ k. mark < k) own → nat_le q mark ≡ true → Contains own q → ⊥
-below_own q mark own above e has =
-    let lt : mark < q = All-contains (λ k. mark < k) own q above has in
-    let le : q ≤ mark = leb-true q mark e in
-    omega arith
-
--- the shared clauses stay where the others are dropped
-pub rewound_shared : (m n : ById) (mark : ℕ) (own : List ℕ) → All (λ q. mark < q) own → DropsIds m n own → shared_of n mark ≡ shared_of m mark
-rewound_shared m n mark own above d = same_maps _ _ (λ q.
-    get_kept n (λ x. nat_le x mark) q ∙ same_when (nat_le q mark) (fin.get n q) (fin.get m q) (λ e. d.kept q (below_own q mark own above e))
-    ∙ sym (get_kept m (λ x. nat_le x mark) q))
-
--- and then there are no others
-pub rewound_unused : (m n : ById) (mark : ℕ) (own : List ℕ) → ((q : ℕ) → mark < q → IsSome (fin.get m q) → Contains own q) → DropsIds m n own → (q : ℕ) → mark < q → fin.get n q ≡ None
-rewound_unused m n mark own listed d q above =
-    elim (fin.get m q) as (λ o. fin.get m q ≡ o → fin.get n q ≡ None) [
-      | None ↦ λ e. d.fewer q e
-      | Some c ↦ λ e. d.gone q (listed q above (subst IsSome (sym e) refl))
-    ] refl
-
--- a stack after a change of its clauses, or of what is hidden
-pub changed_layers : (s t : Store) (mark : ℕ) (h k : BTreeSet ℕ) (top new : ℕ) (m : ById) → t.vars ≡ s.vars → shared_of t.by_id mark ≡ shared_of s.by_id mark → present_of t.by_id k ≡ m → layers_of t mark k new ≡ record { base = (layers_of s mark h top).base; present = m; top = new }
-changed_layers s t mark h k top new m v sh pr = λ i. record { base = record { vars = v i; present = sh i; top = mark }; present = pr i; top = new }
-
-pub added_layered : (m : ById) (mark : ℕ) (own : List ℕ) (hidden : BTreeSet ℕ) (top id : ℕ) (c : List ℤ) → AreLayered m mark own hidden top → top < id → AreLayered (fin.insert m id c) mark (own ++ id ∷ []) hidden id
-added_layered m mark own hidden top id c old lt =
-    let low = old.low in
+pub fresh_next : (cs : List (List ℤ)) (i : ℕ) (ss : List Slot) → i < length cs → AreFresh ss (take i cs) → AreFresh (ss ++ record { id = i + 1; live = true; clause = get_or cs i [] } ∷ []) (take (i + 1) cs)
+fresh_next cs i ss lt f =
+    let s : Slot = record { id = i + 1; live = true; clause = get_or cs i [] } in
+    let n : length (take i cs) ≡ i = length-take-le i cs (omega arith) in
+    let more : length (take (i + 1) cs) ≡ i + 1 = length-take-le (i + 1) cs (omega arith) in
+    let up : All (λ q. q ≤ i) (ids_in ss) = higher (ids_in ss) (length (take i cs)) i (omega arith) f.up in
     record {
-      low = omega (arith, low, lt);
-      unused = unused_next m top id c lt old.unused;
-      above = All-push (λ q. mark < q) own id old.above (omega (arith, low, lt));
-      listed = listed_more m id c own mark old.listed;
-      below = old.below;
+      present = live_push ss (i + 1) (get_or cs i []) (above_all (ids_in ss) i (i + 1) up (omega arith)) ∙ numbered_next cs i (live_of ss) lt f.present;
+      number = length_push ss s ∙ (let e = f.number in omega arith);
+      rising = subst (IsRising 0) (sym (ids_push ss s)) (rising_push 0 (ids_in ss) (i + 1) f.rising (omega arith) (λ k d lk. let u = up k d lk in omega arith));
+      up = subst (All (λ q. q ≤ length (take (i + 1) cs))) (sym (ids_push ss s)) (All-push (λ q. q ≤ length (take (i + 1) cs)) (ids_in ss) (i + 1) (higher (ids_in ss) i (length (take (i + 1) cs)) (omega arith) up) (omega arith));
+      live = λ k. live_push_at ss s k refl (f.live k);
     }
 
-pub dropped_layered : (m : ById) (mark : ℕ) (own : List ℕ) (hidden : BTreeSet ℕ) (top id : ℕ) → AreLayered m mark own hidden top → AreLayered (fin.remove m id) mark own hidden top
-dropped_layered m mark own hidden top id old = record {
-  low = old.low;
-  unused = λ q above. get_removed m id q (old.unused q above);
-  above = old.above;
-  listed = λ q above t. old.listed q above (get_some m id q t);
-  below = old.below;
-}
-
-pub rewound_layers : (s t : Store) (mark : ℕ) (own : List ℕ) (h k : BTreeSet ℕ) (top : ℕ) → AreLayered s.by_id mark own h top → t.vars ≡ s.vars → DropsIds s.by_id t.by_id own → k.keys ≡ [] → layers_of t mark k mark ≡ bare (layers_of s mark h top).base
-rewound_layers s t mark own h k top old v d none =
-    let same = rewound_shared s.by_id t.by_id mark own old.above d in
-    let all = shared_all t.by_id mark (rewound_unused s.by_id t.by_id mark own old.listed d) in
-    changed_layers s t mark h k top mark (shared_of s.by_id mark) v same (present_all t.by_id k (no_key k none) ∙ sym all ∙ same)
-
--- a formula's clauses as they come
-pub fresh_unused : (cs : List (List ℤ)) (m : ById) → m ≡ numbered_from 1 cs fin.empty → (q : ℕ) → length cs < q → fin.get m q ≡ None
-fresh_unused cs m is q above = ap (λ u. fin.get u q) is ∙ numbered_above 1 cs fin.empty q (fin.get-empty nat_cmp q) (omega arith)
-
-pub fresh_layered : (cs : List (List ℤ)) (m : ById) (own : List ℕ) (k : BTreeSet ℕ) → m ≡ numbered_from 1 cs fin.empty → own ≡ [] → k.keys ≡ [] → AreLayered m (length cs) own k (length cs)
-fresh_layered cs m own k is none empty = record {
+pub fresh_layered : (ss : List Slot) (cs : List (List ℤ)) (hidden : List ℕ) → AreFresh ss cs → hidden ≡ [] → AreLayered ss (length cs) hidden (length cs)
+fresh_layered ss cs hidden f none = record {
   low = omega arith;
-  unused = fresh_unused cs m is;
-  above = subst (All (λ q. length cs < q)) (sym none) (All-nil (λ q. length cs < q));
-  listed = λ q above t. absurd (let e : false ≡ true = subst IsSome (fresh_unused cs m is q above) t in cc);
-  below = λ q t. absurd (let e : false ≡ true = sym (no_key k empty q) ∙ t in cc);
+  shared = let e = f.number in omega arith;
+  rising = f.rising;
+  up = f.up;
+  shared_up = All-take (λ q. q ≤ length cs) (length cs) (ids_in ss) f.up;
+  within = subst (All (λ i. i < length cs)) (sym none) (All-nil (λ i. i < length cs));
+  listed = λ i lt off. absurd (let e : true ≡ false = sym (f.live i) ∙ off in cc);
 }
 
-pub fresh_layers : (s : Store) (cs : List (List ℤ)) (k : BTreeSet ℕ) → s.by_id ≡ numbered_from 1 cs fin.empty → k.keys ≡ [] → layers_of s (length cs) k (length cs) ≡ bare (record { vars = s.vars; present = numbered_from 1 cs fin.empty; top = length cs })
-fresh_layers s cs k is none = λ i. record {
-  base = record { vars = s.vars; present = (shared_all s.by_id (length cs) (fresh_unused cs s.by_id is) ∙ is) i; top = length cs };
-  present = (present_all s.by_id k (no_key k none) ∙ is) i;
-  top = length cs;
-}
+pub fresh_layers : (r : Row) (cs : List (List ℤ)) → AreFresh r.slots cs → layers_of r (length cs) (length cs) ≡ bare (record { vars = r.vars; present = numbered_from 1 cs fin.empty; top = length cs })
+fresh_layers r cs f =
+    let whole : take (length cs) r.slots ≡ r.slots = take_all (length cs) r.slots (let e = f.number in omega arith) in
+    let same : live_of (map revived (take (length cs) r.slots)) ≡ numbered_from 1 cs fin.empty = ap (λ (ss : List Slot). live_of (map revived ss)) whole ∙ ap live_of (revived_all r.slots f.live) ∙ f.present in
+    λ i. record { base = record { vars = r.vars; present = same i; top = length cs }; present = f.present i; top = length cs }
 
--- what a look-up of an absent id says
-pub absent_option : {T : Type 0} (f : T → List ℤ) (o : Option T) (r : Option (List ℤ)) → option_map f o ≡ r → is_some o ≡ false → r ≡ None
-absent_option f None r e n = sym e
-absent_option f (Some x) r e n = absurd (let g : true ≡ false = n in cc)
+-- ---- a stack after a change of its slots
+
+pub changed_layers : (r s : Row) (mark top new : ℕ) (m : ById) → s.vars ≡ r.vars → map revived (take mark s.slots) ≡ map revived (take mark r.slots) → live_of s.slots ≡ m → layers_of s mark new ≡ record { base = (layers_of r mark top).base; present = m; top = new }
+changed_layers r s mark top new m v sh pr = λ i. record { base = record { vars = v i; present = live_of (sh i); top = mark }; present = pr i; top = new }
+
+-- a clause of the refutation's own is added
+pub added_layered : (ss : List Slot) (mark : ℕ) (hidden : List ℕ) (top id : ℕ) (c : List ℤ) → AreLayered ss mark hidden top → top < id → AreLayered (ss ++ record { id = id; live = true; clause = c } ∷ []) mark hidden id
+added_layered ss mark hidden top id c old lt =
+    let s : Slot = record { id = id; live = true; clause = c } in
+    let low = old.low in
+    let shared : mark ≤ length ss = old.shared in
+    let e : ids_in (ss ++ s ∷ []) ≡ ids_in ss ++ id ∷ [] = ids_push ss s in
+    let n : length (ids_in ss) ≡ length ss = length-map ss (λ (t : Slot). t.id) in
+    record {
+      low = omega (arith, low, lt);
+      shared = omega (arith, length_push ss s);
+      rising = subst (IsRising 0) (sym e) (rising_push 0 (ids_in ss) id old.rising (omega arith) (λ k d lk. let u = old.up k d lk in omega arith));
+      up = subst (All (λ q. q ≤ id)) (sym e) (All-push (λ q. q ≤ id) (ids_in ss) id (higher (ids_in ss) top id (omega arith) old.up) (omega arith));
+      shared_up = subst (All (λ q. q ≤ mark)) (sym (ap (take mark) e ∙ take-append-le mark (ids_in ss) (id ∷ []) (omega arith))) old.shared_up;
+      within = old.within;
+      listed = λ i li off. old.listed i li (sym (live_push_below ss s i (omega arith)) ∙ off);
+    }
+
+pub added_shared : (ss : List Slot) (mark : ℕ) (hidden : List ℕ) (top : ℕ) (s : Slot) → AreLayered ss mark hidden top → map revived (take mark (ss ++ s ∷ [])) ≡ map revived (take mark ss)
+added_shared ss mark hidden top s old = ap (map revived) (take-append-le mark ss (s ∷ []) old.shared)
+
+pub added_present : (ss : List Slot) (mark : ℕ) (hidden : List ℕ) (top id : ℕ) (c : List ℤ) → AreLayered ss mark hidden top → top < id → live_of (ss ++ record { id = id; live = true; clause = c } ∷ []) ≡ fin.insert (live_of ss) id c
+added_present ss mark hidden top id c old lt = live_push ss id c (above_all (ids_in ss) top id old.up lt)
+
+-- a shared clause is taken out for now
+pub hidden_layered : (ss : List Slot) (mark : ℕ) (hidden : List ℕ) (top i : ℕ) (s : Slot) → AreLayered ss mark hidden top → i < mark → s.id ≡ (get_or ss i blank).id → AreLayered (set ss i s) mark (hidden ++ i ∷ []) top
+hidden_layered ss mark hidden top i s old lt same =
+    let e : ids_in (set ss i s) ≡ ids_in ss = ids_set ss i s same in
+    let shared : mark ≤ length ss = old.shared in
+    record {
+      low = old.low;
+      shared = omega (arith, length-set ss i s);
+      rising = subst (IsRising 0) (sym e) old.rising;
+      up = subst (All (λ q. q ≤ top)) (sym e) old.up;
+      shared_up = subst (λ xs. All (λ q. q ≤ mark) (take mark xs)) (sym e) old.shared_up;
+      within = All-push (λ k. k < mark) hidden i old.within lt;
+      listed = λ k lk off.
+          by_lt k i (λ less. others k lk off (λ f. omega arith))
+          (λ ge. by_lt i k (λ more. others k lk off (λ f. omega arith)) (λ le. let at : k ≡ i = omega arith in subst (Contains (hidden ++ i ∷ [])) (sym at) (Contains-push hidden i)));
+    }
+  where
+    others : (k : ℕ) → k < mark → live_at (set ss i s) k ≡ false → k ≢ i → Contains (hidden ++ i ∷ []) k
+    others k lk off ne = Contains-append_left hidden (i ∷ []) k (old.listed k lk (ap (λ (t : Slot). t.live) (sym (get_or-set_other ss i k s blank ne)) ∙ off))
+
+-- a clause of the refutation's own is taken out
+pub dropped_layered : (ss : List Slot) (mark : ℕ) (hidden : List ℕ) (top i : ℕ) (s : Slot) → AreLayered ss mark hidden top → mark ≤ i → s.id ≡ (get_or ss i blank).id → AreLayered (set ss i s) mark hidden top
+dropped_layered ss mark hidden top i s old le same =
+    let e : ids_in (set ss i s) ≡ ids_in ss = ids_set ss i s same in
+    let shared : mark ≤ length ss = old.shared in
+    record {
+      low = old.low;
+      shared = omega (arith, length-set ss i s);
+      rising = subst (IsRising 0) (sym e) old.rising;
+      up = subst (All (λ q. q ≤ top)) (sym e) old.up;
+      shared_up = subst (λ xs. All (λ q. q ≤ mark) (take mark xs)) (sym e) old.shared_up;
+      within = old.within;
+      listed = λ k lk off. old.listed k lk (ap (λ (t : Slot). t.live) (sym (get_or-set_other ss i k s blank (λ f. omega arith))) ∙ off);
+    }
+
+pub dropped_shared : (ss : List Slot) (mark i : ℕ) (s : Slot) → mark ≤ i → map revived (take mark (set ss i s)) ≡ map revived (take mark ss)
+dropped_shared ss mark i s le = ap (map revived) (take-set-le mark ss i s le)
+
+-- ---- back to the shared clauses
+
+rewound_live : (ss now : List Slot) (mark : ℕ) (hidden : List ℕ) (top : ℕ) → AreLayered ss mark hidden top
+    → ((i : ℕ) → live_at (take mark ss) i ≡ true ⊎ Contains hidden i → live_at now i ≡ true) → (i : ℕ) → live_at now i ≡ true
+rewound_live ss now mark hidden top old live i =
+    by_lt i mark
+    (λ lt. elim (live_at ss i) as (λ b. live_at ss i ≡ b → live_at now i ≡ true) [
+      | true ↦ λ e. live i (inl (ap (λ (t : Slot). t.live) (get_or-take mark ss i blank lt) ∙ e))
+      | false ↦ λ e. live i (inr (old.listed i lt e))
+    ] refl)
+    (λ ge. live i (inl (ap (λ (t : Slot). t.live) (get_or_past (take mark ss) i blank (let n : length (take mark ss) ≡ mark = length-take-le mark ss old.shared in omega arith)))))
+
+pub rewound_slots : (ss now : List Slot) (mark : ℕ) (hidden : List ℕ) (top : ℕ) → AreLayered ss mark hidden top → map revived now ≡ map revived (take mark ss)
+    → ((i : ℕ) → live_at (take mark ss) i ≡ true ⊎ Contains hidden i → live_at now i ≡ true) → now ≡ map revived (take mark ss)
+rewound_slots ss now mark hidden top old same live = sym (revived_all now (rewound_live ss now mark hidden top old live)) ∙ same
+
+pub rewound_layered : (ss now : List Slot) (mark : ℕ) (hidden left : List ℕ) (top : ℕ) → AreLayered ss mark hidden top → map revived now ≡ map revived (take mark ss)
+    → ((i : ℕ) → live_at (take mark ss) i ≡ true ⊎ Contains hidden i → live_at now i ≡ true) → left ≡ [] → AreLayered now mark left mark
+rewound_layered ss now mark hidden left top old same live none =
+    let is : now ≡ map revived (take mark ss) = rewound_slots ss now mark hidden top old same live in
+    let ids : ids_in now ≡ take mark (ids_in ss) = ap ids_in is ∙ ids_revived (take mark ss) ∙ sym (take-map (λ (t : Slot). t.id) mark ss) in
+    let n : length now ≡ mark = ap length is ∙ length-map (take mark ss) revived ∙ length-take-le mark ss old.shared in
+    let up : All (λ q. q ≤ mark) (ids_in now) = subst (All (λ q. q ≤ mark)) (sym ids) old.shared_up in
+    record {
+      low = omega arith;
+      shared = omega arith;
+      rising = subst (IsRising 0) (sym ids) (rising_take 0 mark (ids_in ss) old.rising);
+      up = up;
+      shared_up = All-take (λ q. q ≤ mark) mark (ids_in now) up;
+      within = subst (All (λ i. i < mark)) (sym none) (All-nil (λ i. i < mark));
+      listed = λ i lt off. absurd (let e : true ≡ false = sym (rewound_live ss now mark hidden top old live i) ∙ off in cc);
+    }
+
+twice_revived : (ss : List Slot) → map revived (map revived ss) ≡ map revived ss
+twice_revived [] = refl
+twice_revived (s ∷ ss) = ap (λ (ts : List Slot). revived s ∷ ts) (twice_revived ss)
+
+pub rewound_layers : (r s : Row) (mark : ℕ) (hidden : List ℕ) (top : ℕ) → AreLayered r.slots mark hidden top → s.vars ≡ r.vars → map revived s.slots ≡ map revived (take mark r.slots)
+    → ((i : ℕ) → live_at (take mark r.slots) i ≡ true ⊎ Contains hidden i → live_at s.slots i ≡ true) → layers_of s mark mark ≡ bare (layers_of r mark top).base
+rewound_layers r s mark hidden top old v same live =
+    let is : s.slots ≡ map revived (take mark r.slots) = rewound_slots r.slots s.slots mark hidden top old same live in
+    let n : length s.slots ≡ mark = ap length is ∙ length-map (take mark r.slots) revived ∙ length-take-le mark r.slots old.shared in
+    changed_layers r s mark top mark (live_of (map revived (take mark r.slots))) v (ap (map revived) (take_all mark s.slots (omega arith)) ∙ same) (ap live_of is)
+
+-- ---- hidden clauses come back, one by one
+
+pub same_length : (a b : List Slot) → map revived a ≡ map revived b → length a ≡ length b
+same_length a b e = sym (length-map a revived) ∙ ap length e ∙ length-map b revived
+
+pub revived_mark : (ss : List Slot) (j : ℕ) (b : Bool) → map revived (set ss j (record { id = (get_or ss j blank).id; live = b; clause = (get_or ss j blank).clause })) ≡ map revived ss
+revived_mark ss j b = map-set_same revived ss j (record { id = (get_or ss j blank).id; live = b; clause = (get_or ss j blank).clause }) blank refl
+
+apart_live : (ss : List Slot) (i j : ℕ) (s : Slot) → i ≢ j → live_at ss i ≡ true → live_at (set ss j s) i ≡ true
+apart_live ss i j s ne e = ap (λ (t : Slot). t.live) (get_or-set_other ss j i s blank ne) ∙ e
+
+pub revive_more : (old ss : List Slot) (js : List ℕ) (n : ℕ) (s : Slot) → n < length js → get_or js n 0 < length ss → s.live ≡ true
+    → ((i : ℕ) → live_at old i ≡ true ⊎ Contains (take n js) i → live_at ss i ≡ true)
+    → (i : ℕ) → live_at old i ≡ true ⊎ Contains (take (n + 1) js) i → live_at (set ss (get_or js n 0) s) i ≡ true
+revive_more old ss js n s lt fits on before i (inl e) =
+    let j : ℕ = get_or js n 0 in
+    by_lt i j (λ less. apart_live ss i j s (λ f. omega arith) (before i (inl e)))
+    (λ ge. by_lt j i (λ more. apart_live ss i j s (λ f. omega arith) (before i (inl e)))
+    (λ le. let at : j ≡ i = omega arith in subst (λ k. live_at (set ss j s) k ≡ true) at (ap (λ (t : Slot). t.live) (get_or-set_same ss j s blank fits) ∙ on)))
+revive_more old ss js n s lt fits on before i (inr has) =
+    let j : ℕ = get_or js n 0 in
+    let parts = subst (λ xs. Contains xs i) (take_next js n 0 lt) has in
+    elim (Contains-push_cases (take n js) j i parts) [
+      | inl earlier ↦
+          by_lt i j (λ less. apart_live ss i j s (λ f. omega arith) (before i (inr earlier)))
+          (λ ge. by_lt j i (λ more. apart_live ss i j s (λ f. omega arith) (before i (inr earlier)))
+          (λ le. let at : j ≡ i = omega arith in subst (λ k. live_at (set ss j s) k ≡ true) at (ap (λ (t : Slot). t.live) (get_or-set_same ss j s blank fits) ∙ on)))
+      | inr same ↦ subst (λ k. live_at (set ss j s) k ≡ true) same (ap (λ (t : Slot). t.live) (get_or-set_same ss j s blank fits) ∙ on)
+    ]

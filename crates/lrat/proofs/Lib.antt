@@ -6,10 +6,14 @@ pub mod Fit
 pub mod Looks
 pub mod Sound
 pub mod Stored
+pub mod Closing
+pub mod Placed
 pub mod Numbered
 pub mod Refuted
 pub mod Exact
 pub mod Sharing
+pub mod Maps
+pub mod Rising
 pub mod Layering
 pub mod Halting
 pub mod Refusing

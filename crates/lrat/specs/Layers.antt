@@ -1,11 +1,11 @@
 -- Clauses that several refutations share, under those of the one in progress.
-use Rattle.std.specs.Prelude.{◌≡◌, ℕ, ◌<◌, ◌≤◌, not, List, nat_le, Contains, All, None, IsSome, IsTrue, refl}
-use Rattle.std.specs.BTreeSet.{BTreeSet, contains}
-use Rattle.std.specs.Ordering.{nat_cmp}
+use Rattle.std.specs.Prelude.{◌≡◌, ℕ, ℤ, ◌<◌, ◌≤◌, true, false, List, map, take, length, get_or, Contains, All, Some, refl}
 use Rattle.std.specs.FinMap as fin
 use Rattle.lrat.specs.Literals.{Finder}
 use Rattle.std.specs.Coded.{Coded, code_by, coded×, coded_ℕ}
-use Rattle.lrat.specs.Store.{ById, by_id_code, Store}
+use Rattle.lrat.specs.Store.{ById, by_id_code}
+use Rattle.lrat.specs.Slots.{Row, Slot, blank, ids_in, live_at, live_of, revived, IsRising}
+use Rattle.lrat.specs.Proofs.{numbered_from}
 use Rattle.lrat.specs.Shared.{Base, base_code}
 
 -- the clauses that are shared, those that are present now, and the greatest id that was ever present
@@ -27,32 +27,34 @@ bare b = record { base = b; present = b.present; top = b.top }
 abbrev pub find_present : Layers → Finder
 find_present s id = fin.get s.present id
 
--- the clauses up to the id mark
-abbrev pub shared_of : ById → ℕ → ById
-shared_of m mark = fin.retain_keys m (λ q. nat_le q mark)
-
--- the clauses that are not hidden
-abbrev pub present_of : ById → BTreeSet ℕ → ById
-present_of m hidden = fin.retain_keys m (λ q. not (contains nat_cmp hidden q))
-
--- how the fields of `Stack` are seen
-abbrev pub layers_of : Store → ℕ → BTreeSet ℕ → ℕ → Layers
-layers_of s mark hidden top = record {
-  base = record { vars = s.vars; present = shared_of s.by_id mark; top = mark };
-  present = present_of s.by_id hidden;
+-- how the fields of `Stack` are seen: the first mark slots are shared, also where they are taken out for now
+abbrev pub layers_of : Row → ℕ → ℕ → Layers
+layers_of r mark top = record {
+  base = record { vars = r.vars; present = live_of (map revived (take mark r.slots)); top = mark };
+  present = live_of r.slots;
   top = top;
 }
 
--- ids above mark are the refutation's own and are listed, and those that are hidden are shared
-pub record AreLayered (m : ById) (mark : ℕ) (own : List ℕ) (hidden : BTreeSet ℕ) (top : ℕ) : Type 0 where
+-- ids rise, those of the first mark slots up to mark, and the shared slots that are taken out for now are listed
+pub record AreLayered (ss : List Slot) (mark : ℕ) (hidden : List ℕ) (top : ℕ) : Type 0 where
   pub low : mark ≤ top
-  pub unused : (q : ℕ) → top < q → fin.get m q ≡ None
-  pub above : All (λ q. mark < q) own
-  pub listed : (q : ℕ) → mark < q → IsSome (fin.get m q) → Contains own q
-  pub below : (q : ℕ) → IsTrue (contains nat_cmp hidden q) → q ≤ mark
+  pub shared : mark ≤ length ss
+  pub rising : IsRising 0 (ids_in ss)
+  pub up : All (λ q. q ≤ top) (ids_in ss)
+  pub shared_up : All (λ q. q ≤ mark) (take mark (ids_in ss))
+  pub within : All (λ i. i < mark) hidden
+  pub listed : (i : ℕ) → i < mark → live_at ss i ≡ false → Contains hidden i
 
--- the clauses of m but for those with these ids
-pub record DropsIds (m n : ById) (ids : List ℕ) : Type 0 where
-  pub gone : (q : ℕ) → Contains ids q → fin.get n q ≡ None
-  pub kept : (q : ℕ) → (Contains ids q → ⊥) → fin.get n q ≡ fin.get m q
-  pub fewer : (q : ℕ) → fin.get m q ≡ None → fin.get n q ≡ None
+-- the slots hold these clauses under the ids 1, 2 and so on
+pub record AreFresh (ss : List Slot) (cs : List (List ℤ)) : Type 0 where
+  pub present : live_of ss ≡ numbered_from 1 cs fin.empty
+  pub number : length ss ≡ length cs
+  pub rising : IsRising 0 (ids_in ss)
+  pub up : All (λ q. q ≤ length cs) (ids_in ss)
+  pub live : (i : ℕ) → live_at ss i ≡ true
+
+-- the slot at index i has the id and is live
+pub record IsLiveAt (ss : List Slot) (id i : ℕ) : Type 0 where
+  pub within : i < length ss
+  pub here : get_or (ids_in ss) i 0 ≡ id
+  pub found : fin.get (live_of ss) id ≡ Some (get_or ss i blank).clause

@@ -1,5 +1,7 @@
 pub mod Literals
 pub mod Store
+pub mod Slots
+pub mod Places
 pub mod Inside
 pub mod Lines
 pub mod Faults

@@ -25,7 +25,8 @@ use std::marker::Model;
 ///
 /// It keeps one mark for each variable and one buffer of hints through all lines and all
 /// refutations. A line costs the literals of its clause and of the clauses that it hints, and
-/// the logarithm of their number for each id.
+/// for each id the logarithm of the number of clauses, or a constant where no id up to it is
+/// skipped.
 #[derive(Drop)]
 pub struct Refuter {
     /// holds nothing between lines
@@ -70,7 +71,7 @@ impl Refuter {
 
     /// Begins anew at the formula of `new`, with each of these literals as a clause of its own
     /// under the next ids. It costs what was fed since the last beginning, and the units.
-    pub fn begin(&mut self, alloc: Global, units: &[i32]) -> Result<(), Fault>
+    pub fn begin(&mut self, _alloc: Global, units: &[i32]) -> Result<(), Fault>
         requires in_range { All (IsLiteral self.old.base.vars) units.now }
         requires few { self.old.base.top + length units.now < 2 ^ 32 }
         ensures base { self.new.base ≡ self.old.base }
@@ -84,7 +85,7 @@ impl Refuter {
         }
         self.closed = false;
         self.stack.rewind();
-        if let Err(refused) = self.stack.add_units(alloc, units) {
+        if let Err(refused) = self.stack.add_units(units) {
             self.refusal = Some(Fault::OutOfMemory(refused));
             return Err(Fault::OutOfMemory(refused));
         }
@@ -92,7 +93,7 @@ impl Refuter {
     }
 
     /// Checks the next line.
-    pub fn feed(&mut self, alloc: Global, line: &Line) -> Result<(), Fault>
+    pub fn feed(&mut self, _alloc: Global, line: &Line) -> Result<(), Fault>
         requires { IsLine line.now }
         ensures base { self.new.base ≡ self.old.base }
         ensures stands { IfSome self.old.refusal (λ e. (result ≡ Err e) × (self.new ≡ self.old)) }
@@ -104,7 +105,7 @@ impl Refuter {
         if let Some(fault) = self.refusal {
             return Err(fault);
         }
-        let answer = self.advance(alloc, line);
+        let answer = self.advance(line);
         if let Err(fault) = answer {
             self.refusal = Some(fault);
         }
@@ -130,7 +131,7 @@ impl Refuter {
     }
 
     /// Takes a line where nothing was refused yet.
-    fn advance(&mut self, alloc: Global, line: &Line) -> Result<(), Fault>
+    fn advance(&mut self, line: &Line) -> Result<(), Fault>
         requires { IsLine line.now }
         ensures base { self.new.base ≡ self.old.base }
         ensures refusal { self.new.refusal ≡ self.old.refusal }
@@ -142,14 +143,14 @@ impl Refuter {
         }
         match line {
             Line::Add { id, clause, hints } => {
-                self.add(alloc, *id, clause.as_slice(), hints.as_slice())
+                self.add(*id, clause.as_slice(), hints.as_slice())
             }
             Line::Delete { ids, .. } => take_out(&mut self.stack, ids.as_slice()),
         }
     }
 
     /// Adds a clause where the empty clause wasn't added yet.
-    fn add(&mut self, alloc: Global, id: u32, clause: &[i32], hints: &[i64]) -> Result<(), Fault>
+    fn add(&mut self, id: u32, clause: &[i32], hints: &[i64]) -> Result<(), Fault>
         requires are_open { self.old.stage.closed ≡ false }
         requires literals { All (IsLiteral 2147483647) clause.now }
         requires hints { All IsHint hints.now }
@@ -163,7 +164,7 @@ impl Refuter {
         }
         positive(&mut self.hints, hints)?;
         derive_with(&mut self.trail, &self.stack, clause, self.hints.as_slice())?;
-        self.stack.add(alloc, id, clause)?;
+        self.stack.add(id, clause)?;
         self.closed = clause.is_empty();
         Ok(())
     }

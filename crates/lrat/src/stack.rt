@@ -1,34 +1,33 @@
 //! Clauses that many refutations share.
 
-ghost use Rattle.std.specs.Prelude.{◌≡◌, ◌+◌, ◌<◌, ◌^◌, length, OnOk, OnErr, IfOk, All, Contains};
+ghost use Rattle.std.specs.Prelude.{◌≡◌, ◌+◌, ◌<◌, ◌^◌, ◌⊎◌, ℕ, true, None, map, length, OnOk, OnErr, IfOk, MatchOption, All, Contains};
 ghost use Rattle.std.specs.FinMap as fin;
 ghost use Rattle.lrat.specs.Limits.{IsFormula};
 ghost use Rattle.lrat.specs.Literals.{IsLiteral};
 ghost use Rattle.lrat.specs.Proofs.{numbered_from};
 ghost use Rattle.lrat.specs.Shared.{base_of, unit_clauses};
-ghost use Rattle.lrat.specs.Layers.{bare, find_present, DropsIds};
+ghost use Rattle.lrat.specs.Slots.{IsRising, ids_in, live_at, live_of, revived};
+ghost use Rattle.lrat.specs.Layers.{bare, find_present, AreFresh, IsLiveAt};
 
 use crate::clause::Clause;
-use crate::clauses::Clauses;
 use crate::formula::Formula;
 use crate::lookup::Lookup;
-use base::{Refused, insert_key, push};
+use crate::row::Row;
+use base::{Refused, push};
 use std::alloc::Global;
-use std::collections::BTreeSet;
 use std::marker::Model;
 
 /// Clauses that many refutations share, and over them those of the one in progress, which can be
-/// forgotten in time of what it did. Ids rise, so that the shared clauses are those up to one id.
+/// forgotten in time of what it did. Ids rise, so that the shared clauses come first. A shared
+/// clause is found in constant time, and another in time of the logarithm.
 #[derive(Drop)]
 pub struct Stack {
-    /// the shared clauses, also those that are hidden, and the refutation's own
-    clauses: Clauses,
-    /// the greatest id of the shared clauses
+    /// the shared clauses, and then the refutation's own
+    row: Row,
+    /// how many clauses are shared, which is the greatest of their ids
     mark: u32,
-    /// ids above `mark`, among them each that is in use
-    own: Vec<u32>,
-    /// the ids of the shared clauses that the refutation deleted
-    hidden: BTreeSet<u32>,
+    /// the indices of the shared clauses that the refutation deleted
+    hidden: Vec<u32>,
     /// the greatest id that was ever present
     top: u32,
 }
@@ -40,9 +39,9 @@ impl Model for Stack {
 
     ghost coded = { layers_code };
 
-    ghost view = { λ s. layers_of s.clauses s.mark s.hidden s.top };
+    ghost view = { λ s. layers_of s.row s.mark s.top };
 
-    ghost invariant = { λ s. AreLayered s.clauses.by_id s.mark s.own.items s.hidden s.top };
+    ghost invariant = { λ s. AreLayered s.row.slots s.mark s.hidden.items s.top };
 }
 
 impl Stack {
@@ -52,13 +51,12 @@ impl Stack {
         ensures { IfOk result (λ s. s ≡ bare (base_of formula.now)) }
     {
         let shared = formula.clauses.as_slice();
-        let clauses = number(alloc, formula.vars, shared)?;
+        let row = number(alloc, formula.vars, shared)?;
         let mark = shared.len() as u32;
         Ok(Stack {
-            clauses,
+            row,
             mark,
-            own: Vec::new(alloc),
-            hidden: BTreeSet::new(alloc),
+            hidden: Vec::new(alloc),
             top: mark,
         })
     }
@@ -71,20 +69,19 @@ impl Stack {
     }
 
     /// Adds a clause of the refutation's own. Without memory nothing changes.
-    pub fn add(&mut self, alloc: Global, id: u32, clause: &[i32]) -> Result<(), Refused>
+    pub fn add(&mut self, id: u32, clause: &[i32]) -> Result<(), Refused>
         requires above { self.old.top < id }
         requires in_range { All (IsLiteral self.old.base.vars) clause.now }
         ensures ok { OnOk result (self.new ≡ record { base = self.old.base; present = fin.insert self.old.present id clause.now; top = id }) }
         ensures err { OnErr result (self.new ≡ self.old) }
     {
-        push(&mut self.own, id)?;
-        self.clauses.add(alloc, id, clause)?;
+        self.row.add(id, clause)?;
         self.top = id;
         Ok(())
     }
 
     /// Adds clauses of one literal each under the next ids. Without memory some of them are added.
-    pub fn add_units(&mut self, alloc: Global, units: &[i32]) -> Result<(), Refused>
+    pub fn add_units(&mut self, units: &[i32]) -> Result<(), Refused>
         requires in_range { All (IsLiteral self.old.base.vars) units.now }
         requires few { self.old.top + length units.now < 2 ^ 32 }
         ensures base { self.new.base ≡ self.old.base }
@@ -93,7 +90,7 @@ impl Stack {
     {
         for unit in units {
             let next = self.top() + 1;
-            self.add(alloc, next, &[*unit])?;
+            self.add(next, &[*unit])?;
         }
         Ok(())
     }
@@ -105,13 +102,17 @@ impl Stack {
         ensures ok { OnOk result (self.new ≡ record { base = self.old.base; present = fin.remove self.old.present id; top = self.old.top }) }
         ensures err { OnErr result (self.new ≡ self.old) }
     {
-        if id > self.mark {
-            return Ok(self.clauses.remove(id));
-        }
-        if self.get(id).is_none() {
+        let Some(index) = find(&self.row, id) else {
             return Ok(false);
+        };
+        let mark = self.mark as usize;
+        if index < mark {
+            push(&mut self.hidden, index as u32)?;
+            self.row.mark(index, false);
+            return Ok(true);
         }
-        insert_key(&mut self.hidden, id)?;
+        self.row.drop_at(index);
+        self.row.tidy(mark);
         Ok(true)
     }
 
@@ -119,8 +120,8 @@ impl Stack {
     pub fn rewind(&mut self)
         ensures { self.new ≡ bare self.old.base }
     {
-        drop_ids(&mut self.clauses, self.own.as_slice());
-        self.own.clear();
+        self.row.truncate(self.mark as usize);
+        revive(&mut self.row, self.hidden.as_slice());
         self.hidden.clear();
         self.top = self.mark;
     }
@@ -132,37 +133,53 @@ impl Lookup for Stack {
     ghost find = { find_present };
 
     fn vars(&self) -> u32 {
-        self.clauses.vars()
+        self.row.vars()
     }
 
     fn get(&self, id: u32) -> Option<&[i32]> {
-        if self.hidden.contains(&id) {
-            return None;
+        match find(&self.row, id) {
+            Some(index) => Some(self.row.clause(index)),
+            None => None,
         }
-        self.clauses.get(id)
     }
 }
 
 /// The clauses under the ids 1, 2 and so on.
-fn number(alloc: Global, vars: u32, formula: &[Clause]) -> Result<Clauses, Refused>
+fn number(alloc: Global, vars: u32, formula: &[Clause]) -> Result<Row, Refused>
     requires are_literals { All (λ c. All (IsLiteral vars) c) formula.now }
     requires few { length formula.now < 2 ^ 32 }
-    ensures vars { IfOk result (λ s. s.vars ≡ vars) }
-    ensures clauses { IfOk result (λ s. s.by_id ≡ numbered_from 1 formula.now fin.empty) }
+    ensures vars { IfOk result (λ r. r.vars ≡ vars) }
+    ensures fresh { IfOk result (λ r. AreFresh r.slots formula.now) }
 {
-    let mut clauses = Clauses::new(alloc, vars);
+    let mut row = Row::new(alloc, vars);
     for (i, clause) in formula.iter().enumerate() {
-        clauses.add(alloc, i as u32 + 1, clause.as_slice())?;
+        row.add(i as u32 + 1, clause.as_slice())?;
     }
-    Ok(clauses)
+    Ok(row)
 }
 
-/// Takes out the clauses that have these ids.
-fn drop_ids(clauses: &mut Clauses, ids: &[u32])
-    ensures vars { clauses.new.vars ≡ clauses.old.vars }
-    ensures drops { DropsIds clauses.old.by_id clauses.new.by_id ids.now }
+/// At which index the live clause with this id is.
+fn find(row: &Row, id: u32) -> Option<usize>
+    requires { IsRising 0 (ids_in row.now.slots) }
+    ensures { MatchOption result (fin.get (live_of row.now.slots) id ≡ None) (IsLiveAt row.now.slots id) }
 {
-    for id in ids {
-        clauses.remove(*id);
+    let Some(index) = row.position(id) else {
+        return None;
+    };
+    if !row.is_live(index) {
+        return None;
+    }
+    Some(index)
+}
+
+/// Makes the clauses at these indices live again.
+fn revive(row: &mut Row, indices: &[u32])
+    requires { All (λ i. i < length row.old.slots) indices.now }
+    ensures vars { row.new.vars ≡ row.old.vars }
+    ensures same { map revived row.new.slots ≡ map revived row.old.slots }
+    ensures live { (i : ℕ) → live_at row.old.slots i ≡ true ⊎ Contains indices.now i → live_at row.new.slots i ≡ true }
+{
+    for index in indices {
+        row.mark(*index as usize, true);
     }
 }

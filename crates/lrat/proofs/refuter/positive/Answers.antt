@@ -1,4 +1,4 @@
-use Rattle.std.proofs.Common.{rules, refl, is_ok, not, true, ◌≡◌, ◌∙◌, ap, ℤ, pos, get_or, SFits, w64, unsigned_abs}
+use Rattle.std.proofs.Common.{rules, refl, ◌≡◌, ◌∙◌, ap, ℤ, pos, get_or, SFits, w64, unsigned_abs}
 use Rattle.std.proofs.lemmas.List.Elements.{All-push}
 use Rattle.std.proofs.lemmas.List.{map-append}
 use Rattle.std.proofs.lemmas.Int.{to_z-of_z}

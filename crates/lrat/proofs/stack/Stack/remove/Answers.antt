@@ -1,32 +1,45 @@
-use Rattle.std.proofs.Common.{◌∙◌, sym, ap, is_some, refl, not}
+use Rattle.std.proofs.Common.{◌≡◌, ◌∙◌, ap, sym, refl, List, [], false, take, map, get_or, arith, None}
 use Rattle.std.specs.FinMap as fin
-use Rattle.lrat.specs.Layers.{shared_of, present_of}
-use Rattle.lrat.proofs.Layering.{dropped_layered, dropped_shared, dropped_present, changed_layers, shown_above, get_present, remove_absent, hides, absent_option}
+use Rattle.lrat.specs.Slots.{Slot, Row, blank, revived, live_of}
+use Rattle.lrat.proofs.Maps.{remove_absent}
+use Rattle.lrat.proofs.Rising.{live_gone, revived_set}
+use Rattle.lrat.proofs.Layering.{hidden_layered, dropped_layered, dropped_shared, changed_layers}
 use Rattle.lrat.proofs.stack.Stack.remove.Goals as goal
 
-pub invariant_of-self : goal.invariant_of-self
-invariant_of-self c = rw c.remove.ensures.removed (dropped_layered _ _ _ _ _ _ c.self.invariant)
-
-pub returns-then-id-self-clause-was : goal.returns-then-id-self-clause-was
-returns-then-id-self-clause-was c =
-    let s = c.self.inside in
-    let off = shown_above s.hidden s.mark c.args.id c.self.invariant.below c.if-id-self.true in
-    c.remove.ensures.was ∙ ap is_some (sym (get_present s.clauses.by_id s.hidden c.args.id off)) ∙ ap (λ u. fin.contains_key u.present c.args.id) c.self.view_is
-
-pub returns-then-id-self-clause-ok : goal.returns-then-id-self-clause-ok
-returns-then-id-self-clause-ok c =
-    let s = c.self.inside in
-    rw (← c.self.view_is) (changed_layers s.clauses c.remove.new.self s.mark s.hidden s.hidden s.top s.top _ c.remove.ensures.vars
-    (ap (λ m. shared_of m s.mark) c.remove.ensures.removed ∙ dropped_shared s.clauses.by_id s.mark c.args.id c.if-id-self.true)
-    (ap (λ m. present_of m s.hidden) c.remove.ensures.removed ∙ dropped_present s.clauses.by_id s.hidden c.args.id))
-
-pub returns-then-is_none-clause-ok : goal.returns-then-is_none-clause-ok
-returns-then-is_none-clause-ok c =
-    let none = absent_option _ _ _ c.get.ensures.value (c.is_none.ensures ∙ ap not c.if-is_none.true) in
+pub returns-in_default-clause-ok : goal.returns-in_default-clause-ok
+returns-in_default-clause-ok c =
+    let none : fin.get c.args.self.now.present c.args.id ≡ None = ap (λ u. fin.get u.present c.args.id) (sym c.self.view_is) ∙ c.in_default.ensures in
     λ i. record { base = c.args.self.now.base; present = sym (remove_absent c.args.self.now.present c.args.id none) i; top = c.args.self.now.top }
+
+pub invariant_of-self-then-index-mark : goal.invariant_of-self-then-index-mark
+invariant_of-self-then-index-mark c =
+    let ss : List Slot = c.self.inside.row.slots in
+    let s : Slot = record { id = (get_or ss c.in-Some.index blank).id; live = false; clause = (get_or ss c.in-Some.index blank).clause } in
+    rw (c.mark.ensures.slots, c.in_ok-push.ensures.items) (hidden_layered ss c.self.inside.mark c.self.inside.hidden.items c.self.inside.top c.in-Some.index s c.self.invariant c.if-index-mark.true refl)
+
+pub returns-then-index-mark-clause-ok : goal.returns-then-index-mark-clause-ok
+returns-then-index-mark-clause-ok c =
+    let u = c.self.inside in
+    let ss : List Slot = u.row.slots in
+    let s : Slot = record { id = (get_or ss c.in-Some.index blank).id; live = false; clause = (get_or ss c.in-Some.index blank).clause } in
+    let at = c.in-Some.ensures in
+    rw (← c.self.view_is) (changed_layers u.row c.mark.new.self u.mark u.top u.top _ c.mark.ensures.vars
+    (ap (λ (ts : List Slot). map revived (take u.mark ts)) c.mark.ensures.slots ∙ revived_set ss u.mark c.in-Some.index false)
+    (ap live_of c.mark.ensures.slots ∙ live_gone ss c.in-Some.index c.args.id s c.self.invariant.rising at.within at.here refl refl))
+
+pub invariant_of-self-2 : goal.invariant_of-self-2
+invariant_of-self-2 c =
+    let ss : List Slot = c.self.inside.row.slots in
+    let s : Slot = record { id = (get_or ss c.in-Some.index blank).id; live = false; clause = [] } in
+    rw (c.tidy.ensures, c.drop_at.ensures.slots) (dropped_layered ss c.self.inside.mark c.self.inside.hidden.items c.self.inside.top c.in-Some.index s c.self.invariant (omega (arith, c.if-index-mark.false)) refl)
 
 pub returns-clause-ok : goal.returns-clause-ok
 returns-clause-ok c =
-    let s = c.self.inside in
-    rw (← c.self.view_is) (changed_layers s.clauses s.clauses s.mark s.hidden c.insert_key.new.to s.top s.top _ refl refl
-    (hides s.clauses.by_id s.hidden c.insert_key.new.to c.args.id c.in_ok-insert_key.ensures.updates.0))
+    let u = c.self.inside in
+    let ss : List Slot = u.row.slots in
+    let s : Slot = record { id = (get_or ss c.in-Some.index blank).id; live = false; clause = [] } in
+    let at = c.in-Some.ensures in
+    let slots = ap (λ (r : Row). r.slots) c.tidy.ensures ∙ c.drop_at.ensures.slots in
+    rw (← c.self.view_is) (changed_layers u.row c.tidy.new.self u.mark u.top u.top _ (ap (λ (r : Row). r.vars) c.tidy.ensures ∙ c.drop_at.ensures.vars)
+    (ap (λ (ts : List Slot). map revived (take u.mark ts)) slots ∙ dropped_shared ss u.mark c.in-Some.index s (omega (arith, c.if-index-mark.false)))
+    (ap live_of slots ∙ live_gone ss c.in-Some.index c.args.id s c.self.invariant.rising at.within at.here refl refl))

@@ -1,11 +1,20 @@
-use Rattle.std.proofs.Common.{◌∙◌, ap, subst}
-use Rattle.lrat.specs.Layers.{bare, DropsIds}
-use Rattle.lrat.proofs.Layering.{rewound_layers}
+use Rattle.std.proofs.Common.{◌∙◌, ap}
+use Rattle.lrat.specs.Slots.{Row}
+use Rattle.lrat.specs.Layers.{bare}
+use Rattle.lrat.proofs.Layering.{rewound_layered, rewound_layers}
 use Rattle.lrat.proofs.stack.Stack.rewind.Goals as goal
+
+pub invariant_of-self : goal.invariant_of-self
+invariant_of-self c =
+    let s = c.self.inside in
+    let same = rw c.truncate.ensures at c.revive.ensures.same in
+    let live = rw (c.truncate.ensures, c.as_slice.ensures.value) at c.revive.ensures.live in
+    rewound_layered s.row.slots c.revive.new.row.slots s.mark s.hidden.items c.clear.new.self.items s.top c.self.invariant same live c.clear.ensures.items
 
 pub returns : goal.returns
 returns c =
     let s = c.self.inside in
-    let drops = subst (DropsIds s.clauses.by_id c.drop_ids.new.clauses.by_id) c.as_slice.ensures.value c.drop_ids.ensures.drops in
-    rewound_layers s.clauses c.drop_ids.new.clauses s.mark s.own.items s.hidden c.clear-2.new.self s.top c.self.invariant c.drop_ids.ensures.vars
-    drops c.clear-2.ensures.empty ∙ ap (λ u. bare u.base) c.self.view_is
+    let same = rw c.truncate.ensures at c.revive.ensures.same in
+    let live = rw (c.truncate.ensures, c.as_slice.ensures.value) at c.revive.ensures.live in
+    rewound_layers s.row c.revive.new.row s.mark s.hidden.items s.top c.self.invariant (c.revive.ensures.vars ∙ ap (λ (r : Row). r.vars) c.truncate.ensures) same live
+    ∙ ap (λ u. bare u.base) c.self.view_is

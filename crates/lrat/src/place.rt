@@ -1,0 +1,80 @@
+//! Where clauses lie in a flat list.
+
+ghost use Rattle.std.specs.Prelude.{◌≡◌, ◌+◌, ◌≤◌, ◌<◌, All, Contains, MatchOption, drop, get_or, length, take};
+ghost use Rattle.lrat.specs.Places.{AreInOrder, ids_of, kept_at};
+ghost use Rattle.lrat.specs.Slots.{IsRising};
+
+/// Where a clause's literals lie in the flat list.
+#[derive(Clone, Copy)]
+pub struct Place {
+    pub start: usize,
+    pub len: usize,
+    pub id: u32,
+    /// not taken out
+    pub live: bool,
+}
+
+/// At which index the id is. It is looked for at `id - 1` first, where it is if no id is skipped,
+/// and then in time of the logarithm.
+pub fn position(places: &[Place], id: u32) -> Option<usize>
+    requires { IsRising 0 (ids_of places.now) }
+    ensures { MatchOption result (Contains (ids_of places.now) id → ⊥) (λ i. (i < length places.now) × (get_or (ids_of places.now) i 0 ≡ id)) }
+{
+    let guess = (id as usize).saturating_sub(1);
+    if guess < places.len() && places[guess].id == id {
+        return Some(guess);
+    }
+    search(places, id)
+}
+
+/// At which index the id is, by halving.
+fn search(places: &[Place], id: u32) -> Option<usize>
+    requires { IsRising 0 (ids_of places.now) }
+    ensures { MatchOption result (Contains (ids_of places.now) id → ⊥) (λ i. (i < length places.now) × (get_or (ids_of places.now) i 0 ≡ id)) }
+{
+    let mut low = 0;
+    let mut high = places.len();
+    'halving: while low < high {
+        let middle = low + (high - low) / 2;
+        let here = places[middle].id;
+        if here == id {
+            return Some(middle);
+        }
+        if here < id {
+            low = middle + 1;
+        } else {
+            high = middle;
+        }
+    }
+    None
+}
+
+/// Moves the clauses from index `first` on together behind `end`, in their order, and answers
+/// where they end.
+pub fn close_up(literals: &mut [i32], places: &mut [Place], first: usize, end: usize) -> usize
+    requires inside { All (λ p. p.start + p.len ≤ length literals.old) places.old }
+    requires in_order { AreInOrder 0 places.old }
+    requires before { All (λ p. p.start + p.len ≤ end) (take first places.old) }
+    requires later { AreInOrder end (drop first places.old) }
+    requires fits { end ≤ length literals.old }
+    requires first { first ≤ length places.old }
+    ensures same { kept_at (take result literals.new) places.new ≡ kept_at literals.old places.old }
+    ensures inside { All (λ p. p.start + p.len ≤ result) places.new }
+    ensures in_order { AreInOrder 0 places.new }
+    ensures fits { result ≤ length literals.old }
+    ensures among { All (Contains literals.old) literals.new }
+{
+    let mut end = end;
+    for index in first..places.len() {
+        let place = places[index];
+        literals.copy_within(place.start..place.start + place.len, end);
+        places[index] = Place {
+            start: end,
+            len: place.len,
+            id: place.id,
+            live: place.live,
+        };
+        end += place.len;
+    }
+    end
+}

@@ -1,0 +1,167 @@
+//! Clauses in one flat list, by rising ids.
+
+ghost use Rattle.std.specs.Prelude.{◌≡◌, ◌≤◌, ◌<◌, ◌++◌, ◌∷◌, [], true, false, All, Contains, MatchOption, OnOk, OnErr, get_or, length, set, take};
+ghost use Rattle.lrat.specs.Literals.{IsLiteral};
+ghost use Rattle.lrat.specs.Slots.{Slot, IsRising, blank, ids_in};
+
+use crate::place::{Place, close_up, position};
+use base::{Refused, extend, push};
+use std::alloc::Global;
+use std::marker::Model;
+
+/// Clauses in one flat list, by rising ids. A clause costs 24 bytes and 4 for each literal. One
+/// that is taken out leaves its place.
+#[derive(Drop)]
+pub struct Row {
+    /// the greatest variable
+    vars: u32,
+    /// for each clause, where it lies
+    places: Vec<Place>,
+    /// the literals of the clauses, one clause after the other
+    literals: Vec<i32>,
+    /// about how many of these are of clauses that were taken out
+    dead: usize,
+}
+
+impl Model for Row {
+    ghost use Rattle.lrat.specs.Slots.{Row as ARow, row_code};
+
+    ghost Value = { ARow };
+
+    ghost coded = { row_code };
+
+    ghost use Rattle.lrat.specs.Places.{kept_at, AreInside};
+
+    ghost view = { λ r. record { vars = r.vars; slots = kept_at r.literals.items r.places.items } };
+
+    ghost invariant = { λ r. AreInside r.vars r.literals.items r.places.items };
+}
+
+impl Row {
+    /// No clauses, which take no memory.
+    pub fn new(alloc: Global, vars: u32) -> Row
+        ensures { result ≡ record { vars = vars; slots = [] } }
+    {
+        Row {
+            vars,
+            places: Vec::new(alloc),
+            literals: Vec::new(alloc),
+            dead: 0,
+        }
+    }
+
+    /// The greatest variable.
+    pub fn vars(&self) -> u32
+        ensures { result ≡ self.now.vars }
+    {
+        self.vars
+    }
+
+    /// Adds a clause behind the others. Without memory nothing changes.
+    pub fn add(&mut self, id: u32, clause: &[i32]) -> Result<(), Refused>
+        requires { All (IsLiteral self.old.vars) clause.now }
+        ensures vars { self.new.vars ≡ self.old.vars }
+        ensures ok { OnOk result (self.new.slots ≡ self.old.slots ++ record { id = id; live = true; clause = clause.now } ∷ []) }
+        ensures err { OnErr result (self.new ≡ self.old) }
+    {
+        let start = self.literals.len();
+        extend(&mut self.literals, clause)?;
+        push(
+            &mut self.places,
+            Place {
+                start,
+                len: clause.len(),
+                id,
+                live: true,
+            },
+        )?;
+        Ok(())
+    }
+
+    /// At which index the id is: in constant time where no id up to it is skipped, and else in time
+    /// of the logarithm.
+    pub fn position(&self, id: u32) -> Option<usize>
+        requires { IsRising 0 (ids_in self.now.slots) }
+        ensures { MatchOption result (Contains (ids_in self.now.slots) id → ⊥) (λ i. (i < length self.now.slots) × (get_or (ids_in self.now.slots) i 0 ≡ id)) }
+    {
+        position(self.places.as_slice(), id)
+    }
+
+    /// Whether the clause at the index is live.
+    pub fn is_live(&self, index: usize) -> bool
+        requires { index < length self.now.slots }
+        ensures { result ≡ (get_or self.now.slots index blank).live }
+    {
+        self.places[index].live
+    }
+
+    /// The clause at the index.
+    pub fn clause(&self, index: usize) -> &[i32]
+        requires { index < length self.now.slots }
+        ensures value { result.now ≡ (get_or self.now.slots index blank).clause }
+        ensures in_range { All (IsLiteral self.now.vars) result.now }
+    {
+        let place = self.places[index];
+        &self.literals[place.start..place.start + place.len]
+    }
+
+    /// Marks the clause at the index as live or not.
+    pub fn mark(&mut self, index: usize, live: bool)
+        requires { index < length self.old.slots }
+        ensures vars { self.new.vars ≡ self.old.vars }
+        ensures slots { self.new.slots ≡ set self.old.slots index (record (get_or self.old.slots index blank) { live = live }) }
+    {
+        let place = self.places[index];
+        self.places[index] = Place {
+            start: place.start,
+            len: place.len,
+            id: place.id,
+            live,
+        };
+    }
+
+    /// Takes the clause at the index out for good. Its literals stay until they are closed up.
+    pub fn drop_at(&mut self, index: usize)
+        requires { index < length self.old.slots }
+        ensures vars { self.new.vars ≡ self.old.vars }
+        ensures slots { self.new.slots ≡ set self.old.slots index record { id = (get_or self.old.slots index blank).id; live = false; clause = [] } }
+    {
+        let place = self.places[index];
+        self.dead = self.dead.saturating_add(place.len);
+        self.places[index] = Place {
+            start: place.start,
+            len: 0,
+            id: place.id,
+            live: false,
+        };
+    }
+
+    /// Where more than half of the literals from the clause at the index on are dead, moves the
+    /// clauses together. It takes no memory, and costs these clauses and their literals.
+    pub fn tidy(&mut self, first: usize)
+        ensures { self.new ≡ self.old }
+    {
+        if first >= self.places.len() {
+            return;
+        }
+        let start = self.places[first].start;
+        if self.dead <= self.literals.len().saturating_sub(start) / 2 {
+            return;
+        }
+        let end = close_up(&mut self.literals, &mut self.places, first, start);
+        self.literals.truncate(end);
+        self.dead = 0;
+    }
+
+    /// Goes back to the first `len` clauses.
+    pub fn truncate(&mut self, len: usize)
+        ensures { self.new ≡ record { vars = self.old.vars; slots = take len self.old.slots } }
+    {
+        if len < self.places.len() {
+            let end = self.places[len].start;
+            self.literals.truncate(end);
+            self.places.truncate(len);
+            self.dead = 0;
+        }
+    }
+}
