@@ -136,8 +136,9 @@ impl Row {
         };
     }
 
-    /// Where more than half of the literals from the clause at the index on are dead, moves the
-    /// clauses together. It takes no memory, and costs these clauses and their literals.
+    /// Moves the clauses from the index on together where their dead literals are more than half
+    /// of their literals and places. It takes no memory, and costs a constant for each literal that
+    /// died since.
     pub fn tidy(&mut self, first: usize)
         ensures { self.new ≡ self.old }
     {
@@ -145,7 +146,9 @@ impl Row {
             return;
         }
         let start = self.places[first].start;
-        if self.dead <= self.literals.len().saturating_sub(start) / 2 {
+        let literals = self.literals.len().saturating_sub(start);
+        let places = self.places.len() - first;
+        if self.dead <= literals.saturating_add(places) / 2 {
             return;
         }
         let end = close_up(&mut self.literals, &mut self.places, first, start);
