@@ -1,1 +1,3 @@
 pub mod Taking
+pub mod LaneLaws
+pub mod WideLaws

@@ -1,3 +1,5 @@
 pub mod Starts
 pub mod Refusals
 pub mod Replays
+pub mod Lanes
+pub mod Wides

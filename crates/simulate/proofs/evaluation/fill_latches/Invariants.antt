@@ -1,0 +1,8 @@
+use Rattle.std.proofs.Common.{ℕ, map}
+use Rattle.graph.specs.Valuation.{variable}
+use Rattle.graph.proofs.Filled.{Written}
+use Rattle.simulate.specs.Lanes.{row_of}
+use Rattle.simulate.proofs.evaluation.fill_latches.Given as goal
+
+abbrev pub invariant-loop-i : goal.invariant-loop-i
+invariant-loop-i l = (r : ℕ) → Written (map (λ x. variable x.lit) l.latches) (row_of r l.values) (row_of r l.initial.out) (row_of r l.out) l.i

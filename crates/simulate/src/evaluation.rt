@@ -1,0 +1,105 @@
+//! The steps of an evaluation of 256 runs, over plain slices.
+
+ghost use Rattle.std.specs.Prelude.{◌≡◌, ℕ, ◌<◌, ◌+◌, ◌%◌, ◌≢◌, ◌⊎◌, ◌&&◌, length, map, false, All, AllPairs, Contains, slice_index_or};
+ghost use Rattle.graph.specs.Valuation.{variable, place, value_of, Fires};
+ghost use Rattle.graph.specs.WellFormed.{IsOrder, IsModel};
+ghost use Rattle.simulate.specs.Lanes.{value_in, row_of};
+ghost use Rattle.simulate.specs.Replays.{IsTheValuation};
+
+use crate::lanes::{both, negated_if};
+use graph::{Gate, Latch, Lit, Parts};
+use std::simd::u64x4;
+
+/// The values of a literal.
+pub fn literal_value(values: &[u64x4], lit: Lit) -> u64x4
+    requires { variable lit < length values.now }
+    ensures { (r : ℕ) → r < 256 → value_in result r ≡ value_of (row_of r values.now) lit }
+{
+    negated_if(values[lit.variable() as usize], lit.is_negated())
+}
+
+/// Makes every place false.
+fn clear(out: &mut [u64x4])
+    ensures { (r v : ℕ) → r < 256 → place (row_of r out.new) v ≡ false }
+{
+    for x in out.iter_mut() {
+        *x = u64x4::splat(0);
+    }
+}
+
+/// Gives the inputs their values.
+fn fill_inputs(lits: &[Lit], values: &[u64x4], out: &mut [u64x4])
+    requires lengths { length values.now ≡ length lits.now }
+    requires in_range { All (λ a. variable a < length out.old) lits.now }
+    requires once { AllPairs (λ u v. u ≢ v) (map variable lits.now) }
+    ensures written { (r k : ℕ) (d : Lit) → k < length lits.now → place (row_of r out.new) (variable (slice_index_or lits.now k d)) ≡ place (row_of r values.now) k }
+    ensures kept { (r v : ℕ) → Contains (map variable lits.now) v ⊎ (place (row_of r out.new) v ≡ place (row_of r out.old) v) }
+{
+    for (i, lit) in lits.iter().enumerate() {
+        out[lit.variable() as usize] = values[i];
+    }
+}
+
+/// Gives the latches their values.
+fn fill_latches(latches: &[Latch], values: &[u64x4], out: &mut [u64x4])
+    requires lengths { length values.now ≡ length latches.now }
+    requires in_range { All (λ l. variable l.lit < length out.old) latches.now }
+    requires once { AllPairs (λ u v. u ≢ v) (map (λ l. variable l.lit) latches.now) }
+    ensures written { (r k : ℕ) (d : Latch) → k < length latches.now → place (row_of r out.new) (variable (slice_index_or latches.now k d).lit) ≡ place (row_of r values.now) k }
+    ensures kept { (r v : ℕ) → Contains (map (λ l. variable l.lit) latches.now) v ⊎ (place (row_of r out.new) v ≡ place (row_of r out.old) v) }
+{
+    for (i, latch) in latches.iter().enumerate() {
+        out[latch.lit.variable() as usize] = values[i];
+    }
+}
+
+/// The conjunction of the gate's right sides.
+fn conjunction(gate: Gate, values: &[u64x4]) -> u64x4
+    requires { (variable gate.rhs0 < length values.now) × (variable gate.rhs1 < length values.now) }
+    ensures { (r : ℕ) → r < 256 → value_in result r ≡ (value_of (row_of r values.now) gate.rhs0 && value_of (row_of r values.now) gate.rhs1) }
+{
+    both(
+        literal_value(values, gate.rhs0),
+        literal_value(values, gate.rhs1),
+    )
+}
+
+/// Gives the gates their values, in an order in which each comes after those that it reads.
+fn fill_gates(gates: &[Gate], order: &[u32], out: &mut [u64x4])
+    requires in_range { All (λ g. (variable g.lhs < length out.old) × (variable g.rhs0 < length out.old) × (variable g.rhs1 < length out.old)) gates.now }
+    requires even { All (λ g. g.lhs.0 % 2 ≡ 0) gates.now }
+    requires once { AllPairs (λ u v. u ≢ v) (map (λ g. variable g.lhs) gates.now) }
+    requires ordered { IsOrder gates.now order.now }
+    ensures fires { (r : ℕ) → r < 256 → All (Fires (row_of r out.new)) gates.now }
+    ensures kept { (r v : ℕ) → r < 256 → Contains (map (λ g. variable g.lhs) gates.now) v ⊎ (place (row_of r out.new) v ≡ place (row_of r out.old) v) }
+{
+    for place in order {
+        let gate = gates[*place as usize];
+        out[gate.lhs.variable() as usize] = conjunction(gate, out);
+    }
+}
+
+/// Fills in, for each run, the one agreeing valuation with its state and inputs.
+pub fn evaluate(parts: &Parts, order: &[u32], state: &[u64x4], inputs: &[u64x4], out: &mut [u64x4])
+    requires model { IsModel parts.now order.now }
+    requires state { length state.now ≡ length parts.now.latches }
+    requires inputs { length inputs.now ≡ length parts.now.inputs }
+    requires places { length out.old ≡ parts.now.max_var + 1 }
+    ensures { (r : ℕ) → r < 256 → IsTheValuation parts.now (row_of r state.now) (row_of r inputs.now) (row_of r out.new) }
+{
+    clear(out);
+    fill_inputs(parts.inputs.as_slice(), inputs, out);
+    fill_latches(parts.latches.as_slice(), state, out);
+    fill_gates(parts.gates.as_slice(), order, out);
+}
+
+/// Gives each latch the values of its next literal.
+pub fn move_on(latches: &[Latch], values: &[u64x4], state: &mut [u64x4])
+    requires lengths { length state.old ≡ length latches.now }
+    requires in_range { All (λ l. variable l.next < length values.now) latches.now }
+    ensures { (r : ℕ) → r < 256 → row_of r state.new ≡ map (λ l. value_of (row_of r values.now) l.next) latches.now }
+{
+    for (i, latch) in latches.iter().enumerate() {
+        state[i] = literal_value(values, latch.next);
+    }
+}
