@@ -1,6 +1,4 @@
-pub mod BitLaws
-pub mod RowLaws
 pub mod DrawLaws
 pub mod StartLaws
+pub mod SettingLaws
 pub mod FindingLaws
-pub mod PlayLaws

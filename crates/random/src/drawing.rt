@@ -1,14 +1,14 @@
 //! Drawing words.
 
-ghost use Rattle.std.specs.Prelude.{◌≡◌, IfOk, length, map};
+ghost use Rattle.std.specs.Prelude.{◌≡◌, IfOk, length};
 ghost use Rattle.random.specs.Words.{draws, words};
 
-use crate::lanes::Lanes;
 use base::{Refused, push};
 use graph::Seq;
 use rand_core::utils::NextWord;
 use rand_pcg::Lcg128Xsl64;
 use std::alloc::Global;
+use std::simd::u64x4;
 
 /// The generator's next four 64-bit words.
 pub fn draw(generator: &mut Lcg128Xsl64) -> [u64; 4]
@@ -21,18 +21,25 @@ pub fn draw(generator: &mut Lcg128Xsl64) -> [u64; 4]
     [first, second, third, fourth]
 }
 
+/// The next four words as a value for each run: word `k` is lane `k`.
+pub fn draw_lanes(generator: &mut Lcg128Xsl64) -> u64x4
+    ensures { (result, generator.new) ≡ words 4 generator.old }
+{
+    u64x4::from_array(draw(generator))
+}
+
 /// The next `count` draws, in their order.
 pub fn draw_row(
     alloc: Global,
     count: usize,
     generator: &mut Lcg128Xsl64,
-) -> Result<Seq<Lanes>, Refused>
+) -> Result<Seq<u64x4>, Refused>
     ensures long { IfOk result (λ row. length row ≡ count) }
-    ensures drawn { IfOk result (λ row. (map (λ lanes. lanes.words) row, generator.new) ≡ draws count generator.old) }
+    ensures drawn { IfOk result (λ row. (row, generator.new) ≡ draws count generator.old) }
 {
     let mut row = Vec::new(alloc);
     for _ in 0..count {
-        push(&mut row, Lanes::from_words(draw(generator)))?;
+        push(&mut row, draw_lanes(generator))?;
     }
     Ok(Seq::from_vec(row))
 }

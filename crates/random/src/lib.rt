@@ -5,15 +5,14 @@
 //! - `draw` gives a generator's next four words (PCG XSL RR 128/64, O'Neill 2014, as `rand_pcg` has
 //!   it), one bit for each run: that of run `r` is bit `r mod 64` of word `r / 64`.
 //!
-//! A time costs up to 256 evaluations of the circuit. The memory is a bit for each run, input and time
-//! played in one batch, and for each run and latch.
+//! A time costs one pass over the gates for all 256 runs (`simulate::Wide`). The memory is a bit for each run,
+//! input and time played in one batch, and for each run, latch and variable.
 #![tactic(auto)]
 
 mod batch;
 mod drawing;
-mod lanes;
-mod one_run;
 mod random;
+mod rows;
 
 pub use drawing::draw;
 pub use random::Random;

@@ -65,12 +65,9 @@ impl Engine for Random {
         ensures memory { IfErr result (λ e. e ≡ EngineError.OutOfMemory witness) }
     {
         let mut generator = Lcg128Xsl64::seed_from_u64(self.seed);
-        let mut batch = Batch::new(alloc, circuit)?;
         'playing: while budget.tick() {
-            if batch.is_over(self.depth) {
-                batch.begin(alloc, &mut generator);
-            }
-            if let Some(finding) = batch.advance(alloc, &mut generator)? {
+            let mut batch = Batch::begin(alloc, circuit, &mut generator)?;
+            if let Some(finding) = batch.play(alloc, &mut generator, self.depth, budget)? {
                 return Ok(finding);
             }
         }

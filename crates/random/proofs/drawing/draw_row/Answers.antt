@@ -7,9 +7,9 @@ use Rattle.random.proofs.drawing.draw_row.Goals as goal
 pub loop-preserved : goal.loop-preserved
 loop-preserved c =
     rw c.in_ok-push.ensures.items (
-      length_push c.loop.row.items c.from_words.result ∙ ap (λ n. n + 1) c.loop.invariant.0,
-      drawn-more c.loop.row.items c.args.count c.loop.counter c.loop.generator c.draw.new.generator c.from_words.result (draws c.args.count c.args.generator.now) (omega arith)
-          (rw c.from_words.ensures c.draw.ensures) c.loop.invariant.1,
+      length_push c.loop.row.items c.draw_lanes.result ∙ ap (λ n. n + 1) c.loop.invariant.0,
+      drawn-more c.loop.row.items c.args.count c.loop.counter c.loop.generator c.draw_lanes.new.generator c.draw_lanes.result (draws c.args.count c.args.generator.now) (omega arith)
+          c.draw_lanes.ensures c.loop.invariant.1,
     )
 
 pub returns-clause-drawn : goal.returns-clause-drawn
