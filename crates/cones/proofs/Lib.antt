@@ -1,0 +1,8 @@
+pub mod Ordered
+pub mod Lifted
+pub mod Existing
+pub mod Assigned
+pub mod Growing
+pub mod Tabled
+pub mod Cubed
+pub mod Grown

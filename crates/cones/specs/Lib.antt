@@ -1,0 +1,4 @@
+pub mod Marks
+pub mod Partial
+pub mod Reach
+pub mod Cubes
