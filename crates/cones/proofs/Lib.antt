@@ -4,5 +4,4 @@ pub mod Existing
 pub mod Assigned
 pub mod Growing
 pub mod Tabled
-pub mod Cubed
 pub mod Grown

@@ -1,4 +1,3 @@
 pub mod Marks
 pub mod Partial
 pub mod Reach
-pub mod Cubes

@@ -27,7 +27,8 @@ pub fn gates_of(alloc: Global, table: &GateTable, list: &[u32]) -> Result<Vec<Ga
 pub fn unmark(marks: &mut [bool], list: &[u32])
     requires range { All (λ v. v < length marks.old) list.now }
     requires listed { (v : ℕ) → IsMarked marks.old v → Contains list.now v }
-    ensures { (v : ℕ) → place marks.new v ≡ false }
+    ensures places { length marks.new ≡ length marks.old }
+    ensures clear { (v : ℕ) → place marks.new v ≡ false }
 {
     for variable in list {
         marks[*variable as usize] = false;

@@ -1,7 +1,6 @@
 //! What marks say of a circuit's values, as laws: no call of the search makes these functions run.
 
 ghost use Rattle.cones.specs.Marks.{LiftingLaw, LiftedLaw, ConeLaw, ExistenceLaw};
-ghost use Rattle.cones.specs.Cubes.{PredecessorLaw};
 ghost use Rattle.cones.specs.Partial.{PartialLaw, CompletionLaw, AnswerLaw, PartLaw, GrowthLaw, ListedLaw, ModelLaw};
 
 use graph::Model;
@@ -10,7 +9,6 @@ use graph::Model;
 pub fn value_laws(model: &Model)
     ensures lifting { LiftingLaw model.now }
     ensures lifted { LiftedLaw model.now }
-    ensures predecessor { PredecessorLaw model.now }
     ensures cone { ConeLaw model.now }
     ensures existence { ExistenceLaw model.now }
 {

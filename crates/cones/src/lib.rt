@@ -5,8 +5,8 @@
 //!   (`clause_laws`), and `grow_cone` lists the gates that a question needs beyond earlier ones.
 //! - A justification of literals at one time has, with each gate, what gives it its value there: both
 //!   right sides of a true gate, one false right side of a false one. The values of its latches and
-//!   inputs decide all of it (`value_laws`). So `lift` answers, of one state, the cube of all states
-//!   that lead on in the same way (Een, Mishchenko, Brayton 2011).
+//!   inputs decide all of it (`value_laws`). So its latches are a cube of states that lead on in the
+//!   same way (Een, Mishchenko, Brayton 2011).
 //!
 //! Both are marks over the circuit's variables, which `extend` closes by a work list. Nothing costs a
 //! pass over the circuit but the tables and the marks themselves.
@@ -15,13 +15,11 @@
 mod gates;
 mod growth;
 mod laws;
-mod lifting;
 mod reach;
 mod table;
 
 pub use gates::{gates_of, unmark};
 pub use growth::grow_cone;
 pub use laws::{clause_laws, value_laws};
-pub use lifting::lift;
 pub use reach::{Reach, extend};
 pub use table::GateTable;

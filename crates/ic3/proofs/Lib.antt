@@ -5,3 +5,5 @@ pub mod Joining
 pub mod States
 pub mod Inductions
 pub mod Clearing
+pub mod Lifted
+pub mod Shown

@@ -1,5 +1,5 @@
 -- What the search's questions are answered (Bradley 2011).
-use Rattle.std.specs.Prelude.{◌≡◌, ℕ, ◌≤◌, Bool, true, List, filter}
+use Rattle.std.specs.Prelude.{◌≡◌, ℕ, ◌≤◌, Bool, true, List, filter, length, All}
 use Rattle.base.specs.Budget.{Steps}
 use Rattle.graph.specs.declared.parts.Parts.{Parts}
 use Rattle.graph.specs.Valuation.{Valuation, value_of}
@@ -14,6 +14,7 @@ use Rattle.transition.specs.declared.step.Consecution.{Consecution}
 use Rattle.transition.specs.declared.step.Consecution.TheVariants.{Held, Broken, GaveUp}
 use Rattle.transition.specs.States.{Denies, IsPartOf, IsAt}
 use Rattle.frames.specs.declared.frames.Entry.{Entry}
+use Rattle.frames.specs.Clauses.{IsResetLit}
 use Rattle.frames.specs.Frames.{IsStateClause, HoldsInitially, HoldsAfter, HoldsToward, HoldsOnward, Excludes}
 use Rattle.ic3.specs.declared.bad.AtBad.{AtBad}
 use Rattle.ic3.specs.declared.bad.AtBad.TheVariants.{Set, Excluded, OutOfBudget}
@@ -50,15 +51,19 @@ IsInductiveAnswer m entries k c after (Held part) = IsInductiveFrom m entries k 
 IsInductiveAnswer m entries k c after (Broken t) = (w : Valuation) × IsAt m w t × Denies (next_state m w) c
 IsInductiveAnswer m entries k c after GaveUp = after.left ≡ 0
 
--- an obligation of the frames up to the top: its clause is over the latches
+-- an obligation of the frames up to the top: its clause is over the latches, and false in its state; that and its inputs
+-- have the circuit's lengths
 pub record IsObligation (m : Parts) (top : ℕ) (o : Obligation) : Type 0 where
   pub below : o.level ≤ top
   pub clause : IsStateClause m o.clause
+  pub denies : Denies o.state o.clause
+  pub latches : length o.state ≡ length m.latches
+  pub inputs : length o.inputs ≡ length m.inputs
 
--- the states in which the clause is false are denied, or no reset excludes them, or this time leads to one of them
+-- the states in which the clause is false are denied, or no reset excludes all of them, or this time leads to one of them
 abbrev pub IsDenial : Parts → List StateLit → Steps → Denial → Type 0
 IsDenial m c after Denied = Unit {0}
-IsDenial m c after Initial = Unit {0}
+IsDenial m c after Initial = All (λ a. IsResetLit m.latches a → ⊥) c
 IsDenial m c after (Led t) = (w : Valuation) × IsAt m w t × Denies (next_state m w) c
 IsDenial m c after Spent = after.left ≡ 0
 

@@ -1,14 +1,18 @@
-//! Times that lead to the bad literal, denied one after the other.
+//! Proof obligations, blocked one after the other.
 
-ghost use Rattle.std.specs.Prelude.{◌≡◌, ◌≤◌, ◌++◌, ◌∷◌, [], IfOk, IfSome, OnOk};
+ghost use Rattle.std.specs.Prelude.{◌≡◌, ◌≤◌, ◌++◌, ◌∷◌, [], true, IfOk, IfSome, OnOk};
 ghost use Rattle.base.specs.Budget.{Spends};
-ghost use Rattle.graph.specs.Valuation.{Valuation};
+ghost use Rattle.engine.specs.Findings.{IsForBad};
+ghost use Rattle.graph.specs.Valuation.{Valuation, value_of};
+ghost use Rattle.cnf.specs.Formulas.{bad_literal};
 ghost use Rattle.transition.specs.States.{IsAt};
 ghost use Rattle.ic3.specs.Told.{IsSound};
+ghost use Rattle.ic3.specs.Cubes.{IsReady};
 ghost use Rattle.ic3.specs.Answers.{IsFound};
 
 use crate::asker::Asker;
 use crate::deny::Denial;
+use crate::lift::Lifting;
 use crate::obligation::{Obligation, obligation_at, obligation_before};
 use crate::run::run_of;
 use base::{Refused, push};
@@ -38,31 +42,38 @@ impl<S: Sat> Asker<S> {
         alloc: Global,
         circuit: &Model,
         frames: &mut Frames,
+        lifting: &mut Lifting,
         level: u32,
         time: Time,
         budget: &mut Budget,
     ) -> Result<Option<Finding>, EngineError>
+        requires for_bad { IsForBad circuit.now }
         requires sound { IsSound circuit.now self.old frames.old }
+        requires ready { IsReady circuit.now lifting.old }
         requires below { level ≤ frames.old.top }
-        requires at { (w : Valuation) × IsAt circuit.now w time }
+        requires at { (w : Valuation) × IsAt circuit.now w time × (value_of w (bad_literal circuit.now 0) ≡ true) }
         ensures spends { Spends budget.old budget.new }
         ensures sound { OnOk result (IsSound circuit.now self.new frames.new) }
+        ensures ready { OnOk result (IsReady circuit.now lifting.new) }
         ensures lawful { IfOk result (λ r. IfSome r (IsFound circuit.now budget.new)) }
     {
         let mut earlier: Vec<Obligation> = Vec::new(alloc);
-        let mut now = obligation_at(alloc, circuit, time, level)?;
+        let mut now = obligation_at(alloc, circuit, lifting, time, level)?;
         'clearing: while budget.tick() {
             let level = now.level;
             let clause = now.clause.as_slice();
             match self.deny(alloc, circuit, frames, level, clause, budget)? {
-                Denial::Initial => return run_of(alloc, circuit, &now.time, earlier.as_slice()),
+                Denial::Initial => {
+                    let run = run_of(alloc, circuit, &now, earlier.as_slice())?;
+                    return Ok(Some(run));
+                }
                 Denial::Denied if level < frames.top() => now.level = level + 1,
                 Denial::Denied => match earlier.pop() {
                     Some(before) => now = before,
                     None => return Ok(None),
                 },
                 Denial::Led(time) => {
-                    let before = obligation_before(alloc, circuit, time, &now)?;
+                    let before = obligation_before(alloc, circuit, lifting, time, &now)?;
                     stack(&mut earlier, now)?;
                     now = before;
                 }

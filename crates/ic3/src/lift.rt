@@ -1,78 +1,37 @@
-//! Lifting: from one state to all states that lead on with the same inputs and by the same gates
-//! (ternary simulation has the same aim: Een, Mishchenko, Brayton 2011).
-//!
-//! No contract says that they do: a run is answered only where its replay shows it.
+//! Lifting: from one state to all states that lead on with the same inputs, by a justification of
+//! what they lead to (Een, Mishchenko, Brayton 2011).
 
-ghost use Rattle.std.specs.Prelude.{◌≡◌, ◌<◌, ◌^◌, length, IfOk};
-ghost use Rattle.transition.specs.States.{Denies};
-ghost use Rattle.frames.specs.Frames.{IsStateClause};
+ghost use Rattle.std.specs.Prelude.{◌≡◌, ◌+◌, ◌<◌, ◌++◌, ◌^◌, ◌↔◌, IsTrue, ℕ, false, length, All, IfOk, OnOk};
 ghost use Rattle.graph.specs.declared.parts.Parts.{Parts};
+ghost use Rattle.graph.specs.Valuation.{Valuation, variable, place};
+ghost use Rattle.transition.specs.States.{Denies, IsAt, AllSet};
+ghost use Rattle.transition.specs.Replies.{IsUsable};
+ghost use Rattle.cones.specs.Marks.{IsMarked};
+ghost use Rattle.cones.specs.Reach.{IsGateTable};
+ghost use Rattle.frames.specs.Frames.{IsStateClause};
+ghost use Rattle.ic3.specs.Cubes.{Justifies, HasMarked, IsReady};
 
-use base::{Refused, filled};
-use graph::{Gate, Latch, Lit, Model, Seq};
+use base::{Refused, copied, extend, filled};
+use cones::{GateTable, Reach, unmark};
+use graph::{Latch, Lit, Model, Seq};
 use std::alloc::Global;
 use transition::{StateLit, Time};
 
-/// Whether the place of the literal's variable is marked.
-fn is_needed(needed: &[bool], lit: Lit) -> bool {
-    needed.get(lit.variable() as usize) == Some(&true)
+/// What lifting keeps of a circuit from one call to the next: the gate of each variable, and a mark
+/// for each variable, of which none is set between two calls.
+#[derive(Drop)]
+pub(crate) struct Lifting {
+    table: GateTable,
+    marks: Vec<bool>,
 }
 
-/// Marks the place of the literal's variable.
-fn need(needed: &mut [bool], lit: Lit) {
-    let place = lit.variable() as usize;
-    if place < needed.len() {
-        needed[place] = true;
-    }
-}
-
-/// Marks each of the literals.
-fn need_all(needed: &mut [bool], lits: &[Lit]) {
-    'marking: for lit in lits {
-        need(needed, *lit);
-    }
-}
-
-/// Whether the literal is true.
-fn is_true(values: &[bool], lit: Lit) -> bool {
-    values.get(lit.variable() as usize) == Some(&!lit.is_negated())
-}
-
-/// Of two literals that are false, the one on which a gate's value is to rest: one that is needed anyway,
-/// else that of the lesser variable, since inputs are numbered before latches, and these before gates.
-fn chosen(needed: &[bool], first: Lit, second: Lit) -> Lit {
-    if is_needed(needed, first) {
-        first
-    } else if is_needed(needed, second) || second.0 < first.0 {
-        second
-    } else {
-        first
-    }
-}
-
-/// Marks what gives the gate its value: both of its right sides, or one that is false.
-fn need_sides(needed: &mut [bool], values: &[bool], gate: Gate) {
-    match (is_true(values, gate.rhs0), is_true(values, gate.rhs1)) {
-        (true, true) => need_all(needed, &[gate.rhs0, gate.rhs1]),
-        (true, false) => need(needed, gate.rhs1),
-        (false, true) => need(needed, gate.rhs0),
-        (false, false) => {
-            let lit = chosen(needed, gate.rhs0, gate.rhs1);
-            need(needed, lit);
-        }
-    }
-}
-
-/// Marks what gives the marked variables their values. It looks at each gate once.
-fn need_gates(needed: &mut [bool], values: &[bool], circuit: &Model) {
-    let gates = circuit.gates();
-    let order = circuit.order();
-    'marking: for k in (0..order.len()).rev() {
-        if let Some(gate) = gates.get(order[k] as usize) {
-            if is_needed(needed, gate.lhs) {
-                need_sides(needed, values, *gate);
-            }
-        }
+/// Whether the literal's variable is marked.
+fn is_marked(marks: &[bool], lit: Lit) -> bool
+    ensures { IsTrue result ↔ IsMarked marks.now (variable lit) }
+{
+    match marks.get(lit.variable() as usize) {
+        Some(mark) => *mark,
+        None => false,
     }
 }
 
@@ -81,16 +40,17 @@ fn clause_of(
     alloc: Global,
     latches: &[Latch],
     state: &[bool],
-    needed: &[bool],
+    marks: &[bool],
 ) -> Result<Seq<StateLit>, Refused>
     requires small { length latches.now < 2 ^ 32 }
     requires state { length state.now ≡ length latches.now }
     ensures denies { IfOk result (Denies state.now) }
     ensures clause { (m : Parts) → m.latches ≡ latches.now → IfOk result (IsStateClause m) }
+    ensures each { IfOk result (HasMarked latches.now state.now marks.now) }
 {
     let mut clause = Seq::new(alloc);
     'denying: for i in 0..latches.len() {
-        if is_needed(needed, latches[i].lit) {
+        if is_marked(marks, latches[i].lit) {
             clause.push(StateLit {
                 latch: i as u32,
                 value: !state[i],
@@ -100,26 +60,84 @@ fn clause_of(
     Ok(clause)
 }
 
-/// The clause that is false in the state of the time, and in those alone that agree with it in what
-/// gives the targets and the constraints their values. It costs the circuit.
-pub(crate) fn lifted(
+/// The targets, and the constraints of the circuit.
+fn wanted_of(alloc: Global, circuit: &Model, targets: &[Lit]) -> Result<Vec<Lit>, Refused>
+    ensures { IfOk result (λ v. v.items ≡ targets.now ++ circuit.now.constraints) }
+{
+    let mut wanted = copied(alloc, targets)?;
+    extend(&mut wanted, circuit.constraints())?;
+    Ok(wanted)
+}
+
+/// The clause of the cube of all states that justify the targets and the constraints as the state of
+/// the time does. It costs the latches and what it marks, and takes the marks away.
+fn lifted(
     alloc: Global,
     circuit: &Model,
+    table: &GateTable,
+    marks: &mut [bool],
     time: &Time,
     targets: &[Lit],
 ) -> Result<Seq<StateLit>, Refused>
-    requires state { length time.now.state ≡ length circuit.now.latches }
-    requires inputs { length time.now.inputs ≡ length circuit.now.inputs }
+    requires table { IsGateTable circuit.now table.now }
+    requires places { length marks.old ≡ circuit.now.max_var + 1 }
+    requires clear { (v : ℕ) → place marks.old v ≡ false }
+    requires at { (w : Valuation) × IsAt circuit.now w time.now × AllSet w targets.now }
+    requires known { All (IsUsable circuit.now) targets.now }
+    ensures places { OnOk result (length marks.new ≡ circuit.now.max_var + 1) }
+    ensures clear { OnOk result ((v : ℕ) → place marks.new v ≡ false) }
     ensures denies { IfOk result (Denies time.now.state) }
     ensures clause { IfOk result (IsStateClause circuit.now) }
+    ensures justifies { IfOk result (λ c. Justifies circuit.now c time.now.inputs targets.now) }
 {
     circuit.parts();
-    let places = circuit.max_var() as usize + 1;
-    let mut values = filled(alloc, false, places)?;
-    circuit.eval(time.state.as_slice(), time.inputs.as_slice(), &mut values);
-    let mut needed = filled(alloc, false, places)?;
-    need_all(&mut needed, targets);
-    need_all(&mut needed, circuit.constraints());
-    need_gates(&mut needed, &values, circuit);
-    clause_of(alloc, circuit.latches(), time.state.as_slice(), &needed)
+    circuit.order();
+    let wanted = wanted_of(alloc, circuit, targets)?;
+    let list = cones::extend(
+        alloc,
+        circuit,
+        table,
+        Reach::Justification,
+        time.values.as_slice(),
+        &wanted,
+        marks,
+    )?;
+    let clause = clause_of(alloc, circuit.latches(), time.state.as_slice(), marks)?;
+    unmark(marks, &list);
+    Ok(clause)
+}
+
+impl Lifting {
+    /// The tables of a circuit. It costs the circuit.
+    pub(crate) fn new(alloc: Global, circuit: &Model) -> Result<Lifting, Refused>
+        ensures { IfOk result (IsReady circuit.now) }
+    {
+        circuit.parts();
+        let table = GateTable::new(alloc, circuit)?;
+        let marks = filled(alloc, false, circuit.max_var() as usize + 1)?;
+        Ok(Lifting { table, marks })
+    }
+
+    /// The clause that is false in the state of the time, and in a cube of states each of which keeps
+    /// the constraints and makes the targets true, with the inputs of the time. It costs the latches
+    /// and what gives the targets and the constraints their values. After an `Err` no state is
+    /// lifted any more.
+    pub(crate) fn lift(
+        &mut self,
+        alloc: Global,
+        circuit: &Model,
+        time: &Time,
+        targets: &[Lit],
+    ) -> Result<Seq<StateLit>, Refused>
+        requires ready { IsReady circuit.now self.old }
+        requires at { (w : Valuation) × IsAt circuit.now w time.now × AllSet w targets.now }
+        requires known { All (IsUsable circuit.now) targets.now }
+        ensures ready { OnOk result (IsReady circuit.now self.new) }
+        ensures denies { IfOk result (Denies time.now.state) }
+        ensures clause { IfOk result (IsStateClause circuit.now) }
+        ensures justifies { IfOk result (λ c. Justifies circuit.now c time.now.inputs targets.now) }
+    {
+        let clause = lifted(alloc, circuit, &self.table, &mut self.marks, time, targets)?;
+        Ok(clause)
+    }
 }

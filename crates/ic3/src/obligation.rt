@@ -1,74 +1,83 @@
-//! Obligations: states that lead to the bad literal, and are to be denied.
+//! Proof obligations: cubes of states that lead to the bad literal, and are to be blocked.
 
-ghost use Rattle.std.specs.Prelude.{◌≡◌, ◌≤◌, ℕ, length, IfOk};
+ghost use Rattle.std.specs.Prelude.{◌≡◌, ◌≤◌, ℕ, true, IfOk, OnOk};
+ghost use Rattle.engine.specs.Findings.{IsForBad};
+ghost use Rattle.graph.specs.Valuation.{Valuation, value_of};
+ghost use Rattle.graph.specs.Runs.{next_state};
+ghost use Rattle.cnf.specs.Formulas.{bad_literal};
+ghost use Rattle.transition.specs.States.{IsAt, Denies};
+ghost use Rattle.frames.specs.Frames.{IsStateClause};
+ghost use Rattle.ic3.specs.Cubes.{IsReady, ArePredecessors, AreBad};
 ghost use Rattle.ic3.specs.Answers.{IsObligation};
 
-use crate::lift::lifted;
+use crate::lift::Lifting;
 use base::Refused;
-use graph::{Latch, Lit, Model, Seq};
+use graph::{Model, Seq};
 use std::alloc::Global;
-use transition::{StateLit, Time};
+use transition::{StateLit, Time, denials};
 
-/// States that lead to the bad literal, and the frame in which they are to be denied.
+/// A cube of states that lead to the bad literal, and the frame in which it is to be blocked.
 #[derive(Debug, Drop)]
 pub(crate) struct Obligation {
-    /// one of the states, and the inputs with which each of them leads on
-    pub time: Time,
-    /// false in these states alone
+    /// one of the states
+    pub state: Seq<bool>,
+    /// the inputs with which each of the states leads on
+    pub inputs: Seq<bool>,
+    /// false in the states of the cube alone
     pub clause: Seq<StateLit>,
     pub level: u32,
 }
 
-/// What the latches of a clause take over.
-fn next_literals(
-    alloc: Global,
-    latches: &[Latch],
-    clause: &[StateLit],
-) -> Result<Seq<Lit>, Refused> {
-    let mut lits = Seq::new(alloc);
-    'collecting: for lit in clause {
-        if let Some(latch) = latches.get(lit.latch as usize) {
-            lits.push(latch.next)?;
-        }
-    }
-    Ok(lits)
-}
-
-/// The states like that of the time, at which the bad literal is true.
+/// The states that set the bad literal as the time does, to be blocked in the frame at `level`.
 pub(crate) fn obligation_at(
     alloc: Global,
     circuit: &Model,
+    lifting: &mut Lifting,
     time: Time,
     level: u32,
 ) -> Result<Obligation, Refused>
-    requires state { length time.state ≡ length circuit.now.latches }
-    requires inputs { length time.inputs ≡ length circuit.now.inputs }
-    ensures { (top : ℕ) → level ≤ top → IfOk result (IsObligation circuit.now top) }
+    requires for_bad { IsForBad circuit.now }
+    requires ready { IsReady circuit.now lifting.old }
+    requires at { (w : Valuation) × IsAt circuit.now w time × (value_of w (bad_literal circuit.now 0) ≡ true) }
+    ensures ready { OnOk result (IsReady circuit.now lifting.new) }
+    ensures obligation { (top : ℕ) → level ≤ top → IfOk result (IsObligation circuit.now top) }
+    ensures bad { IfOk result (λ o. AreBad circuit.now o.clause o.inputs) }
 {
-    let clause = lifted(alloc, circuit, &time, circuit.bad())?;
+    circuit.parts();
+    let clause = lifting.lift(alloc, circuit, &time, circuit.bad())?;
+    let Time { state, inputs, .. } = time;
     Ok(Obligation {
-        time,
+        state,
+        inputs,
         clause,
         level,
     })
 }
 
-/// The states like that of the time, which leads to those of `after`, to be denied in the frame before.
+/// The states that are predecessors of those of `after` as the state of the time is, to be blocked in
+/// the frame before.
 pub(crate) fn obligation_before(
     alloc: Global,
     circuit: &Model,
+    lifting: &mut Lifting,
     time: Time,
     after: &Obligation,
 ) -> Result<Obligation, Refused>
-    requires state { length time.state ≡ length circuit.now.latches }
-    requires inputs { length time.inputs ≡ length circuit.now.inputs }
-    ensures { (top : ℕ) → IsObligation circuit.now top after.now → IfOk result (IsObligation circuit.now top) }
+    requires ready { IsReady circuit.now lifting.old }
+    requires clause { IsStateClause circuit.now after.now.clause }
+    requires at { (w : Valuation) × IsAt circuit.now w time × Denies (next_state circuit.now w) after.now.clause }
+    ensures ready { OnOk result (IsReady circuit.now lifting.new) }
+    ensures obligation { (top : ℕ) → IsObligation circuit.now top after.now → IfOk result (IsObligation circuit.now top) }
+    ensures predecessors { IfOk result (λ o. ArePredecessors circuit.now o.clause o.inputs after.now.clause) }
 {
-    let targets = next_literals(alloc, circuit.latches(), after.clause.as_slice())?;
-    let clause = lifted(alloc, circuit, &time, targets.as_slice())?;
+    circuit.parts();
+    let targets = denials(alloc, circuit.latches(), after.clause.as_slice())?;
+    let clause = lifting.lift(alloc, circuit, &time, targets.as_slice())?;
     let level = after.level.saturating_sub(1);
+    let Time { state, inputs, .. } = time;
     Ok(Obligation {
-        time,
+        state,
+        inputs,
         clause,
         level,
     })

@@ -1,21 +1,26 @@
-//! The run that obligations are, once the last of them has an initial state.
+//! The run of the obligations, once the states of the last found have an initial one among them.
 
-ghost use Rattle.std.specs.Prelude.{◌≡◌, ◌∷◌, true, false, map, reverse, IfOk, IfSome};
+ghost use Rattle.std.specs.Prelude.{◌≡◌, ◌≢◌, ◌<◌, ◌≤◌, ◌∷◌, ℕ, List, true, false, length, map, reverse, All, IfOk};
 ghost use Rattle.base.specs.Budget.{Steps};
+ghost use Rattle.engine.specs.Findings.{IsForBad};
+ghost use Rattle.transition.specs.declared.state.StateLit.{StateLit as Literal};
+ghost use Rattle.transition.specs.States.{Denies};
+ghost use Rattle.frames.specs.Clauses.{IsResetLit};
 ghost use Rattle.frames.specs.Resets.{HasResets};
-ghost use Rattle.ic3.specs.Answers.{IsFound};
+ghost use Rattle.ic3.specs.Cubes.{LeadToBad};
+ghost use Rattle.ic3.specs.Answers.{IsObligation, IsFound};
 
 use crate::obligation::Obligation;
 use base::Refused;
-use engine::{EngineError, Finding, shown_run};
+use engine::Finding;
 use graph::{Latch, Model, Seq};
 use std::alloc::Global;
-use transition::Time;
 
 /// The latch's first value: its reset, or where it has none this one.
 fn first_value(latch: Latch, value: bool) -> bool
     ensures low { latch.reset.0 ≡ 0 → result ≡ false }
     ensures high { latch.reset.0 ≡ 1 → result ≡ true }
+    ensures free { latch.reset.0 ≢ 0 → latch.reset.0 ≢ 1 → result ≡ value }
 {
     match latch.reset.0 {
         0 => false,
@@ -24,43 +29,57 @@ fn first_value(latch: Latch, value: bool) -> bool
     }
 }
 
-/// The state with each reset of the circuit, and elsewhere its own values.
+/// The state with each reset of the circuit, and elsewhere its own values. It is in each cube that
+/// the state is in and that no reset excludes.
 fn reset_state(alloc: Global, latches: &[Latch], state: &[bool]) -> Result<Seq<bool>, Refused>
-    ensures { IfOk result (HasResets latches.now) }
+    requires { length state.now ≡ length latches.now }
+    ensures long { IfOk result (λ s. length s ≡ length latches.now) }
+    ensures resets { IfOk result (HasResets latches.now) }
+    ensures denies { (c : List Literal) → Denies state.now c → All (λ a. a.latch < length latches.now) c → All (λ a. IsResetLit latches.now a → ⊥) c → IfOk result (λ s. Denies s c) }
 {
     let mut values = Seq::new(alloc);
     'resetting: for i in 0..latches.len() {
-        values.push(first_value(latches[i], state.get(i) == Some(&true)))?;
+        values.push(first_value(latches[i], state[i]))?;
     }
     Ok(values)
 }
 
-/// The inputs of the last time and of the earlier ones, the last found first.
-fn lines_of(alloc: Global, last: &Time, earlier: &[Obligation]) -> Result<Seq<Seq<bool>>, Refused>
-    ensures { IfOk result (λ lines. lines ≡ last.now.inputs ∷ map (λ o. o.time.inputs) (reverse earlier.now)) }
+/// The inputs of the last obligation that was found and of the earlier ones, the last found first.
+fn lines_of(
+    alloc: Global,
+    last: &Obligation,
+    earlier: &[Obligation],
+) -> Result<Seq<Seq<bool>>, Refused>
+    ensures { IfOk result (λ lines. lines ≡ map (λ o. o.inputs) (last.now ∷ reverse earlier.now)) }
 {
     let mut lines = Seq::new(alloc);
     lines.push(Seq::from_slice(alloc, last.inputs.as_slice())?)?;
     let mut place = earlier.len();
     'listing: while place > 0 {
         place -= 1;
-        let inputs = earlier[place].time.inputs.as_slice();
+        let inputs = earlier[place].inputs.as_slice();
         lines.push(Seq::from_slice(alloc, inputs)?)?;
     }
     Ok(lines)
 }
 
-/// The run of obligations, of which the last found has an initial state, where its replay shows the
-/// bad literal. It takes memory by the length of their inputs.
+/// The run of obligations that lead to the bad literal, of which the last found has an initial state.
+/// It begins there, and takes the inputs of each. It takes memory by the length of their inputs.
 pub(crate) fn run_of(
     alloc: Global,
     circuit: &Model,
-    last: &Time,
+    last: &Obligation,
     earlier: &[Obligation],
-) -> Result<Option<Finding>, EngineError>
-    ensures { (after : Steps) → IfOk result (λ run. IfSome run (IsFound circuit.now after)) }
+) -> Result<Finding, Refused>
+    requires for_bad { IsForBad circuit.now }
+    requires obligations { (top : ℕ) × All (IsObligation circuit.now top) (last.now ∷ reverse earlier.now) }
+    requires leads { LeadToBad circuit.now (last.now ∷ reverse earlier.now) }
+    requires initial { All (λ a. IsResetLit circuit.now.latches a → ⊥) last.now.clause }
+    ensures { (after : Steps) → IfOk result (IsFound circuit.now after) }
 {
+    circuit.parts();
+    circuit.order();
     let initial = reset_state(alloc, circuit.latches(), last.state.as_slice())?;
     let inputs = lines_of(alloc, last, earlier)?;
-    shown_run(alloc, circuit, initial, inputs)
+    Ok(Finding::Run { initial, inputs })
 }

@@ -6,11 +6,13 @@ ghost use Rattle.cnf.specs.Formulas.{bad_literal};
 ghost use Rattle.engine.specs.Findings.{IsForBad};
 ghost use Rattle.frames.specs.Frames.{Excludes};
 ghost use Rattle.ic3.specs.Told.{IsSound};
+ghost use Rattle.ic3.specs.Cubes.{IsReady};
 ghost use Rattle.ic3.specs.Answers.{IsFound};
 
 use crate::asker::Asker;
 use crate::bad::AtBad;
 use crate::failures::Failures;
+use crate::lift::Lifting;
 use engine::{EngineError, Finding, Reason};
 use frames::Frames;
 use graph::{Budget, Model};
@@ -52,10 +54,12 @@ impl<S: Sat> Asker<S> {
         alloc: Global,
         circuit: &Model,
         frames: &mut Frames,
+        lifting: &mut Lifting,
         budget: &mut Budget,
     ) -> Result<Finding, EngineError>
         requires for_bad { IsForBad circuit.now }
         requires sound { IsSound circuit.now self.old frames.old }
+        requires ready { IsReady circuit.now lifting.old }
         ensures spends { Spends budget.old budget.new }
         ensures found { IfOk result (IsFound circuit.now budget.new) }
     {
@@ -64,7 +68,7 @@ impl<S: Sat> Asker<S> {
             match self.at_bad(alloc, circuit, frames, budget)? {
                 AtBad::Set(time) => {
                     let top = frames.top();
-                    match self.clear(alloc, circuit, frames, top, time, budget)? {
+                    match self.clear(alloc, circuit, frames, lifting, top, time, budget)? {
                         Some(finding) => return Ok(finding),
                         None => {}
                     }
@@ -95,6 +99,7 @@ impl<S: Sat> Asker<S> {
     {
         let mut frames = Frames::first(alloc, circuit)?;
         self.load(alloc, circuit, &frames, LEVELS)?;
-        self.search_from(alloc, circuit, &mut frames, budget)
+        let mut lifting = Lifting::new(alloc, circuit)?;
+        self.search_from(alloc, circuit, &mut frames, &mut lifting, budget)
     }
 }

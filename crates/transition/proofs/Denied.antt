@@ -68,10 +68,10 @@ value_next m w i i_in =
 value_denial : (m : Parts) (w : List Bool) (a : StateLit) → a.latch < length m.latches → value_of w (denial m.latches a) ≡ turned a.value (latch_at (next_state m w) a.latch)
 value_denial m w a a_in = value_along w a.value (next_literal m.latches a.latch) ∙ ap (turned a.value) (value_next m w a.latch a_in)
 
-denial_set : (m : Parts) (w : List Bool) (a : StateLit) → a.latch < length m.latches → (IsSet (next_state m w) a → ⊥) → value_of w (denial m.latches a) ≡ true
+pub denial_set : (m : Parts) (w : List Bool) (a : StateLit) → a.latch < length m.latches → (IsSet (next_state m w) a → ⊥) → value_of w (denial m.latches a) ≡ true
 denial_set m w a a_in unset = value_denial m w a a_in ∙ turned_true (latch_at (next_state m w) a.latch) a.value unset
 
-unset_by_denial : (m : Parts) (w : List Bool) (a : StateLit) → a.latch < length m.latches → value_of w (denial m.latches a) ≡ true → IsSet (next_state m w) a → ⊥
+pub unset_by_denial : (m : Parts) (w : List Bool) (a : StateLit) → a.latch < length m.latches → value_of w (denial m.latches a) ≡ true → IsSet (next_state m w) a → ⊥
 unset_by_denial m w a a_in set = turned_apart (latch_at (next_state m w) a.latch) a.value (sym (value_denial m w a a_in) ∙ set)
 
 -- the denials are literals of the circuit

@@ -1,11 +1,11 @@
 -- What satisfies a loaded solver's clauses is a time.
-use Rattle.std.proofs.Common.{◌≡◌, ℕ, ◌+◌, ◌%◌, Bool, true, not, List, [], ◌∷◌, ◌++◌, map, get_or, All, Contains, ℤ, refl, sym, ◌∙◌, ap, subst}
+use Rattle.std.proofs.Common.{◌≡◌, ℕ, ◌+◌, ◌%◌, ◌⊎◌, inl, inr, arith, length, Bool, true, false, not, List, [], ◌∷◌, ◌++◌, map, get_or, All, Contains, ℤ, refl, sym, ◌∙◌, ap, subst}
 use Rattle.std.proofs.lemmas.List.Elements.{All-head, All-tail, All-contains, Contains-append_left, Contains-append_right}
 use Rattle.base.specs.Budget.{Steps}
 use Rattle.graph.specs.declared.circuit.Lit.{Lit}
 use Rattle.graph.specs.declared.circuit.Latch.{Latch}
 use Rattle.graph.specs.declared.parts.Parts.{Parts}
-use Rattle.graph.specs.Valuation.{variable, value_of, defined, state_of, inputs_of}
+use Rattle.graph.specs.Valuation.{variable, place, value_of, defined, state_of, inputs_of}
 use Rattle.graph.specs.WellFormed.{IsWellFormed}
 use Rattle.graph.proofs.Evaluation.{All-left, All-right, All-unmap, held, Contains-map, inputs_even, latches_even}
 use Rattle.graph.proofs.Gates.{left, value_of-even}
@@ -45,6 +45,17 @@ inputs_same m b well = maps_same (value_of (valuation_of m (values b))) (value_a
     (Contains-append_left (map variable m.inputs ++ map held m.latches) (map left m.gates) (variable (get_or m.inputs k d))
     (Contains-append_left (map variable m.inputs) (map held m.latches) (variable (get_or m.inputs k d)) (Contains-map variable m.inputs k d k_in))))
 
+first_false : (b : List Bool) → get_or b 0 true ≡ false → get_or b 0 false ≡ false
+first_false [] e = refl
+first_false (x ∷ b) e = e
+
+-- the values of what the circuit defines
+values_same : (m : Parts) (b : List Bool) (k : ℕ) → IsWellFormed m → get_or b 0 false ≡ false → (k ≡ 0) ⊎ Contains (defined m) k → place b k ≡ place (valuation_of m (values b)) k
+values_same m b k well none known = elim known [
+  | inl constant ↦ subst (λ v. place b v ≡ place (valuation_of m (values b)) v) (sym constant) (none ∙ sym (valuation_is m (values b) well).constant)
+  | inr found ↦ sym (place_defined m (values b) k well found)
+]
+
 -- the assignment has the state of its valuation
 has_state : (m : Parts) (v : ℕ → Bool) → IsWellFormed m → v (0 + m.max_var + 1) ≡ true → HasState m v (state_of m (valuation_of m v))
 has_state m v well on =
@@ -67,7 +78,13 @@ found m room gs t guards lits b after well loaded known model =
     let first : List ℤ = map (guard_literal m) guards in
     let last : List ℤ = map (literal m.max_var 0) lits in (
       valuation_of m v,
-      record { is_time = time_valued m v well time; state = state_same m b well; inputs = inputs_same m b well },
+      record {
+        is_time = time_valued m v well time;
+        state = state_same m b well;
+        inputs = inputs_same m b well;
+        places = let long : length b ≡ t.vars + 1 = model.places in let vars : t.vars ≡ m.max_var + 1 + room = loaded.vars in omega (arith, long, vars);
+        values = λ k found. values_same m b k well (first_false b model.none) found;
+      },
       λ k d k_in. sym (literal_valued m v (get_or lits k d) well on (known k d k_in))
           ∙ All-unmap (λ l. is_true v l ≡ true) (literal m.max_var 0) lits (All-right (λ l. is_true v l ≡ true) first last model.assumed) k d k_in,
       λ k d k_in guard. clause_holds m v (state_of m (valuation_of m v)) (get_or gs k d) (has_state m v well on)

@@ -15,9 +15,9 @@ assumptions_of m guards lits = map (guard_literal m) guards ++ map (literal m.ma
 abbrev pub value_at : List Bool → Lit → Bool
 value_at values a = slice_index_or values (variable a) false
 
--- the values of the latches and of the inputs
+-- the values of the latches and of the inputs, and all of them
 abbrev pub time_at : Parts → List Bool → Time
-time_at m values = record { state = map (λ l. value_at values l.lit) m.latches; inputs = map (value_at values) m.inputs }
+time_at m values = record { state = map (λ l. value_at values l.lit) m.latches; inputs = map (value_at values) m.inputs; values = values }
 
 -- whether a literal of clauses is its variable's negation
 abbrev pub is_negation : ℤ → Bool

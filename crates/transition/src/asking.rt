@@ -81,7 +81,7 @@ pub(crate) fn ask<S: Sat>(
     solver.vars();
     let assumed = assumptions(alloc, model, guards, lits)?;
     match solver.solve(alloc, assumed.as_slice(), budget)? {
-        Answer::Model(values) => Ok(Reply::Found(time_in(alloc, model, values.as_slice())?)),
+        Answer::Model(values) => Ok(Reply::Found(time_in(alloc, model, values)?)),
         Answer::Core(core) => Ok(Reply::Core(core_lits(alloc, model, core.as_slice())?)),
         Answer::Spent => Ok(Reply::Spent),
     }

@@ -23,5 +23,5 @@ mod transition;
 
 pub use reply::Reply;
 pub use state::{StateLit, Time};
-pub use step::{Consecution, holds_after};
+pub use step::{Consecution, denials, holds_after};
 pub use transition::Transition;

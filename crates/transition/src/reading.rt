@@ -44,13 +44,18 @@ fn inputs_in(alloc: Global, model: &Model, values: &[bool]) -> Result<Seq<bool>,
 }
 
 /// The time that the values are.
-pub(crate) fn time_in(alloc: Global, model: &Model, values: &[bool]) -> Result<Time, Refused>
-    requires { model.now.max_var < length values.now }
-    ensures { IfOk result (λ t. t ≡ time_at model.now values.now) }
+pub(crate) fn time_in(alloc: Global, model: &Model, values: Vec<bool>) -> Result<Time, Refused>
+    requires { model.now.max_var < length values.items }
+    ensures { IfOk result (λ t. t ≡ time_at model.now values.items) }
 {
-    let state = state_in(alloc, model, values)?;
-    let inputs = inputs_in(alloc, model, values)?;
-    Ok(Time { state, inputs })
+    let values = Seq::from_vec(values);
+    let state = state_in(alloc, model, values.as_slice())?;
+    let inputs = inputs_in(alloc, model, values.as_slice())?;
+    Ok(Time {
+        state,
+        inputs,
+        values,
+    })
 }
 
 /// Whether a literal of clauses is its variable's negation.

@@ -10,9 +10,13 @@ pub struct StateLit {
     pub value: bool,
 }
 
-/// The state and the inputs of a time, in the order of the circuit's latches and inputs.
+/// The state and the inputs of a time, in the order of the circuit's latches and inputs, and the
+/// values of its variables.
 #[derive(Debug, Drop)]
 pub struct Time {
     pub state: Seq<bool>,
     pub inputs: Seq<bool>,
+    /// the value of each variable that the circuit defines, at the variable's place; what stands at
+    /// other places means nothing
+    pub values: Seq<bool>,
 }

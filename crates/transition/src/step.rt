@@ -51,8 +51,9 @@ fn unset_after(latches: &[Latch], lit: StateLit) -> Lit
     along(lit.value, latches[lit.latch as usize].next)
 }
 
-/// The literals that are true where the clause does not hold after the step.
-fn denials(alloc: Global, latches: &[Latch], clause: &[StateLit]) -> Result<Seq<Lit>, Refused>
+/// The literals that are true where the clause does not hold after the step: of each of its
+/// latches the next literal or that one's negation. They are in the clause's order.
+pub fn denials(alloc: Global, latches: &[Latch], clause: &[StateLit]) -> Result<Seq<Lit>, Refused>
     requires latches { All (λ a. a.latch < length latches.now) clause.now }
     requires small { All (λ l. l.next.0 < 4294967295) latches.now }
     ensures { IfOk result (λ lits. lits ≡ map (denial latches.now) clause.now) }

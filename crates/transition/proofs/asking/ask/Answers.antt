@@ -30,7 +30,7 @@ returns-in-Model-clause-lawful g c = λ n gs loaded.
     let b = c.in-Model.values.items in
     let model : IsModel told.vars told.clauses c.as_slice.result.now b = rw c.in-Model.is at c.in_ok-values.ensures.lawful in
     let asked : c.as_slice.result.now ≡ assumptions_of m guards lits = c.as_slice.ensures.value ∙ c.in_ok-assumed.ensures in
-    let time : c.in_ok-time_in-in-Model.field-0 ≡ time_at m b = c.in_ok-time_in-in-Model.ensures ∙ ap (time_at m) c.as_slice-in-Model.ensures.value in
+    let time : c.in_ok-time_in-in-Model.field-0 ≡ time_at m b = c.in_ok-time_in-in-Model.ensures in
     subst (λ t. IsReply m gs guards lits c.solve.new.budget (Found t)) (sym time)
     (found m n gs told guards lits b c.solve.new.budget c.parts.ensures.well_formed loaded c.requires.lits (subst (λ (ls : List ℤ). IsModel told.vars told.clauses ls b) asked model))
 

@@ -1,7 +1,33 @@
-use Rattle.std.proofs.Common.{rules, ◌∙◌}
+use Rattle.std.proofs.Common.{rules, ◌≡◌, ◌∙◌, ◌∷◌, [], reverse, refl, sym, subst, List, All}
+use Rattle.std.proofs.lemmas.List.Elements.{All-nil}
+use Rattle.ic3.specs.declared.obligation.Obligation.{Obligation}
+use Rattle.ic3.specs.Cubes.{LeadToBad}
 use Rattle.ic3.specs.Answers.{IsObligation}
 use Rattle.ic3.proofs.Clearing.{all_popped, all_stacked}
+use Rattle.ic3.proofs.Shown.{leads_popped, leads_stacked, all_turned}
 use Rattle.ic3.proofs.asker.Asker.clear.Goals as goal
+
+pub clearing-init : goal.clearing-init
+clearing-init g c =
+    let m = c.args.circuit.now in
+    let top = c.args.frames.now.top in
+    let none : [] ≡ c.new-earlier.result.items = sym c.new-earlier.ensures.items in
+    record {
+      spends = search rules;
+      top = refl;
+      sound = c.requires.sound;
+      ready = c.in_ok-now.ensures.ready;
+      leads = subst (λ (q : List Obligation). LeadToBad m (c.in_ok-now.now ∷ reverse q)) none c.in_ok-now.ensures.bad;
+      now = c.in_ok-now.ensures.obligation top c.requires.below;
+      earlier = subst (All (IsObligation m top)) none (All-nil (IsObligation m top));
+    }
+
+pub run_of-requires-clause-obligations : goal.run_of-requires-clause-obligations
+run_of-requires-clause-obligations g c =
+    let m = c.args.circuit.now in
+    let top = c.args.frames.now.top in
+    let h = c.clearing.invariant in
+    (top, subst (λ (xs : List Obligation). All (IsObligation m top) (c.clearing.now ∷ reverse xs)) (sym c.as_slice.ensures.value) (all_turned m top c.clearing.now c.clearing.earlier.items h.now h.earlier))
 
 pub clearing-preserved-in-Some : goal.clearing-preserved-in-Some
 clearing-preserved-in-Some g c =
@@ -11,6 +37,8 @@ clearing-preserved-in-Some g c =
       spends = search rules;
       top = c.deny.ensures.top ∙ h.top;
       sound = c.in_ok-deny.ensures.sound;
+      ready = h.ready;
+      leads = leads_popped c.args.circuit.now c.clearing.now c.in-Some.before c.clearing.earlier.items c.pop.new.self.items c.in-Some.ensures.items h.leads;
       now = met.0;
       earlier = met.1;
     }
@@ -18,11 +46,14 @@ clearing-preserved-in-Some g c =
 pub clearing-preserved : goal.clearing-preserved
 clearing-preserved g c =
     let h = c.clearing.invariant in
+    let m = c.args.circuit.now in
     let top = c.args.frames.now.top in
     record {
       spends = search rules;
       top = c.deny.ensures.top ∙ h.top;
       sound = c.in_ok-deny.ensures.sound;
-      now = c.in_ok-before-in-Led.ensures top h.now;
-      earlier = all_stacked (IsObligation c.args.circuit.now top) c.stack.new.earlier.items c.clearing.earlier.items c.clearing.now c.in_ok-stack-in-Led.ensures h.now h.earlier;
+      ready = c.in_ok-before-in-Led.ensures.ready;
+      leads = leads_stacked m c.clearing.now c.in_ok-before-in-Led.before c.clearing.earlier.items c.stack.new.earlier.items c.in_ok-stack-in-Led.ensures c.in_ok-before-in-Led.ensures.predecessors h.leads;
+      now = c.in_ok-before-in-Led.ensures.obligation top h.now;
+      earlier = all_stacked (IsObligation m top) c.stack.new.earlier.items c.clearing.earlier.items c.clearing.now c.in_ok-stack-in-Led.ensures h.now h.earlier;
     }

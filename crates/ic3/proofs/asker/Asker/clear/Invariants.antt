@@ -1,6 +1,7 @@
-use Rattle.std.proofs.Common.{◌≡◌, All}
+use Rattle.std.proofs.Common.{◌≡◌, ◌∷◌, reverse, All}
 use Rattle.base.specs.Budget.{Spends}
 use Rattle.ic3.specs.Told.{IsSound}
+use Rattle.ic3.specs.Cubes.{IsReady, LeadToBad}
 use Rattle.ic3.specs.Answers.{IsObligation}
 use Rattle.ic3.proofs.asker.Asker.clear.Given as goal
 
@@ -9,6 +10,8 @@ invariant-clearing g l = record {
   spends : Spends l.initial.budget l.budget;
   top : l.frames.top ≡ l.initial.frames.top;
   sound : IsSound l.circuit l.self l.frames;
+  ready : IsReady l.circuit l.lifting;
+  leads : LeadToBad l.circuit (l.now ∷ reverse l.earlier.items);
   now : IsObligation l.circuit l.initial.frames.top l.now;
   earlier : All (IsObligation l.circuit l.initial.frames.top) l.earlier.items;
 }

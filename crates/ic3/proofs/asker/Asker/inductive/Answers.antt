@@ -16,7 +16,7 @@ with_part-requires g c =
     record {
       part = subst (λ part. IsPartOf part clause) (sym c.as_slice-in-Held.ensures) law.0;
       more = subst (Contains clause) (sym c.unwrap_or-first.ensures)
-          (reset_of c.latches.result.now c.as_slice.result.now clause c.reset_literal.result c.args.first c.reset_literal.ensures inside c.requires.among
+          (reset_of c.latches.result.now c.as_slice.result.now clause c.reset_literal.result c.args.first c.reset_literal.ensures.some inside c.requires.among
           (subst (λ (latches : List Latch). IsResetLit latches c.args.first) (sym c.latches.ensures) c.requires.reset)).0;
     }
 
@@ -32,7 +32,7 @@ returns-in_ok-kept-in-Held-clause-lawful g c =
     let law = subst (IsRelative m es k clause c.relative.new.budget) c.in-Held.is c.in_ok-part.ensures.lawful in
     let inside = subst (λ part. IsPartOf part clause) (sym c.as_slice.ensures) law.0 in
     let own = subst (λ (latches : List Latch). IsResetLit latches c.args.first) (sym c.latches.ensures) c.requires.reset in
-    let reset = reset_of c.latches.result.now c.as_slice.result.now clause c.reset_literal.result c.args.first c.reset_literal.ensures inside c.requires.among own in
+    let reset = reset_of c.latches.result.now c.as_slice.result.now clause c.reset_literal.result c.args.first c.reset_literal.ensures.some inside c.requires.among own in
     kept_inductive m es k part kept clause first c.relative.new.budget c.requires.clause law c.in_ok-kept-in-Held.ensures.picked
     (subst (λ xs. IsPartOf xs kept) c.as_slice-in-Held.ensures c.in_ok-kept-in-Held.ensures.part) c.in_ok-kept-in-Held.ensures.more
     (subst (λ (latches : List Latch). IsResetLit latches first) c.latches.ensures (subst (IsResetLit c.latches.result.now) {x = unwrap_or c.reset_literal.result c.args.first} (sym c.unwrap_or-first.ensures) reset.1))
