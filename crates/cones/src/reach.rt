@@ -55,6 +55,17 @@ fn mark_both(marks: &mut [bool], list: &mut Vec<u32>, gate: Gate) -> Result<(), 
     Ok(())
 }
 
+/// Of two false right sides, whether the gate's value is to rest on the second: on one that is marked
+/// anyway, else on that of the lesser variable, since inputs are numbered before latches, and these
+/// before gates.
+fn prefers_second(marks: &[bool], gate: Gate) -> bool
+    requires { (variable gate.rhs0 < length marks.now) × (variable gate.rhs1 < length marks.now) }
+{
+    let is_lesser = gate.rhs1.0 < gate.rhs0.0;
+    let is_marked = marks[gate.rhs1.variable() as usize];
+    !marks[gate.rhs0.variable() as usize] && (is_marked || is_lesser)
+}
+
 /// Marks what gives the gate its value.
 fn mark_justification(
     values: &[bool],
@@ -74,7 +85,8 @@ fn mark_justification(
         mark_both(marks, list, gate)?;
         return Ok(());
     }
-    let is_second = first || (!second && marks[gate.rhs1.variable() as usize]);
+    let is_preferred = prefers_second(marks, gate);
+    let is_second = first || (!second && is_preferred);
     if is_second {
         mark(marks, list, gate.rhs1.variable())?;
         return Ok(());

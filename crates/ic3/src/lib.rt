@@ -8,10 +8,11 @@
 //! `AreFrames`, which stands in `IsSound`, and every call keeps that.
 //!
 //! A time of the last frame at which the bad literal is true stands for all states that lead on as
-//! its own does: those that agree with it in the latches on which the gates' values rest. They are
-//! denied: by a clause that excludes them and holds after each step from the frame before, or else
-//! by denying first what leads to one of them. What is still to be denied is a run, once it has an
-//! initial state; it is answered where its replay shows the bad literal. Where the last frame
+//! its own does: those that agree with it in the latches on which the gates' values rest (`cones`).
+//! They are denied: by a clause that excludes them and holds after each step from the frame before,
+//! or else by denying first a predecessor of one of them. What is still to be denied is a run, once
+//! it has an initial state: each state of a lifted cube is a predecessor of the cube behind, by
+//! contract. Where the last frame
 //! excludes the bad literal, the next is opened, and clauses that hold one step longer move on. A
 //! frame that is the same as the next is an invariant.
 //!
