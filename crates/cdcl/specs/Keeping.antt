@@ -1,9 +1,9 @@
 -- What a search does to the clauses.
 use Rattle.std.specs.Prelude.{◌≡◌}
-use Rattle.kernel.specs.Kept.{added}
-use Rattle.kernel.specs.Known.{Known}
+use Rattle.cdcl.specs.Logged.{Logged, is_wanted}
 
--- the variables and the clauses that were added stay, whatever is learned and forgotten
-pub record Keeps (old new : Known) : Type 0 where
+-- the variables and the clauses that were added stay, whatever is learned and forgotten, and so does whether a log is wanted
+pub record Keeps (old new : Logged) : Type 0 where
   pub same_vars : new.vars ≡ old.vars
-  pub same_added : added new.kept ≡ added old.kept
+  pub same_clauses : new.clauses ≡ old.clauses
+  pub same_wanted : is_wanted new.log ≡ is_wanted old.log

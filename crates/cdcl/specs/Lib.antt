@@ -1,4 +1,4 @@
+pub mod Logged
 pub mod Keeping
 pub mod Settled
 pub mod Refutations
-pub mod Logged

@@ -9,7 +9,7 @@
 //! kernel checks the clause before it is learned.
 
 use crate::guide::{Guide, Step};
-use crate::shortening::shorten;
+use crate::minimization::minimize;
 use base::{Refused, push};
 use kernel::Kernel;
 
@@ -38,7 +38,7 @@ pub fn analyse(
     if let Some(first) = guide.clause.first_mut() {
         *first = point.wrapping_neg();
     }
-    shorten(kernel, guide)?;
+    minimize(kernel, guide)?;
     finish(guide, conflict)
 }
 

@@ -4,6 +4,7 @@ ghost use Rattle.cdcl.specs.Keeping.{Keeps};
 
 use crate::guide::Guide;
 use crate::levels::go_back;
+use crate::logged_kernel::LoggedKernel;
 use crate::units::imply;
 use base::push;
 use kernel::{Found, Kernel};
@@ -13,11 +14,11 @@ use solver::SatError;
 /// are not false the search goes back to level 0, but for clauses of a single literal: those are
 /// brought on the trail in each call, until one begins at level 0. All have their places first,
 /// since a literal that comes on the trail at level 0 is learned as a clause behind them.
-pub fn attach_new(kernel: &mut Kernel, guide: &mut Guide) -> Result<(), SatError>
+pub fn attach_new(kernel: &mut LoggedKernel, guide: &mut Guide) -> Result<(), SatError>
     ensures { Keeps kernel.old kernel.new }
 {
     let first = guide.watches.len();
-    let last = kernel.clauses();
+    let last = kernel.known().clauses();
     guide.watches.place(last)?;
     for index in first..last {
         if index < 4_294_967_295 {
@@ -29,21 +30,21 @@ pub fn attach_new(kernel: &mut Kernel, guide: &mut Guide) -> Result<(), SatError
 
 /// Watches a clause. One of a single literal is kept to be brought on the trail; any other that can't be
 /// watched is looked at at level 0.
-fn attach(kernel: &mut Kernel, guide: &mut Guide, id: u32) -> Result<(), SatError>
+fn attach(kernel: &mut LoggedKernel, guide: &mut Guide, id: u32) -> Result<(), SatError>
     ensures { Keeps kernel.old kernel.new }
 {
-    if let Some(clause) = kernel.clause(id) {
+    if let Some(clause) = kernel.known().clause(id) {
         guide.take_in(clause)?;
     }
-    if watch(kernel, guide, id)? {
+    if watch(kernel.known(), guide, id)? {
         return Ok(());
     }
-    if let Some([_]) = kernel.clause(id) {
+    if let Some([_]) = kernel.known().clause(id) {
         push(&mut guide.single, id)?;
         return Ok(());
     }
     go_back(kernel, guide, 0)?;
-    if watch(kernel, guide, id)? {
+    if watch(kernel.known(), guide, id)? {
         return Ok(());
     }
     bring(kernel, guide, id)
@@ -62,7 +63,7 @@ fn watch(kernel: &Kernel, guide: &mut Guide, id: u32) -> Result<bool, SatError> 
 }
 
 /// Brings the literal that a clause leaves on the trail. A clause that is false waits to be met.
-fn bring(kernel: &mut Kernel, guide: &mut Guide, id: u32) -> Result<(), SatError>
+fn bring(kernel: &mut LoggedKernel, guide: &mut Guide, id: u32) -> Result<(), SatError>
     ensures { Keeps kernel.old kernel.new }
 {
     if let Found::Conflict = imply(kernel, guide, id)? {
@@ -72,7 +73,7 @@ fn bring(kernel: &mut Kernel, guide: &mut Guide, id: u32) -> Result<(), SatError
 }
 
 /// Brings the literal of the clause at a place of those that have one.
-fn bring_at(kernel: &mut Kernel, guide: &mut Guide, at: usize) -> Result<(), SatError>
+fn bring_at(kernel: &mut LoggedKernel, guide: &mut Guide, at: usize) -> Result<(), SatError>
     ensures { Keeps kernel.old kernel.new }
 {
     match guide.single.get(at).copied() {
@@ -82,7 +83,7 @@ fn bring_at(kernel: &mut Kernel, guide: &mut Guide, at: usize) -> Result<(), Sat
 }
 
 /// Brings the literals of the clauses on the trail that have one. At level 0 they stay there.
-fn bring_single(kernel: &mut Kernel, guide: &mut Guide) -> Result<(), SatError>
+fn bring_single(kernel: &mut LoggedKernel, guide: &mut Guide) -> Result<(), SatError>
     ensures { Keeps kernel.old kernel.new }
 {
     for at in 0..guide.single.len() {
@@ -102,7 +103,7 @@ fn two_open(kernel: &Kernel, id: u32) -> Option<(i32, i32)> {
 }
 
 /// Lets a clause wait no longer that is not false.
-pub fn recall(kernel: &mut Kernel, guide: &mut Guide) -> Result<(), SatError>
+pub fn recall(kernel: &mut LoggedKernel, guide: &mut Guide) -> Result<(), SatError>
     ensures { Keeps kernel.old kernel.new }
 {
     if let Some(id) = guide.waiting {

@@ -3,9 +3,9 @@
 ghost use Rattle.std.specs.Prelude.{◌≡◌, []};
 
 use crate::guide::Guide;
+use crate::logged_kernel::LoggedKernel;
 use crate::search::search;
 use base::Budget;
-use kernel::Kernel;
 use solver::{Answer, Sat, SatError};
 use std::alloc::Global;
 use std::marker::Model;
@@ -16,17 +16,20 @@ use std::marker::Model;
 /// call before began with too.
 #[derive(Drop)]
 pub struct Cdcl {
-    kernel: Kernel,
+    kernel: LoggedKernel,
     guide: Guide,
 }
 
 impl Model for Cdcl {
     ghost use Rattle.lrat.specs.declared.formula.Formula.{Formula};
-    ghost use Rattle.kernel.specs.Kept.{added};
+    ghost use Rattle.cdcl.specs.Logged.{is_wanted};
+    ghost use Rattle.std.specs.Prelude.{◌≡◌, false};
 
     ghost Value = { Formula };
 
-    ghost view = { λ s. record { vars = s.kernel.vars; clauses = added s.kernel.kept } };
+    ghost view = { λ s. record { vars = s.kernel.vars; clauses = s.kernel.clauses } };
+
+    ghost invariant = { λ s. is_wanted s.kernel.log ≡ false };
 }
 
 impl Cdcl {
@@ -35,7 +38,7 @@ impl Cdcl {
         ensures { result ≡ record { vars = 0; clauses = [] } }
     {
         Cdcl {
-            kernel: Kernel::new(alloc),
+            kernel: LoggedKernel::new(alloc),
             guide: Guide::new(alloc),
         }
     }
@@ -54,13 +57,13 @@ impl Sat for Cdcl {
     }
 
     fn vars(&self) -> u32 {
-        self.kernel.vars()
+        self.kernel.known().vars()
     }
 
     /// It costs the clause's literals. The clause is looked at when `solve` is called.
     fn add(&mut self, _alloc: Global, clause: &[i32]) -> Result<(), SatError> {
         self.kernel.add(clause)?;
-        let _ids = self.kernel.clauses();
+        let _ids = self.kernel.known().clauses();
         Ok(())
     }
 

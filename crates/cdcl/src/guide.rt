@@ -2,7 +2,6 @@
 
 use crate::heap::Heap;
 use crate::levels::Levels;
-use crate::log::Log;
 use crate::restarts::Restarts;
 use crate::table::Table;
 use crate::watches::Watches;
@@ -51,8 +50,6 @@ pub struct Guide {
     pub learned: Vec<u32>,
     /// how many conflicts were met
     pub conflicts: u64,
-    /// the proof so far
-    pub log: Log,
 }
 
 impl Guide {
@@ -77,7 +74,6 @@ impl Guide {
             hints: Vec::new(alloc),
             learned: Vec::new(alloc),
             conflicts: 0,
-            log: Log::unwanted(),
         }
     }
 

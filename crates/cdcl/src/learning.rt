@@ -1,22 +1,23 @@
 //! What is done with a conflict: a clause is learned from it, and the search goes back to where
 //! that clause leaves one literal.
 //!
-//! The kernel refuses a clause that its hints do not show. Then the denial of all decisions is
-//! learned, which follows from any conflict.
+//! The kernel refuses a clause that its hints do not show. Then the decision clause is learned,
+//! which denies all decisions and follows from any conflict.
 
 ghost use Rattle.cdcl.specs.Keeping.{Keeps};
 
 use crate::analysis::analyse;
 use crate::guide::Guide;
 use crate::levels::go_back;
-use crate::units::{imply, last_id};
+use crate::lines::last_id;
+use crate::logged_kernel::LoggedKernel;
+use crate::units::imply;
 use base::{Refused, push};
-use kernel::{Found, Kernel};
 use solver::SatError;
 
 /// Learns from a clause that is false, whose greatest level is `level` and not 0, and goes back.
 pub fn learn(
-    kernel: &mut Kernel,
+    kernel: &mut LoggedKernel,
     guide: &mut Guide,
     conflict: u32,
     level: usize,
@@ -24,11 +25,11 @@ pub fn learn(
     ensures { Keeps kernel.old kernel.new }
 {
     go_back(kernel, guide, level)?;
-    analyse(kernel, guide, conflict, level)?;
-    if !learn_or_deny(kernel, guide, conflict)? {
+    analyse(kernel.known(), guide, conflict, level)?;
+    if !learn_clause(kernel, guide, conflict)? {
         return Ok(());
     }
-    let id = last_id(kernel);
+    let id = last_id(kernel.known());
     let back = order(guide);
     go_back(kernel, guide, back)?;
     attach(guide, id)?;
@@ -37,37 +38,22 @@ pub fn learn(
     Ok(())
 }
 
-/// Adds the clause in progress, or else the denial of the decisions.
-fn learn_or_deny(kernel: &mut Kernel, guide: &mut Guide, conflict: u32) -> Result<bool, SatError>
+/// Learns the clause in progress, or else the decision clause.
+fn learn_clause(
+    kernel: &mut LoggedKernel,
+    guide: &mut Guide,
+    conflict: u32,
+) -> Result<bool, SatError>
     ensures { Keeps kernel.old kernel.new }
 {
-    if !kernel.learn(guide.clause.as_slice(), guide.hints.as_slice())? {
-        match kernel.imply(conflict)? {
-            Found::Conflict => guide.clause = kernel.deny(guide.alloc, conflict)?,
-            _ => return Ok(false),
-        }
-        hint_all(kernel, guide, conflict)?;
+    if kernel.learn(guide.alloc, guide.clause.as_slice(), guide.hints.as_slice())? {
+        return Ok(true);
     }
-    let id = last_id(kernel);
-    guide.log.add(
-        guide.alloc,
-        id,
-        guide.clause.as_slice(),
-        guide.hints.as_slice(),
-    )?;
+    let Some(clause) = kernel.learn_decision_clause(guide.alloc, conflict)? else {
+        return Ok(false);
+    };
+    guide.clause = clause;
     Ok(true)
-}
-
-/// Hints all reasons on the trail, and then the clause that is false.
-fn hint_all(kernel: &Kernel, guide: &mut Guide, conflict: u32) -> Result<(), Refused> {
-    guide.hints.clear();
-    for place in 0..kernel.len() {
-        if let Some(reason) = kernel.reason(place) {
-            push(&mut guide.hints, reason)?;
-        }
-    }
-    push(&mut guide.hints, conflict)?;
-    Ok(())
 }
 
 /// Puts the literal of the greatest level first and that of the next one second, and answers the

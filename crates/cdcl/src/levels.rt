@@ -7,9 +7,9 @@
 ghost use Rattle.cdcl.specs.Keeping.{Keeps};
 
 use crate::guide::Guide;
+use crate::logged_kernel::LoggedKernel;
 use crate::table::Table;
 use base::{Refused, push};
-use kernel::Kernel;
 use solver::SatError;
 use std::alloc::Global;
 
@@ -83,7 +83,7 @@ impl Levels {
 }
 
 /// Goes back to a level. What goes from the trail keeps its value as a phase.
-pub fn go_back(kernel: &mut Kernel, guide: &mut Guide, level: usize) -> Result<(), SatError>
+pub fn go_back(kernel: &mut LoggedKernel, guide: &mut Guide, level: usize) -> Result<(), SatError>
     ensures { Keeps kernel.old kernel.new }
 {
     give_up(kernel, guide, level, Phases::Kept)
@@ -91,7 +91,7 @@ pub fn go_back(kernel: &mut Kernel, guide: &mut Guide, level: usize) -> Result<(
 
 /// Goes back to a level at the end of a call. The phases of what goes from the trail are the negative
 /// ones again, so that the models of the next call have few variables that are true.
-pub fn leave(kernel: &mut Kernel, guide: &mut Guide, level: usize) -> Result<(), SatError>
+pub fn leave(kernel: &mut LoggedKernel, guide: &mut Guide, level: usize) -> Result<(), SatError>
     ensures { Keeps kernel.old kernel.new }
 {
     give_up(kernel, guide, level, Phases::Negative)
@@ -108,7 +108,7 @@ enum Phases {
 
 /// Goes back to a level.
 fn give_up(
-    kernel: &mut Kernel,
+    kernel: &mut LoggedKernel,
     guide: &mut Guide,
     level: usize,
     phases: Phases,
@@ -119,8 +119,8 @@ fn give_up(
         return Ok(());
     };
     let start = *start;
-    for place in start..kernel.len() {
-        if let Some(literal) = kernel.literal(place) {
+    for place in start..kernel.known().len() {
+        if let Some(literal) = kernel.known().literal(place) {
             let variable = literal.unsigned_abs();
             let phase = phases == Phases::Kept && literal > 0;
             guide.phases.put(variable as usize, phase);
@@ -134,10 +134,14 @@ fn give_up(
 }
 
 /// Opens a level and decides the literal, where it is open.
-pub fn open_level(kernel: &mut Kernel, guide: &mut Guide, literal: i32) -> Result<(), SatError>
+pub fn open_level(
+    kernel: &mut LoggedKernel,
+    guide: &mut Guide,
+    literal: i32,
+) -> Result<(), SatError>
     ensures { Keeps kernel.old kernel.new }
 {
-    let place = kernel.len();
+    let place = kernel.known().len();
     push(&mut guide.levels.starts, place)?;
     if kernel.decide(literal)? {
         guide.levels.note(literal, place);

@@ -10,10 +10,11 @@ ghost use Rattle.base.specs.Budget.{Spends};
 ghost use Rattle.cdcl.specs.Keeping.{Keeps};
 
 use crate::guide::Guide;
+use crate::logged_kernel::LoggedKernel;
 use crate::units::imply;
 use crate::watches::Watch;
 use base::Budget;
-use kernel::{Found, Kernel};
+use kernel::Found;
 use solver::SatError;
 
 /// How a propagation ended.
@@ -40,15 +41,15 @@ enum Visit {
 
 /// Looks at the clauses of which a watched literal became false, until nothing more follows.
 pub fn propagate(
-    kernel: &mut Kernel,
+    kernel: &mut LoggedKernel,
     guide: &mut Guide,
     budget: &mut Budget,
 ) -> Result<Propagated, SatError>
     ensures keeps { Keeps kernel.old kernel.new }
     ensures spends { Spends budget.old budget.new }
 {
-    for _ in 0..kernel.vars() as u64 + 1 {
-        let Some(literal) = kernel.literal(guide.head) else {
+    for _ in 0..kernel.known().vars() as u64 + 1 {
+        let Some(literal) = kernel.known().literal(guide.head) else {
             return Ok(Propagated::Quiet);
         };
         match propagate_literal(kernel, guide, budget, literal.wrapping_neg())? {
@@ -62,7 +63,7 @@ pub fn propagate(
 
 /// Looks at the clauses that watch a literal, which is false.
 fn propagate_literal(
-    kernel: &mut Kernel,
+    kernel: &mut LoggedKernel,
     guide: &mut Guide,
     budget: &mut Budget,
     denied: i32,
@@ -82,7 +83,7 @@ fn propagate_literal(
 
 /// Looks at the clauses of two literals that have this one.
 fn visit_binary(
-    kernel: &mut Kernel,
+    kernel: &mut LoggedKernel,
     guide: &mut Guide,
     budget: &mut Budget,
     denied: i32,
@@ -94,7 +95,7 @@ fn visit_binary(
         let Some(watch) = guide.watches.binary(denied).get(at).copied() else {
             break;
         };
-        if kernel.is_true(watch.blocker) {
+        if kernel.known().is_true(watch.blocker) {
             continue;
         }
         if !budget.tick() {
@@ -110,7 +111,7 @@ fn visit_binary(
 /// Looks at the longer clauses that watch the literal. Those that go on watching it stay in the
 /// list, in order.
 fn visit_long(
-    kernel: &mut Kernel,
+    kernel: &mut LoggedKernel,
     guide: &mut Guide,
     budget: &mut Budget,
     denied: i32,
@@ -122,7 +123,7 @@ fn visit_long(
     let mut kept = 0;
     for at in 0..list.len() {
         let watch = list[at];
-        if kernel.is_true(watch.blocker) {
+        if kernel.known().is_true(watch.blocker) {
             list[kept] = watch;
             kept += 1;
             continue;
@@ -167,15 +168,20 @@ fn close_gap(list: &mut Vec<Watch>, to: usize, from: usize) {
 }
 
 /// Looks at a clause that watches a literal which is false.
-fn look_at(kernel: &mut Kernel, guide: &mut Guide, denied: i32, id: u32) -> Result<Visit, SatError>
+fn look_at(
+    kernel: &mut LoggedKernel,
+    guide: &mut Guide,
+    denied: i32,
+    id: u32,
+) -> Result<Visit, SatError>
     ensures { Keeps kernel.old kernel.new }
 {
     let other = guide.watches.other(id, denied);
-    if kernel.is_true(other) {
+    if kernel.known().is_true(other) {
         return Ok(Visit::Stays(other));
     }
-    if let Some(next) = kernel.replacement(id, other) {
-        if kernel.is_true(next) {
+    if let Some(next) = kernel.known().replacement(id, other) {
+        if kernel.known().is_true(next) {
             return Ok(Visit::Stays(next));
         }
         guide.watches.replace(id, other, next)?;

@@ -7,8 +7,7 @@
 ghost use Rattle.cdcl.specs.Keeping.{Keeps};
 
 use crate::guide::Guide;
-use crate::units::last_id;
-use base::push;
+use crate::logged_kernel::LoggedKernel;
 use kernel::Kernel;
 use solver::SatError;
 
@@ -16,35 +15,20 @@ use solver::SatError;
 pub const INTERVAL: u64 = 2000;
 
 /// Takes the longer half of the learned clauses out.
-pub fn reduce(kernel: &mut Kernel, guide: &mut Guide) -> Result<(), SatError>
+pub fn reduce(kernel: &mut LoggedKernel, guide: &mut Guide) -> Result<(), SatError>
     ensures { Keeps kernel.old kernel.new }
 {
     guide
         .learned
         .as_mut_slice()
-        .sort_unstable_by_key(|id| rank(kernel, *id));
+        .sort_unstable_by_key(|id| rank(kernel.known(), *id));
     let half = guide.learned.len() / 2;
     kernel.forget(guide.alloc, &guide.learned[half..])?;
-    log_forgotten(kernel, guide)?;
-    guide.learned.retain(|id| kernel.clause(*id).is_some());
-    guide.watches.sweep(kernel);
-    Ok(())
-}
-
-/// Logs which of the learned clauses are gone.
-fn log_forgotten(kernel: &Kernel, guide: &mut Guide) -> Result<(), SatError> {
-    if !guide.log.is_wanted() {
-        return Ok(());
-    }
-    let mut gone = Vec::new(guide.alloc);
-    for id in &guide.learned {
-        if kernel.clause(*id).is_none() {
-            push(&mut gone, *id)?;
-        }
-    }
     guide
-        .log
-        .delete(guide.alloc, last_id(kernel), gone.as_slice())
+        .learned
+        .retain(|id| kernel.known().clause(*id).is_some());
+    guide.watches.sweep(kernel.known());
+    Ok(())
 }
 
 /// The clause's length, and the newer the less.

@@ -2,21 +2,21 @@
 
 ghost use Rattle.std.specs.Prelude.{All, IfOk, IfSome};
 ghost use Rattle.base.specs.Budget.{Spends};
-ghost use Rattle.kernel.specs.Kept.{added};
 ghost use Rattle.cdcl.specs.Keeping.{Keeps};
 ghost use Rattle.lrat.specs.Literals.{IsLiteral};
-ghost use Rattle.cdcl.specs.Settled.{IsSettled};
+ghost use Rattle.cdcl.specs.Settled.{EndsWith, IsSettled};
 ghost use Rattle.solver.specs.Answers.{IsLawful};
 
 use crate::analysis::top_level;
 use crate::attaching::{attach_new, recall};
-use crate::cores::{core_of_denied, empty_core};
+use crate::final_analysis::{core_of_denied, empty_core};
 use crate::guide::Guide;
 use crate::learning::learn;
 use crate::levels::{go_back, open_level};
+use crate::logged_kernel::LoggedKernel;
 use crate::propagation::{Propagated, propagate};
 use crate::reduction::{INTERVAL, reduce};
-use crate::resuming::resume;
+use crate::trail_reuse::reuse_trail;
 use crate::units::imply;
 use base::Budget;
 use kernel::{Found, Kernel};
@@ -32,9 +32,10 @@ enum Next {
     Full,
 }
 
-/// Finds a model under the assumptions, or part of them that can't hold.
+/// Finds a model under the assumptions, or part of them that can't hold. Where a log is wanted and
+/// that part has no assumption, the log ends with the empty clause.
 pub fn search(
-    kernel: &mut Kernel,
+    kernel: &mut LoggedKernel,
     guide: &mut Guide,
     assume: &[i32],
     budget: &mut Budget,
@@ -42,9 +43,10 @@ pub fn search(
     requires { All (IsLiteral kernel.old.vars) assume.now }
     ensures keeps { Keeps kernel.old kernel.new }
     ensures spends { Spends budget.old budget.new }
-    ensures lawful { IfOk result (IsLawful kernel.old.vars (added kernel.old.kept) assume.now budget.new) }
+    ensures lawful { IfOk result (IsLawful kernel.old.vars kernel.old.clauses assume.now budget.new) }
+    ensures ends { IfOk result (EndsWith kernel.old kernel.new) }
 {
-    resume(kernel, guide, assume)?;
+    reuse_trail(kernel, guide, assume)?;
     guide.grow_to(assume)?;
     attach_new(kernel, guide)?;
     recall(kernel, guide)?;
@@ -58,7 +60,7 @@ pub fn search(
 
 /// Propagates, and then learns from a conflict, decides or answers.
 fn turn(
-    kernel: &mut Kernel,
+    kernel: &mut LoggedKernel,
     guide: &mut Guide,
     assume: &[i32],
     budget: &mut Budget,
@@ -67,6 +69,7 @@ fn turn(
     ensures keeps { Keeps kernel.old kernel.new }
     ensures spends { Spends budget.old budget.new }
     ensures lawful { IfOk result (λ r. IfSome r (IsSettled kernel.old assume.now)) }
+    ensures ends { IfOk result (λ r. IfSome r (EndsWith kernel.old kernel.new)) }
 {
     if let Some(conflict) = guide.waiting {
         return meet(kernel, guide, conflict, assume);
@@ -80,16 +83,17 @@ fn turn(
 
 /// Learns from a clause that is false. At level 0 nothing satisfies the clauses.
 fn meet(
-    kernel: &mut Kernel,
+    kernel: &mut LoggedKernel,
     guide: &mut Guide,
     conflict: u32,
     assume: &[i32],
 ) -> Result<Option<Answer>, SatError>
     ensures keeps { Keeps kernel.old kernel.new }
     ensures lawful { IfOk result (λ r. IfSome r (IsSettled kernel.old assume.now)) }
+    ensures ends { IfOk result (λ r. IfSome r (EndsWith kernel.old kernel.new)) }
 {
     guide.conflicts = guide.conflicts.saturating_add(1);
-    let level = top_level(kernel, guide, conflict);
+    let level = top_level(kernel.known(), guide, conflict);
     if level == 0 {
         guide.waiting = Some(conflict);
         let core = empty_core(kernel, guide, conflict, assume)?;
@@ -109,15 +113,16 @@ fn meet(
 
 /// Decides where nothing more follows, or answers.
 fn advance(
-    kernel: &mut Kernel,
+    kernel: &mut LoggedKernel,
     guide: &mut Guide,
     assume: &[i32],
 ) -> Result<Option<Answer>, SatError>
     requires { All (IsLiteral kernel.old.vars) assume.now }
     ensures keeps { Keeps kernel.old kernel.new }
     ensures lawful { IfOk result (λ r. IfSome r (IsSettled kernel.old assume.now)) }
+    ensures ends { IfOk result (λ r. IfSome r (EndsWith kernel.old kernel.new)) }
 {
-    match choose(kernel, guide, assume) {
+    match choose(kernel.known(), guide, assume) {
         Next::Decide(literal) => {
             open_level(kernel, guide, literal)?;
             Ok(None)
@@ -155,15 +160,16 @@ fn choose(kernel: &Kernel, guide: &mut Guide, assume: &[i32]) -> Next {
 /// Answers the values on the trail where they satisfy the clauses. Else a clause without a true
 /// literal is met as a conflict, or one of its open literals comes on the trail.
 fn look_through(
-    kernel: &mut Kernel,
+    kernel: &mut LoggedKernel,
     guide: &mut Guide,
     assume: &[i32],
 ) -> Result<Option<Answer>, SatError>
     requires { All (IsLiteral kernel.old.vars) assume.now }
     ensures keeps { Keeps kernel.old kernel.new }
     ensures lawful { IfOk result (λ r. IfSome r (IsSettled kernel.old assume.now)) }
+    ensures ends { IfOk result (λ r. IfSome r (EndsWith kernel.old kernel.new)) }
 {
-    let values = kernel.model_of(guide.alloc, assume)?;
+    let values = kernel.known().model_of(guide.alloc, assume)?;
     if values.is_none() {
         repair(kernel, guide)?;
     }
@@ -171,16 +177,16 @@ fn look_through(
 }
 
 /// Goes on where a clause has no true literal although no variable seemed open.
-fn repair(kernel: &mut Kernel, guide: &mut Guide) -> Result<(), SatError>
+fn repair(kernel: &mut LoggedKernel, guide: &mut Guide) -> Result<(), SatError>
     ensures { Keeps kernel.old kernel.new }
 {
-    let Some(id) = kernel.unsatisfied() else {
+    let Some(id) = kernel.known().unsatisfied() else {
         return Ok(());
     };
     match imply(kernel, guide, id)? {
         Found::Conflict => guide.waiting = Some(id),
         Found::Several => {
-            if let Some(literal) = kernel.replacement(id, 0) {
+            if let Some(literal) = kernel.known().replacement(id, 0) {
                 open_level(kernel, guide, literal)?;
             }
         }

@@ -6,15 +6,17 @@
 ghost use Rattle.cdcl.specs.Keeping.{Keeps};
 
 use crate::guide::Guide;
+use crate::lines::last_id;
+use crate::logged_kernel::LoggedKernel;
 use base::{Refused, push};
-use kernel::{Found, Kernel};
+use kernel::Found;
 use solver::SatError;
 
 /// Puts the literal that a clause leaves on the trail.
-pub fn imply(kernel: &mut Kernel, guide: &mut Guide, id: u32) -> Result<Found, SatError>
+pub fn imply(kernel: &mut LoggedKernel, guide: &mut Guide, id: u32) -> Result<Found, SatError>
     ensures { Keeps kernel.old kernel.new }
 {
-    let place = kernel.len();
+    let place = kernel.known().len();
     let found = kernel.imply(id)?;
     if let Found::Implied(literal) = found {
         guide.levels.note(literal, place);
@@ -26,11 +28,16 @@ pub fn imply(kernel: &mut Kernel, guide: &mut Guide, id: u32) -> Result<Found, S
 }
 
 /// Learns a literal that holds without decisions as a clause of its own.
-fn settle(kernel: &mut Kernel, guide: &mut Guide, literal: i32, id: u32) -> Result<(), SatError>
+fn settle(
+    kernel: &mut LoggedKernel,
+    guide: &mut Guide,
+    literal: i32,
+    id: u32,
+) -> Result<(), SatError>
     ensures { Keeps kernel.old kernel.new }
 {
     let variable = literal.unsigned_abs() as usize;
-    let Some(clause) = kernel.clause(id) else {
+    let Some(clause) = kernel.known().clause(id) else {
         return Ok(());
     };
     if clause.len() == 1 {
@@ -39,12 +46,9 @@ fn settle(kernel: &mut Kernel, guide: &mut Guide, literal: i32, id: u32) -> Resu
     }
     hint_units(guide, clause, literal)?;
     push(&mut guide.hints, id)?;
-    if kernel.learn(&[literal], guide.hints.as_slice())? {
-        let unit = last_id(kernel);
-        guide
-            .log
-            .add(guide.alloc, unit, &[literal], guide.hints.as_slice())?;
-        guide.watches.place(kernel.clauses())?;
+    if kernel.learn(guide.alloc, &[literal], guide.hints.as_slice())? {
+        let unit = last_id(kernel.known());
+        guide.watches.place(kernel.known().clauses())?;
         guide.units.put(variable, unit);
     }
     Ok(())
@@ -77,14 +81,4 @@ fn gather(ids: &mut [u32]) -> usize {
         }
     }
     kept
-}
-
-/// The greatest id.
-pub fn last_id(kernel: &Kernel) -> u32 {
-    let count = kernel.clauses();
-    if count < 4_294_967_296 {
-        count as u32
-    } else {
-        0
-    }
 }

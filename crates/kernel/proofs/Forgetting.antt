@@ -1,7 +1,7 @@
 -- What forgetting one id more does.
-use Rattle.std.proofs.Common.{◌≡◌, ◌≢◌, ◌==◌, ◌∙◌, ◌⊎◌, inl, inr, ℕ, zero, suc, ◌+◌, ◌<◌, List, [], ◌∷◌, ◌++◌, take, length, get_or, slice_index_or, slice_set, Contains, Option, None, Some, true, false, refl, sym, ap, subst, arith, ℤ}
+use Rattle.std.proofs.Common.{◌≡◌, ◌≢◌, ◌==◌, ◌∙◌, ◌⊎◌, inl, inr, ℕ, zero, suc, ◌+◌, ◌<◌, List, [], ◌∷◌, ◌++◌, take, length, get_or, set, slice_index_or, slice_set, Contains, IsSome, Option, None, Some, true, false, refl, sym, ap, subst, arith, ℤ}
 use Rattle.std.proofs.lemmas.Bool.Decides.{nat_tests}
-use Rattle.std.proofs.lemmas.List.{take_more, length-set}
+use Rattle.std.proofs.lemmas.List.{take_more, take_more_set, length-set}
 use Rattle.std.proofs.lemmas.List.Elements.{Contains-push, Contains-push_cases, Contains-append_left}
 use Rattle.std.proofs.lemmas.List.Sorted.{Contains-permutation, IsPermutation-sym}
 use Rattle.std.specs.List.Sorted.{IsPermutation}
@@ -9,10 +9,11 @@ use Rattle.lrat.specs.Literals.{Follows}
 use Rattle.kernel.specs.Inside.{AllFollow}
 use Rattle.kernel.specs.Grounds.{Grounded}
 use Rattle.kernel.proofs.Denied.{grounded_kept}
-use Rattle.kernel.specs.Kept.{Kept, kept_in, find_in, live, added, origin_in, gone, without}
-use Rattle.kernel.specs.Forgotten.{IsSpent, Forgets}
+use Rattle.kernel.specs.Kept.{Kept, kept_in, find_in, live, live_if, added, origin_in, gone, without}
+use Rattle.kernel.specs.Forgotten.{IsSpent, Forgets, GoOut}
 use Rattle.kernel.specs.Grounds.{reasons}
-use Rattle.kernel.specs.declared.origin.Origin.TheVariants.{Learned}
+use Rattle.kernel.specs.declared.origin.Origin.{Origin}
+use Rattle.kernel.specs.declared.origin.Origin.TheVariants.{Added, Learned, Removed}
 
 -- ---- the ids of reasons
 
@@ -112,6 +113,21 @@ forgets_one_at old now rs ids i lt f learned free = rw (take_more ids i 0 lt) (f
 
 pub forgets_none_at : (old now : List Kept) (rs ids : List ℕ) (i : ℕ) → i < length ids → Forgets old now rs (take i ids) → (origin_in now (get_or ids i 0) ≡ Learned → (Contains rs (get_or ids i 0) → ⊥) → ⊥) → Forgets old now rs (take (i + 1) ids)
 forgets_none_at old now rs ids i lt f stays = rw (take_more ids i 0 lt) (forgets_none old now rs (take i ids) _ f stays)
+
+-- ---- the ids that went
+
+live_learned : (o : Origin) (c : List ℤ) → o ≡ Learned → IsSome (live_if o c)
+live_learned Added c e = refl
+live_learned Learned c e = refl
+live_learned Removed c e = absurd (let f : Removed ≡ Learned = e in cc)
+
+goes_out_more : (ids : List ℕ) (old now : List Kept) (id : ℕ) → GoOut old ids now → IsSome (find_in now id) → GoOut old (ids ++ id ∷ []) (without now id)
+goes_out_more [] old now id same here = (subst (λ ks. IsSome (find_in ks id)) same here, ap (λ ks. without ks id) same)
+goes_out_more (i ∷ ids) old now id out here = (out.0, goes_out_more ids (without old i) now id out.1 here)
+
+pub goes_out_at : (old now : List Kept) (gone_ : List ℕ) (i id : ℕ) → i < length gone_ → GoOut old (take i gone_) now → origin_in now id ≡ Learned → GoOut old (take (i + 1) (set gone_ i id)) (without now id)
+goes_out_at old now gone_ i id lt out learned =
+    rw (take_more_set gone_ i id lt) (goes_out_more (take i gone_) old now id out (live_learned _ _ learned))
 
 -- ---- what stays of all clauses
 

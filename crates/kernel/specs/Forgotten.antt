@@ -1,6 +1,6 @@
 -- What is forgotten.
-use Rattle.std.specs.Prelude.{◌≡◌, ◌⊎◌, ℕ, List, length, Contains}
-use Rattle.kernel.specs.Kept.{Kept, kept_in, origin_in, gone}
+use Rattle.std.specs.Prelude.{◌≡◌, ◌⊎◌, ℕ, List, [], ◌∷◌, length, Contains, IsSome}
+use Rattle.kernel.specs.Kept.{Kept, kept_in, find_in, origin_in, gone, without}
 use Rattle.kernel.specs.declared.origin.Origin.TheVariants.{Learned}
 
 -- one of the ids, of a learned clause that is no reason
@@ -13,3 +13,8 @@ pub record IsSpent (ks : List Kept) (reasons ids : List ℕ) (id : ℕ) : Type 0
 pub record Forgets (old new : List Kept) (reasons ids : List ℕ) : Type 0 where
   pub same_ids : length new ≡ length old
   pub each : (id : ℕ) → (IsSpent old reasons ids id × (kept_in new id ≡ gone)) ⊎ ((IsSpent old reasons ids id → ⊥) × (kept_in new id ≡ kept_in old id))
+
+-- the ids are taken out one after the other, each of a clause that is there until then
+abbrev pub GoOut : List Kept → List ℕ → List Kept → Type 0
+GoOut ks [] new = new ≡ ks
+GoOut ks (id ∷ ids) new = IsSome (find_in ks id) × GoOut (without ks id) ids new

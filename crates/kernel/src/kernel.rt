@@ -5,7 +5,7 @@ ghost use Rattle.base.specs.Witness.{witness};
 ghost use Rattle.lrat.specs.Literals.{IsLiteral};
 ghost use Rattle.lrat.specs.Lines.{Conflicts};
 ghost use Rattle.kernel.specs.Kept.{find_in, origin_in, added};
-ghost use Rattle.kernel.specs.Forgotten.{Forgets};
+ghost use Rattle.kernel.specs.Forgotten.{Forgets, GoOut};
 ghost use Rattle.kernel.specs.Grounds.{decisions, reasons};
 ghost use Rattle.kernel.specs.Known.{none_known, with_clause, back_to, Tells, Decides, IsLearned, Learns};
 ghost use Rattle.kernel.specs.declared.origin.Origin.TheVariants.{Added};
@@ -16,7 +16,7 @@ ghost use Rattle.solver.specs.declared.sat_error.SatError.TheVariants.{Limit, Ou
 use crate::found::Found;
 use crate::literals::{are_nonzero, denials, negated};
 use crate::origin::Origin;
-use crate::sorted::sorted_reasons;
+use crate::sorted::{ids_of, sorted_reasons};
 use crate::store::Store;
 use crate::verdict::{assumed_part, opposed_pair, replacement, values_of};
 use base::{copied, push, reserve_one};
@@ -293,20 +293,24 @@ impl Kernel {
         Ok(clause)
     }
 
-    /// Takes the learned ones of these clauses out that are no reason of a literal on the trail.
-    /// A refusal changes nothing. It costs the ids and the trail, but for a logarithm.
-    pub fn forget(&mut self, alloc: Global, ids: &[u32]) -> Result<(), SatError>
+    /// Takes the learned ones of these clauses out that are no reason of a literal on the trail,
+    /// and answers the ids that went, each once. A refusal changes nothing. It costs the ids and
+    /// the trail, but for a logarithm.
+    pub fn forget(&mut self, alloc: Global, ids: &[u32]) -> Result<Vec<u32>, SatError>
         ensures vars { self.new.vars ≡ self.old.vars }
         ensures added { added self.new.kept ≡ added self.old.kept }
         ensures literals { self.new.literals ≡ self.old.literals }
         ensures reasons { self.new.reasons ≡ self.old.reasons }
         ensures ok { OnOk result (Forgets self.old.kept self.new.kept (reasons self.old.reasons) ids.now) }
+        ensures gone { IfOk result (λ g. GoOut self.old.kept g.items self.new.kept) }
         ensures err { OnErr result (self.new ≡ self.old) }
         ensures refused { IfErr result (λ e. e ≡ OutOfMemory witness) }
     {
         let held = sorted_reasons(alloc, self.reasons.as_slice())?;
-        self.store.forget(ids, held.as_slice());
-        Ok(())
+        let mut gone = copied(alloc, ids)?;
+        let count = self.store.forget(ids, held.as_slice(), gone.as_mut_slice());
+        gone.truncate(count);
+        Ok(gone)
     }
 
     /// The first added clause of which the trail holds no literal. It costs the literals of the
@@ -359,6 +363,7 @@ impl Kernel {
         ensures same { self.new ≡ self.old }
         ensures core { IfOk result (λ r. MatchOption r (DeniesAssumed self.old clause.now hints.now assume.now → ⊥) (λ part. IsCore (added self.old.kept) assume.now part.items)) }
         ensures denials { IfOk result (λ r. IfSome r (λ part. part.items ≡ map neg_ℤ clause.now)) }
+        ensures learned { IfOk result (λ r. IfSome r (λ _. IsLearned self.old clause.now hints.now)) }
         ensures refused { IfErr result (λ e. e ≡ OutOfMemory witness) }
     {
         let _vars = self.vars();
@@ -373,6 +378,7 @@ impl Kernel {
     pub fn opposed_of(&self, alloc: Global, assume: &[i32]) -> Result<Option<Vec<i32>>, SatError>
         requires { All (IsLiteral self.now.vars) assume.now }
         ensures core { IfOk result (λ r. MatchOption r (All (λ l. IsOpposed assume.now l → ⊥) assume.now) (λ part. IsCore (added self.now.kept) assume.now part.items)) }
+        ensures two { IfOk result (λ r. IfSome r (λ part. length part.items ≡ 2)) }
         ensures refused { IfErr result (λ e. e ≡ OutOfMemory witness) }
     {
         let _vars = self.vars();
@@ -383,13 +389,24 @@ impl Kernel {
         Ok(Some(part))
     }
 
-    /// The denials of the decisions.
-    fn denial(&self, alloc: Global) -> Result<Vec<i32>, SatError>
+    /// The denials of the decisions, which the reasons in the trail's order (`denial_hints`) show
+    /// where a clause is false.
+    pub fn denial(&self, alloc: Global) -> Result<Vec<i32>, SatError>
         ensures clause { IfOk result (λ c. c.items ≡ map neg_ℤ (decisions self.now.literals self.now.reasons)) }
         ensures shown { IfOk result (λ c. (id : ℕ) → Conflicts (find_in self.now.kept) self.now.literals id → IsLearned self.now c.items (reasons self.now.reasons ++ id ∷ [])) }
         ensures refused { IfErr result (λ e. e ≡ OutOfMemory witness) }
     {
         let clause = denials(alloc, self.trail.literals(), self.reasons.as_slice())?;
         Ok(clause)
+    }
+
+    /// The hints that show the denials of the decisions where the clause with this id is false.
+    pub fn denial_hints(&self, alloc: Global, conflict: u32) -> Result<Vec<u32>, SatError>
+        ensures hints { IfOk result (λ h. h.items ≡ reasons self.now.reasons ++ conflict ∷ []) }
+        ensures refused { IfErr result (λ e. e ≡ OutOfMemory witness) }
+    {
+        let mut hints = ids_of(alloc, self.reasons.as_slice())?;
+        push(&mut hints, conflict)?;
+        Ok(hints)
     }
 }

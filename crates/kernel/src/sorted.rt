@@ -1,6 +1,6 @@
 //! Sorted lists, in which a number is found in time of the list's logarithm.
 
-ghost use Rattle.std.specs.Prelude.{IsTrue, ◌↔◌, Contains, IfOk};
+ghost use Rattle.std.specs.Prelude.{◌≡◌, IsTrue, ◌↔◌, Contains, IfOk};
 ghost use Rattle.std.specs.List.Sorted.{IsPermutation, IsSorted};
 ghost use Rattle.std.specs.Ordering.{nat_cmp, int_cmp};
 ghost use Rattle.kernel.specs.Grounds.{reasons};
@@ -39,12 +39,20 @@ pub fn sorted_reasons(alloc: Global, trail: &[Option<u32>]) -> Result<Vec<u32>, 
     ensures same { IfOk result (λ s. IsPermutation (reasons trail.now) s.items) }
     ensures sorted { IfOk result (λ s. IsSorted nat_cmp s.items) }
 {
-    let mut sorted = Vec::new(alloc);
-    for reason in trail {
-        if let Some(id) = reason {
-            push(&mut sorted, *id)?;
-        }
-    }
+    let mut sorted = ids_of(alloc, trail)?;
     sorted.sort_unstable();
     Ok(sorted)
+}
+
+/// The ids of the clauses that are reasons, in the trail's order.
+pub fn ids_of(alloc: Global, trail: &[Option<u32>]) -> Result<Vec<u32>, Refused>
+    ensures { IfOk result (λ s. s.items ≡ reasons trail.now) }
+{
+    let mut ids = Vec::new(alloc);
+    for reason in trail {
+        if let Some(id) = reason {
+            push(&mut ids, *id)?;
+        }
+    }
+    Ok(ids)
 }

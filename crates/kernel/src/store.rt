@@ -1,10 +1,10 @@
 //! Clauses in one flat list, by their ids: 1, 2 and so on.
 
-ghost use Rattle.std.specs.Prelude.{IsTrue, ◌↔◌, MatchOption, ◌≡◌, ◌≤◌, ◌++◌, ◌∷◌, [], All, OnOk, OnErr, IfErr, length};
+ghost use Rattle.std.specs.Prelude.{IsTrue, ◌↔◌, MatchOption, ◌≡◌, ◌≤◌, ◌++◌, ◌∷◌, [], All, OnOk, OnErr, IfErr, length, take};
 ghost use Rattle.lrat.specs.Literals.{IsLiteral};
 ghost use Rattle.std.specs.List.Sorted.{IsSorted};
 ghost use Rattle.std.specs.Ordering.{nat_cmp};
-ghost use Rattle.kernel.specs.Forgotten.{Forgets};
+ghost use Rattle.kernel.specs.Forgotten.{Forgets, GoOut};
 ghost use Rattle.kernel.specs.Kept.{Kept, find_in, origin_in, without, added};
 ghost use Rattle.kernel.specs.Verdicts.{HoldsOne, HoldsOneOf, IsUnsatisfied};
 ghost use Rattle.solver.specs.declared.sat_error.SatError.TheVariants.{Limit, OutOfMemory};
@@ -116,35 +116,48 @@ impl Store {
         }
     }
 
-    /// Takes the learned ones of these clauses out that are no reasons. The reasons ascend. It
+    /// Takes the learned ones of these clauses out that are no reasons. The reasons ascend. Those
+    /// that went are the first ones of `gone` then, each once, and the answer is their number. It
     /// costs the number of the ids, times the logarithm of the number of reasons. Where more than
     /// half of the list is dead then, it is closed up, which costs its length.
-    pub fn forget(&mut self, ids: &[u32], reasons: &[u32])
-        requires { IsSorted nat_cmp reasons.now }
+    pub fn forget(&mut self, ids: &[u32], reasons: &[u32], gone: &mut [u32]) -> usize
+        requires sorted { IsSorted nat_cmp reasons.now }
+        requires room { length gone.old ≡ length ids.now }
         ensures vars { self.new.vars ≡ self.old.vars }
         ensures added { added self.new.kept ≡ added self.old.kept }
         ensures forgets { Forgets self.old.kept self.new.kept reasons.now ids.now }
+        ensures gone { GoOut self.old.kept (take result gone.new) self.new.kept }
+        ensures room { length gone.new ≡ length gone.old }
     {
-        self.take_out(ids, reasons);
+        let count = self.take_out(ids, reasons, gone);
         if self.dead > self.literals.len() / 2 {
             self.close_up();
         }
+        count
     }
 
-    /// Takes the learned ones of these clauses out that are no reasons. The reasons ascend.
-    fn take_out(&mut self, ids: &[u32], reasons: &[u32])
-        requires { IsSorted nat_cmp reasons.now }
+    /// Takes the learned ones of these clauses out that are no reasons, and lists them. The
+    /// reasons ascend.
+    fn take_out(&mut self, ids: &[u32], reasons: &[u32], gone: &mut [u32]) -> usize
+        requires sorted { IsSorted nat_cmp reasons.now }
+        requires room { length gone.old ≡ length ids.now }
         ensures vars { self.new.vars ≡ self.old.vars }
         ensures added { added self.new.kept ≡ added self.old.kept }
         ensures forgets { Forgets self.old.kept self.new.kept reasons.now ids.now }
+        ensures gone { GoOut self.old.kept (take result gone.new) self.new.kept }
+        ensures room { length gone.new ≡ length gone.old }
     {
+        let mut count = 0;
         for id in ids {
             if let Origin::Learned = self.origin(*id) {
                 if !has_id(reasons, *id) {
                     self.remove(*id);
+                    gone[count] = *id;
+                    count += 1;
                 }
             }
         }
+        count
     }
 
     /// Gives up the room of the clauses that were taken out. It takes no memory.

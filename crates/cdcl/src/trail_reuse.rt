@@ -1,4 +1,4 @@
-//! What a call takes over from the call before.
+//! Trail reuse: the levels that a call shares with the call before.
 //!
 //! The assumptions have the first levels of the trail, in order. A call whose first assumptions are
 //! those of the call before keeps their levels, with all that follows from them, and so costs
@@ -8,8 +8,8 @@ ghost use Rattle.cdcl.specs.Keeping.{Keeps};
 
 use crate::guide::Guide;
 use crate::levels::leave;
+use crate::logged_kernel::LoggedKernel;
 use base::extend;
-use kernel::Kernel;
 use solver::SatError;
 
 /// The most clauses of one literal that wait for level 0.
@@ -17,7 +17,11 @@ const WAITING: usize = 32;
 
 /// Goes back to where the assumptions are no longer those of the call before, and takes note of
 /// them. Where many clauses of one literal wait for level 0, it goes back to that.
-pub fn resume(kernel: &mut Kernel, guide: &mut Guide, assume: &[i32]) -> Result<(), SatError>
+pub fn reuse_trail(
+    kernel: &mut LoggedKernel,
+    guide: &mut Guide,
+    assume: &[i32],
+) -> Result<(), SatError>
     ensures { Keeps kernel.old kernel.new }
 {
     let level = if guide.single.len() > WAITING {

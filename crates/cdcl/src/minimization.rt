@@ -1,4 +1,4 @@
-//! Literals of a learned clause that the others imply.
+//! Clause minimization: literals of a learned clause that the others imply.
 //!
 //! A literal is left out where its reason, the reasons of that reason's literals and so on lead
 //! only to literals of the clause and of level 0 (Sörensson and Biere 2009). What is still to be
@@ -12,7 +12,7 @@ use kernel::Kernel;
 
 /// Leaves the literals out that the others imply, and notes the reasons that show it. The first
 /// literal stays.
-pub fn shorten(kernel: &Kernel, guide: &mut Guide) -> Result<(), Refused> {
+pub fn minimize(kernel: &Kernel, guide: &mut Guide) -> Result<(), Refused> {
     let levels = levels_of(guide);
     let mut kept = 1;
     for at in 1..guide.clause.len() {

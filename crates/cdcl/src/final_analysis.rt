@@ -1,4 +1,4 @@
-//! Assumptions that the clauses deny.
+//! Final analysis: the assumptions that the clauses deny.
 //!
 //! Where an assumption is false, the reasons behind it lead to assumptions decided before it;
 //! the clause that denies those and the assumption itself follows. Where a clause is false at
@@ -6,47 +6,50 @@
 //! be learned, and that what it denies is assumed.
 
 ghost use Rattle.std.specs.Prelude.{All, IfOk, IfSome};
-ghost use Rattle.kernel.specs.Kept.{added};
 ghost use Rattle.cdcl.specs.Keeping.{Keeps};
+ghost use Rattle.cdcl.specs.Settled.{Ends};
 ghost use Rattle.lrat.specs.Literals.{IsLiteral};
 ghost use Rattle.solver.specs.Answers.{IsCore};
 
 use crate::analysis::{begin, finish, take_step};
 use crate::guide::Guide;
+use crate::logged_kernel::LoggedKernel;
 use base::{Refused, push};
 use kernel::Kernel;
 use solver::SatError;
 
 /// The core where a clause is false at level 0, which has no assumption.
 pub fn empty_core(
-    kernel: &mut Kernel,
+    kernel: &mut LoggedKernel,
     guide: &mut Guide,
     conflict: u32,
     assume: &[i32],
 ) -> Result<Option<Vec<i32>>, SatError>
     ensures keeps { Keeps kernel.old kernel.new }
-    ensures core { IfOk result (λ r. IfSome r (λ core. IsCore (added kernel.old.kept) assume.now core.items)) }
+    ensures core { IfOk result (λ r. IfSome r (λ core. IsCore kernel.old.clauses assume.now core.items)) }
+    ensures ends { IfOk result (λ r. IfSome r (λ core. Ends kernel.old kernel.new core.items)) }
 {
     begin(guide);
-    see_all(kernel, guide, conflict)?;
+    see_all(kernel.known(), guide, conflict)?;
     finish(guide, conflict)?;
     checked_core(kernel, guide, assume)
 }
 
 /// The core where an assumption is false.
 pub fn core_of_denied(
-    kernel: &mut Kernel,
+    kernel: &mut LoggedKernel,
     guide: &mut Guide,
     literal: i32,
     assume: &[i32],
 ) -> Result<Option<Vec<i32>>, SatError>
     requires { All (IsLiteral kernel.old.vars) assume.now }
     ensures keeps { Keeps kernel.old kernel.new }
-    ensures core { IfOk result (λ r. IfSome r (λ core. IsCore (added kernel.old.kept) assume.now core.items)) }
+    ensures core { IfOk result (λ r. IfSome r (λ core. IsCore kernel.old.clauses assume.now core.items)) }
+    ensures ends { IfOk result (λ r. IfSome r (λ core. Ends kernel.old kernel.new core.items)) }
 {
     let place = guide.levels.place_of(literal);
-    let Some(reason) = kernel.reason(place) else {
-        return kernel.opposed_of(guide.alloc, assume);
+    let Some(reason) = kernel.known().reason(place) else {
+        return kernel.known().opposed_of(guide.alloc, assume);
     };
     begin(guide);
     guide.see(literal)?;
@@ -54,19 +57,20 @@ pub fn core_of_denied(
     if guide.levels.level_of(literal) == 0 {
         finish(guide, guide.unit_of(literal))?;
     } else {
-        analyse_denial(kernel, guide, place, reason)?;
+        analyse_denial(kernel.known(), guide, place, reason)?;
     }
     checked_core(kernel, guide, assume)
 }
 
 /// The core that the clause in progress denies, where its hints show it.
 fn checked_core(
-    kernel: &mut Kernel,
+    kernel: &mut LoggedKernel,
     guide: &Guide,
     assume: &[i32],
 ) -> Result<Option<Vec<i32>>, SatError>
     ensures keeps { Keeps kernel.old kernel.new }
-    ensures core { IfOk result (λ r. IfSome r (λ core. IsCore (added kernel.old.kept) assume.now core.items)) }
+    ensures core { IfOk result (λ r. IfSome r (λ core. IsCore kernel.old.clauses assume.now core.items)) }
+    ensures ends { IfOk result (λ r. IfSome r (λ core. Ends kernel.old kernel.new core.items)) }
 {
     let core = kernel.core_of(
         guide.alloc,

@@ -1,0 +1,24 @@
+//! The clauses of a formula in a kernel.
+
+ghost use Rattle.std.specs.Prelude.{◌≡◌, IfOk, OnOk, map};
+ghost use Rattle.cdcl.specs.Logged.{as_added};
+ghost use Rattle.lrat.specs.Limits.{IsFormula};
+
+use kernel::Kernel;
+use lrat::Formula;
+use solver::SatError;
+use std::alloc::Global;
+
+/// A kernel with the formula's clauses, under the ids 1, 2 and so on.
+pub fn load(alloc: Global, formula: &Formula) -> Result<Kernel, SatError>
+    requires { IsFormula formula.now }
+    ensures vars { IfOk result (λ k. k.vars ≡ formula.now.vars) }
+    ensures clauses { IfOk result (λ k. k.kept ≡ map as_added formula.now.clauses) }
+{
+    let mut kernel = Kernel::new(alloc);
+    kernel.reset(alloc, formula.vars)?;
+    for clause in formula.clauses.as_slice() {
+        kernel.add(clause.as_slice())?;
+    }
+    Ok(kernel)
+}
