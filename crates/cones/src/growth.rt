@@ -28,6 +28,7 @@ pub fn grow_cone(
     requires places { length marks.old ≡ model.now.max_var + 1 }
     requires wanted { All (λ a. variable a ≤ model.now.max_var) wanted.now }
     requires cone { IsCone model.now (IsMarked marks.old) }
+    ensures places { OnOk result (length marks.new ≡ model.now.max_var + 1) }
     ensures cone { OnOk result (IsCone model.now (IsMarked marks.new)) }
     ensures kept { OnOk result (IsInside marks.old marks.new) }
     ensures wanted { OnOk result (All (λ a. IsMarked marks.new (variable a)) wanted.now) }

@@ -12,9 +12,9 @@ use Rattle.transition.specs.States.{Guarded, HoldsGuarded, Holds, IsPartOf}
 use Rattle.transition.specs.Contents.{Contents, IsLoaded, HasGuards}
 use Rattle.transition.specs.Steps.{IsConsecution}
 use Rattle.frames.specs.declared.frames.Entry.{Entry}
-use Rattle.frames.specs.Frames.{InFrame, AreWithin}
+use Rattle.frames.specs.Frames.{InFrame, AreWithin, Levels}
 use Rattle.ic3.specs.declared.asker.Asker.{Asker}
-use Rattle.ic3.specs.Told.{Backs, IsTold}
+use Rattle.ic3.specs.Told.{Backs, IsTold, IsSound}
 use Rattle.ic3.specs.Answers.{IsAfter, IsRelative}
 
 -- a question's guards: those of levels, and its own
@@ -58,6 +58,28 @@ told_more m es a t next g told loaded later fits used backed = record {
   fits = fits;
   small = told.small;
 }
+
+-- a solver that has more of the circuit
+pub told_grown : {S : Type 0} (m : Parts) (es : List Entry) (a : Asker S) (t : Contents) (told : IsTold m es a) → IsLoaded m a.room told.added t →
+    IsTold {S = S} m es (record { transition = t; levels = a.levels; room = a.room; next = a.next })
+told_grown m es a t told loaded = record { added = told.added; loaded = loaded; used = told.used; backs = told.backs; order = told.order; fits = told.fits; small = told.small }
+
+-- a solver that counts a question more
+pub told_counted : {S : Type 0} (m : Parts) (es : List Entry) (a : Asker S) (next : ℕ) → IsTold m es a → a.next ≤ next → next ≤ a.room →
+    IsTold {S = S} m es (record { transition = a.transition; levels = a.levels; room = a.room; next = next })
+told_counted m es a next told later fits = record {
+  added = told.added;
+  loaded = told.loaded;
+  used = λ k d k_in. let below = told.used k d k_in in omega (arith, below, later);
+  backs = told.backs;
+  order = let order = told.order in omega (arith, order, later);
+  fits = fits;
+  small = told.small;
+}
+
+pub sound_grown : {S : Type 0} (m : Parts) (a : Asker S) (f : Levels) (t : Contents) (sound : IsSound m a f) → IsLoaded m a.room sound.told.added t →
+    IsSound {S = S} m (record { transition = t; levels = a.levels; room = a.room; next = a.next }) f
+sound_grown m a f t sound loaded = record { told = told_grown m f.entries a t sound.told loaded; laws = sound.laws; top = sound.top; below = sound.below }
 
 -- a question's clause, under the guard that is free
 pub told_asked : {S : Type 0} (m : Parts) (es : List Entry) (a : Asker S) (t : Contents) (c : List StateLit) (told : IsTold m es a) → a.next < a.room →

@@ -54,8 +54,8 @@ first_of_bads m bads are = ap (λ (xs : List Lit). get_or xs 0 (record { 0 = 0 }
 
 -- a time of the frame at which the bad literal is true
 pub set_at : (m : Parts) (gs : List Guarded) (guards : List ℕ) (bads : List Lit) (after : Steps) (t : Time) → bads ≡ m.bad →
-    IsReply m gs guards (get_or bads 0 (record { 0 = 0 }) ∷ []) after (Found t) → (w : Valuation) × IsAt m w t × (value_of w (bad_literal m 0) ≡ true)
-set_at m gs guards bads after t are law = (law.0, law.1, ap (value_of law.0) (sym (first_of_bads m bads are)) ∙ law.2 0 (record { 0 = 0 }) (omega arith))
+    IsReply m gs guards (get_or bads 0 (record { 0 = 0 }) ∷ []) after (Found t) → (w : Valuation) × IsAt m (bad_literal m 0 ∷ []) w t × (value_of w (bad_literal m 0) ≡ true)
+set_at m gs guards bads after t are law = (law.0, subst (λ a. IsAt m (a ∷ []) law.0 t) (first_of_bads m bads are) law.1, ap (value_of law.0) (sym (first_of_bads m bads are)) ∙ law.2 0 (record { 0 = 0 }) (omega arith))
 
 only_one : (w : Valuation) (bad : Lit) (core : List Lit) → value_of w bad ≡ true → All (Contains (bad ∷ [])) core → AllSet w core
 only_one w bad core set among i d i_in =

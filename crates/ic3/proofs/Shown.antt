@@ -103,11 +103,9 @@ run_found m order o os top s lines after model one obligations leads long resets
     let h = run.1 in
     record {
       so = record {
-        position = 0;
         bad = bad_literal m 0;
         replay = run.0;
-        names = refl;
-        exists = bad_there m one;
+        watched = bad_there m one;
         replays = record { agrees = h.agrees; begins = h.begins; has_inputs = h.has_inputs ∙ sym are; steps = h.steps };
         runs = record { agrees = h.agrees; starts = starts m s run.0 resets h.begins; steps = h.steps };
         keeps = h.keeps;

@@ -3,6 +3,7 @@ use Rattle.std.proofs.Common.{◌≡◌, ℕ, ◌+◌, ◌<◌, Bool, true, fals
 use Rattle.std.proofs.lemmas.List.Elements.{All-push}
 use Rattle.std.proofs.lemmas.List.Quantifiers.{all_pairs_push}
 use Rattle.std.proofs.lemmas.List.{length-map}
+use Rattle.graph.specs.declared.circuit.Lit.{Lit}
 use Rattle.graph.specs.declared.circuit.Latch.{Latch}
 use Rattle.graph.specs.declared.parts.Parts.{Parts}
 use Rattle.graph.specs.Valuation.{Valuation, value_of}
@@ -41,8 +42,8 @@ pub denies_clause : (m : Parts) (s : List Bool) (i : ℕ) (c : List StateLit) �
 denies_clause m s i c all h = record { inside = λ k d k_in. let below = h.inside k d k_in in omega (arith, below, all); rising = h.rising }
 
 -- a time has a value for each latch and each input
-pub state_size : (m : Parts) (w : Valuation) (t : Time) → IsAt m w t → length t.state ≡ length m.latches
-state_size m w t at = ap length (sym at.state) ∙ length-map m.latches (λ (l : Latch). value_of w l.lit)
+pub state_size : (m : Parts) (lits : List Lit) (w : Valuation) (t : Time) → IsAt m lits w t → length t.state ≡ length m.latches
+state_size m lits w t at = ap length (sym at.state) ∙ length-map m.latches (λ (l : Latch). value_of w l.lit)
 
-pub inputs_size : (m : Parts) (w : Valuation) (t : Time) → IsAt m w t → length t.inputs ≡ length m.inputs
-inputs_size m w t at = ap length (sym at.inputs) ∙ length-map m.inputs (value_of w)
+pub inputs_size : (m : Parts) (lits : List Lit) (w : Valuation) (t : Time) → IsAt m lits w t → length t.inputs ≡ length m.inputs
+inputs_size m lits w t at = ap length (sym at.inputs) ∙ length-map m.inputs (value_of w)

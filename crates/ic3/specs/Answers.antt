@@ -1,5 +1,5 @@
 -- What the search's questions are answered (Bradley 2011).
-use Rattle.std.specs.Prelude.{◌≡◌, ℕ, ◌≤◌, Bool, true, List, filter, length, All}
+use Rattle.std.specs.Prelude.{◌≡◌, ℕ, ◌≤◌, Bool, true, List, [], ◌∷◌, filter, length, All}
 use Rattle.base.specs.Budget.{Steps}
 use Rattle.graph.specs.declared.parts.Parts.{Parts}
 use Rattle.graph.specs.Valuation.{Valuation, value_of}
@@ -13,6 +13,7 @@ use Rattle.transition.specs.declared.state.StateLit.{StateLit}
 use Rattle.transition.specs.declared.step.Consecution.{Consecution}
 use Rattle.transition.specs.declared.step.Consecution.TheVariants.{Held, Broken, GaveUp}
 use Rattle.transition.specs.States.{Denies, IsPartOf, IsAt}
+use Rattle.transition.specs.Steps.{denials_of}
 use Rattle.frames.specs.declared.frames.Entry.{Entry}
 use Rattle.frames.specs.Clauses.{IsResetLit}
 use Rattle.frames.specs.Frames.{IsStateClause, HoldsInitially, HoldsAfter, HoldsToward, HoldsOnward, Excludes}
@@ -36,19 +37,19 @@ pub record IsInductiveFrom (m : Parts) (entries : List Entry) (k : ℕ) (c : Lis
 -- whether the clause holds after each step from frame k
 abbrev pub IsAfter : Parts → List Entry → ℕ → List StateLit → Steps → Consecution → Type 0
 IsAfter m entries k c after (Held part) = HoldsAfter m entries k c
-IsAfter m entries k c after (Broken t) = (w : Valuation) × IsAt m w t × Denies (next_state m w) c
+IsAfter m entries k c after (Broken t) = (w : Valuation) × IsAt m (denials_of m.latches c) w t × Denies (next_state m w) c
 IsAfter m entries k c after GaveUp = after.left ≡ 0
 
 -- whether the clause holds after each step from a state of frame k in which it holds, and then, which part of it does
 abbrev pub IsRelative : Parts → List Entry → ℕ → List StateLit → Steps → Consecution → Type 0
 IsRelative m entries k c after (Held part) = IsPartOf part c × HoldsToward m entries k c part
-IsRelative m entries k c after (Broken t) = (w : Valuation) × IsAt m w t × Denies (next_state m w) c
+IsRelative m entries k c after (Broken t) = (w : Valuation) × IsAt m (denials_of m.latches c) w t × Denies (next_state m w) c
 IsRelative m entries k c after GaveUp = after.left ≡ 0
 
 -- whether the clause is inductive from frame k, and then, which part of it is
 abbrev pub IsInductiveAnswer : Parts → List Entry → ℕ → List StateLit → Steps → Consecution → Type 0
 IsInductiveAnswer m entries k c after (Held part) = IsInductiveFrom m entries k part
-IsInductiveAnswer m entries k c after (Broken t) = (w : Valuation) × IsAt m w t × Denies (next_state m w) c
+IsInductiveAnswer m entries k c after (Broken t) = (w : Valuation) × IsAt m (denials_of m.latches c) w t × Denies (next_state m w) c
 IsInductiveAnswer m entries k c after GaveUp = after.left ≡ 0
 
 -- an obligation of the frames up to the top: its clause is over the latches, and false in its state; that and its inputs
@@ -64,12 +65,12 @@ pub record IsObligation (m : Parts) (top : ℕ) (o : Obligation) : Type 0 where
 abbrev pub IsDenial : Parts → List StateLit → Steps → Denial → Type 0
 IsDenial m c after Denied = Unit {0}
 IsDenial m c after Initial = All (λ a. IsResetLit m.latches a → ⊥) c
-IsDenial m c after (Led t) = (w : Valuation) × IsAt m w t × Denies (next_state m w) c
+IsDenial m c after (Led t) = (w : Valuation) × IsAt m (denials_of m.latches c) w t × Denies (next_state m w) c
 IsDenial m c after Spent = after.left ≡ 0
 
 -- a time in frame k at which the bad literal is true, or that there is none
 abbrev pub IsAtBad : Parts → List Entry → ℕ → Steps → AtBad → Type 0
-IsAtBad m entries k after (Set t) = (w : Valuation) × IsAt m w t × (value_of w (bad_literal m 0) ≡ true)
+IsAtBad m entries k after (Set t) = (w : Valuation) × IsAt m (bad_literal m 0 ∷ []) w t × (value_of w (bad_literal m 0) ≡ true)
 IsAtBad m entries k after Excluded = Excludes m (bad_literal m 0) entries k
 IsAtBad m entries k after OutOfBudget = after.left ≡ 0
 

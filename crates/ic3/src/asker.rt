@@ -193,7 +193,7 @@ impl<S: Sat> Asker<S> {
         requires sound { IsSound circuit.now self.old frames.now }
         requires clause { IsStateClause circuit.now clause.now }
         ensures spends { Spends budget.old budget.new }
-        ensures stays { self.new ≡ self.old }
+        ensures sound { OnOk result (IsSound circuit.now self.new frames.now) }
         ensures lawful { IfOk result (IsAfter circuit.now frames.now.entries level clause.now budget.new) }
     {
         let guards = guards_from(alloc, level, frames.top() + 1)?;

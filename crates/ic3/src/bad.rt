@@ -1,6 +1,6 @@
 //! The bad literal in the last frame.
 
-ghost use Rattle.std.specs.Prelude.{◌≡◌, IfOk};
+ghost use Rattle.std.specs.Prelude.{IfOk, OnOk};
 ghost use Rattle.base.specs.Budget.{Spends};
 ghost use Rattle.engine.specs.Findings.{IsForBad};
 ghost use Rattle.ic3.specs.Told.{IsSound};
@@ -36,8 +36,8 @@ impl<S: Sat> Asker<S> {
     ) -> Result<AtBad, EngineError>
         requires for_bad { IsForBad circuit.now }
         requires sound { IsSound circuit.now self.old frames.now }
-        ensures stays { self.new ≡ self.old }
         ensures spends { Spends budget.old budget.new }
+        ensures sound { OnOk result (IsSound circuit.now self.new frames.now) }
         ensures lawful { IfOk result (IsAtBad circuit.now frames.now.entries frames.now.top budget.new) }
     {
         circuit.parts();

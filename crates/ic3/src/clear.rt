@@ -51,7 +51,7 @@ impl<S: Sat> Asker<S> {
         requires sound { IsSound circuit.now self.old frames.old }
         requires ready { IsReady circuit.now lifting.old }
         requires below { level ≤ frames.old.top }
-        requires at { (w : Valuation) × IsAt circuit.now w time × (value_of w (bad_literal circuit.now 0) ≡ true) }
+        requires at { (w : Valuation) × IsAt circuit.now (bad_literal circuit.now 0 ∷ []) w time × (value_of w (bad_literal circuit.now 0) ≡ true) }
         ensures spends { Spends budget.old budget.new }
         ensures sound { OnOk result (IsSound circuit.now self.new frames.new) }
         ensures ready { OnOk result (IsReady circuit.now lifting.new) }

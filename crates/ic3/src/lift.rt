@@ -82,7 +82,7 @@ fn lifted(
     requires table { IsGateTable circuit.now table.now }
     requires places { length marks.old ≡ circuit.now.max_var + 1 }
     requires clear { (v : ℕ) → place marks.old v ≡ false }
-    requires at { (w : Valuation) × IsAt circuit.now w time.now × AllSet w targets.now }
+    requires at { (w : Valuation) × IsAt circuit.now targets.now w time.now × AllSet w targets.now }
     requires known { All (IsUsable circuit.now) targets.now }
     ensures places { OnOk result (length marks.new ≡ circuit.now.max_var + 1) }
     ensures clear { OnOk result ((v : ℕ) → place marks.new v ≡ false) }
@@ -130,7 +130,7 @@ impl Lifting {
         targets: &[Lit],
     ) -> Result<Seq<StateLit>, Refused>
         requires ready { IsReady circuit.now self.old }
-        requires at { (w : Valuation) × IsAt circuit.now w time.now × AllSet w targets.now }
+        requires at { (w : Valuation) × IsAt circuit.now targets.now w time.now × AllSet w targets.now }
         requires known { All (IsUsable circuit.now) targets.now }
         ensures ready { OnOk result (IsReady circuit.now self.new) }
         ensures denies { IfOk result (Denies time.now.state) }

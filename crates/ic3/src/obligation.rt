@@ -1,11 +1,12 @@
 //! Proof obligations: cubes of states that lead to the bad literal, and are to be blocked.
 
-ghost use Rattle.std.specs.Prelude.{◌≡◌, ◌≤◌, ℕ, true, IfOk, OnOk};
+ghost use Rattle.std.specs.Prelude.{◌≡◌, ◌≤◌, ◌∷◌, [], ℕ, true, IfOk, OnOk};
 ghost use Rattle.engine.specs.Findings.{IsForBad};
 ghost use Rattle.graph.specs.Valuation.{Valuation, value_of};
 ghost use Rattle.graph.specs.Runs.{next_state};
 ghost use Rattle.cnf.specs.Formulas.{bad_literal};
 ghost use Rattle.transition.specs.States.{IsAt, Denies};
+ghost use Rattle.transition.specs.Steps.{denials_of};
 ghost use Rattle.frames.specs.Frames.{IsStateClause};
 ghost use Rattle.ic3.specs.Cubes.{IsReady, ArePredecessors, AreBad};
 ghost use Rattle.ic3.specs.Answers.{IsObligation};
@@ -38,7 +39,7 @@ pub(crate) fn obligation_at(
 ) -> Result<Obligation, Refused>
     requires for_bad { IsForBad circuit.now }
     requires ready { IsReady circuit.now lifting.old }
-    requires at { (w : Valuation) × IsAt circuit.now w time × (value_of w (bad_literal circuit.now 0) ≡ true) }
+    requires at { (w : Valuation) × IsAt circuit.now (bad_literal circuit.now 0 ∷ []) w time × (value_of w (bad_literal circuit.now 0) ≡ true) }
     ensures ready { OnOk result (IsReady circuit.now lifting.new) }
     ensures obligation { (top : ℕ) → level ≤ top → IfOk result (IsObligation circuit.now top) }
     ensures bad { IfOk result (λ o. AreBad circuit.now o.clause o.inputs) }
@@ -65,7 +66,7 @@ pub(crate) fn obligation_before(
 ) -> Result<Obligation, Refused>
     requires ready { IsReady circuit.now lifting.old }
     requires clause { IsStateClause circuit.now after.now.clause }
-    requires at { (w : Valuation) × IsAt circuit.now w time × Denies (next_state circuit.now w) after.now.clause }
+    requires at { (w : Valuation) × IsAt circuit.now (denials_of circuit.now.latches after.now.clause) w time × Denies (next_state circuit.now w) after.now.clause }
     ensures ready { OnOk result (IsReady circuit.now lifting.new) }
     ensures obligation { (top : ℕ) → IsObligation circuit.now top after.now → IfOk result (IsObligation circuit.now top) }
     ensures predecessors { IfOk result (λ o. ArePredecessors circuit.now o.clause o.inputs after.now.clause) }

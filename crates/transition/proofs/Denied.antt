@@ -18,7 +18,7 @@ use Rattle.transition.specs.declared.state.StateLit.{StateLit}
 use Rattle.transition.specs.declared.state.Time.{Time}
 use Rattle.transition.specs.declared.reply.Reply.TheVariants.{Found, Core}
 use Rattle.transition.specs.declared.step.Consecution.TheVariants.{Held, Broken}
-use Rattle.transition.specs.States.{latch_at, IsSet, Holds, Denies, IsPartOf, Guarded, AllSet}
+use Rattle.transition.specs.States.{latch_at, IsSet, Holds, Denies, IsPartOf, Guarded, AllSet, IsAt}
 use Rattle.transition.specs.Replies.{IsReply}
 use Rattle.transition.specs.Steps.{IsConsecution, HasNeeded, denial, next_literal}
 use Rattle.transition.proofs.Latched.{from_map, no_latch, no_state_lit}
@@ -131,7 +131,7 @@ pub broken : (m : Parts) (gs : List Guarded) (guards : List ℕ) (clause : List 
     → IsConsecution m gs guards clause after (Broken t)
 broken m gs guards clause lits after t known are (w, at, set, holds) = (
   w,
-  at,
+  subst (λ (ls : List Lit). IsAt m ls w t) are at,
   holds,
   λ k d k_in. unset_by_denial m w (get_or clause k d) (known k d k_in)
       (sym (ap (value_of w) (get_or-map (denial m.latches) clause k d (record { 0 = 0 }) k_in))

@@ -1,5 +1,5 @@
 -- A core excludes the times that were asked for.
-use Rattle.std.proofs.Common.{◌≡◌, ℕ, ◌+◌, ◌-◌, ◌==◌, if◌then◌else◌, Bool, true, false, not, inl, inr, List, ◌++◌, map, get_or, All, Contains, ℤ, refl, sym, ◌∙◌, ap, subst, arith}
+use Rattle.std.proofs.Common.{◌≡◌, ℕ, ◌+◌, ◌-◌, ◌==◌, if◌then◌else◌, Bool, true, false, not, inl, inr, List, ◌++◌, map, get_or, All, Contains, ℤ, refl, ◌∙◌, ap, arith}
 use Rattle.std.specs.Prelude.{nat_lt}
 use Rattle.std.proofs.lemmas.Bool.{cases_Bool, lt-ltb, le-ltb, eq-eqb, ne_eqb}
 use Rattle.std.proofs.lemmas.List.Elements.{All-append, All-map, All-contains}
@@ -15,6 +15,7 @@ use Rattle.cnf.specs.Meaning.{AreSatisfied}
 use Rattle.cnf.proofs.CaseLaws.{time_satisfied}
 use Rattle.cnf.proofs.Formed.{IsKnown}
 use Rattle.cnf.proofs.Values.{IsLaid, literal_true, denial_true}
+use Rattle.cones.proofs.Assigned.{part_law}
 use Rattle.solver.specs.Answers.{IsCore}
 use Rattle.transition.specs.declared.reply.Reply.TheVariants.{Core}
 use Rattle.transition.specs.States.{Guarded, HoldsGuarded, IsTime}
@@ -73,7 +74,7 @@ refused m room gs t guards lits core after well loaded known is =
       λ w time holds set.
           let v : ℕ → Bool = switched m guards w in
           let at : IsLaid v 0 m.max_var w = switched_laid m guards w time.agrees.valuation.constant in
-          is.refuted v (subst (AreSatisfied v) (sym loaded.clauses) (switched_satisfied m gs guards w well time holds))
+          is.refuted v (part_law t.clauses (time_clauses m 0 ++ map (guarded_clause m) gs) loaded.only v (switched_satisfied m gs guards w well time holds))
           (core_true m guards lits v w core ranges (λ g found. guard_true m v g ∙ switched_guard m guards w g ∙ contains_among guards g found)
           (λ a range. literal_true v 0 m.max_var w a at range) all set),
     )

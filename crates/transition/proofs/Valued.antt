@@ -1,26 +1,22 @@
 -- The valuation of an assignment: in it what the circuit leaves undefined is false.
 use Rattle.std.proofs.Common.{◌≡◌, ◌≢◌, ℕ, zero, suc, ◌+◌, ◌≤◌, ◌==◌, Bool, true, false, not, ◌&&◌, ◌||◌, List, [], ◌∷◌, map, length, get_or, All, Contains, ℤ, pos, negsuc, unsigned_abs, inl, inr, refl, sym, ◌∙◌, ap, arith}
-use Rattle.std.specs.Prelude.{flat_map}
 use Rattle.std.specs.List.{range_with_len}
 use Rattle.std.proofs.lemmas.Bool.{cases_lt, eqb-true, eq-eqb, or_cases, or_left, or_right, and_parts, and_left, false_from_ne_true, false≢true}
 use Rattle.std.proofs.lemmas.List.{get_or_past}
-use Rattle.std.proofs.lemmas.List.Elements.{All-head, All-contains, Contains-append_right}
+use Rattle.std.proofs.lemmas.List.Elements.{All-contains, Contains-append_right}
 use Rattle.std.proofs.lemmas.List.FromFn.{length-map-range_with_len, get_or-map-range_with_len}
 use Rattle.graph.specs.declared.circuit.Lit.{Lit}
 use Rattle.graph.specs.declared.parts.Parts.{Parts}
 use Rattle.graph.specs.Valuation.{variable, place, value_of, defined, IsValuation}
 use Rattle.graph.specs.WellFormed.{IsWellFormed}
-use Rattle.graph.proofs.Evaluation.{All-left, defined_nonzero}
+use Rattle.graph.proofs.Evaluation.{defined_nonzero}
 use Rattle.lrat.specs.Literals.{is_true, IsSatisfied}
-use Rattle.lrat.specs.Shared.{unit_clauses}
-use Rattle.cnf.specs.Clauses.{literal, denial, truth_clause, gate_clauses, frame_at, time_clauses}
+use Rattle.cnf.specs.Clauses.{literal, denial, truth_clause}
 use Rattle.cnf.specs.Formulas.{IsInRange}
 use Rattle.cnf.specs.Meaning.{AreSatisfied, extension_of}
-use Rattle.cnf.proofs.CaseLaws.{time_says}
-use Rattle.cnf.proofs.Formed.{Allows, IsFrom, IsKnown, AreFrom, literal_from, denial_from, time_from, defined_small}
+use Rattle.cnf.proofs.Formed.{Allows, IsFrom, IsKnown, literal_from, denial_from, defined_small}
 use Rattle.cnf.proofs.Listed.{satisfied-unit}
 use Rattle.cnf.proofs.Values.{IsLaid, extension_laid, literal_true, denial_true}
-use Rattle.transition.specs.States.{IsTime}
 
 -- whether the number is in the list
 abbrev pub is_among : List ℕ → ℕ → Bool
@@ -94,11 +90,6 @@ same_true u v (negsuc n) e = ap not e
 pub same_from : (m : Parts) (v : ℕ → Bool) (l : ℤ) → IsFrom (IsSame m v) l → is_true v l ≡ is_true (extension_of (valuation_of m v)) l
 same_from m v l from = sym (same_true (extension_of (valuation_of m v)) v l from.1)
 
-same_satisfied : (m : Parts) (v : ℕ → Bool) (cs : List (List ℤ)) → AreFrom (IsSame m v) cs → AreSatisfied v cs → AreSatisfied (extension_of (valuation_of m v)) cs
-same_satisfied m v cs from all k d k_in =
-    let one : IsSatisfied v (get_or cs k d) = all k d k_in in
-    (one.0, one.1, sym (same_from m v one.0 (All-contains (IsFrom (IsSame m v)) (get_or cs k d) one.0 (from k d k_in) one.1)) ∙ one.2)
-
 pub known_range : (m : Parts) (a : Lit) → IsWellFormed m → IsKnown m a → IsInRange m.max_var a
 known_range m a well known = elim known [
   | inl constant ↦ omega (arith, constant)
@@ -123,17 +114,8 @@ pub pos_true : (v : ℕ → Bool) (k : ℕ) → k ≢ 0 → is_true v (pos k) �
 pos_true v zero ne = absurd (ne refl)
 pos_true v (suc k) ne = refl
 
--- what is true is so in what satisfies a time's clauses
-pub truth_on : (m : Parts) (v : ℕ → Bool) → AreSatisfied v (time_clauses m 0) → v (0 + m.max_var + 1) ≡ true
-truth_on m v all =
-    let gates : List (List ℤ) = flat_map (gate_clauses m.max_var 0) m.gates in
-    let first : AreSatisfied v (frame_at m 0) = All-left (IsSatisfied v) (frame_at m 0) (unit_clauses (map (literal m.max_var 0) m.constraints)) all in
+-- what is true is so in what satisfies clauses that say so
+pub truth_on : (m : Parts) (v : ℕ → Bool) (cs : List (List ℤ)) → Contains cs (truth_clause m.max_var 0) → AreSatisfied v cs → v (0 + m.max_var + 1) ≡ true
+truth_on m v cs found all =
     sym (pos_true v (0 + m.max_var + 1) (λ e. omega (arith, e)))
-    ∙ satisfied-unit v (pos (0 + m.max_var + 1)) (All-head (IsSatisfied v) (truth_clause m.max_var 0) gates first)
-
--- the valuation of what satisfies a time's clauses is a time
-pub time_valued : (m : Parts) (v : ℕ → Bool) → IsWellFormed m → AreSatisfied v (time_clauses m 0) → IsTime m (valuation_of m v)
-time_valued m v well all =
-    let from = time_from (IsSame m v) m 0 well (same_seen m v well (truth_on m v all)) in
-    let says = time_says (extension_of (valuation_of m v)) 0 m (valuation_of m v) well (valuation_laid m v well) (valuation_is m v well) (same_satisfied m v (time_clauses m 0) from all) in
-    record { agrees = says.0; keeps = says.1 }
+    ∙ satisfied-unit v (pos (0 + m.max_var + 1)) (All-contains (IsSatisfied v) cs (truth_clause m.max_var 0) all found)

@@ -1,9 +1,10 @@
 -- States of a circuit and clauses over them (Bradley 2011).
-use Rattle.std.specs.Prelude.{◌≡◌, ℕ, ◌<◌, ◌⊎◌, Bool, true, false, List, length, slice_index_or, All, Contains}
+use Rattle.std.specs.Prelude.{◌≡◌, ℕ, ◌<◌, ◌⊎◌, Bool, true, false, List, ◌++◌, length, slice_index_or, All, Contains}
 use Rattle.graph.specs.declared.circuit.Lit.{Lit}
 use Rattle.graph.specs.declared.parts.Parts.{Parts}
-use Rattle.graph.specs.Valuation.{Valuation, place, value_of, defined, Agrees, state_of, inputs_of}
+use Rattle.graph.specs.Valuation.{Valuation, variable, place, value_of, defined, Agrees, state_of, inputs_of}
 use Rattle.cnf.specs.Meaning.{KeepsNow}
+use Rattle.cones.specs.Marks.{IsMarked, IsCone}
 use Rattle.transition.specs.declared.state.StateLit.{StateLit}
 use Rattle.transition.specs.declared.state.Time.{Time}
 
@@ -41,14 +42,20 @@ pub record IsTime (m : Parts) (w : Valuation) : Type 0 where
   pub agrees : Agrees m w
   pub keeps : KeepsNow m w
 
--- the valuation is a time with this state and these inputs; its values of the constant and of what the circuit defines are
--- these, at their places
-pub record IsAt (m : Parts) (w : Valuation) (t : Time) : Type 0 where
+-- these are the valuation's values of the constant and of a cone that has the literals and the constraints, at their places
+pub record AreValues (m : Parts) (lits : List Lit) (w : Valuation) (values : List Bool) : Type 0 where
+  pub cone : List Bool
+  pub closed : IsCone m (IsMarked cone)
+  pub asked : All (λ a. IsMarked cone (variable a)) (lits ++ m.constraints)
+  pub places : m.max_var < length values
+  pub same : (v : ℕ) → (v ≡ 0) ⊎ (Contains (defined m) v × IsMarked cone v) → place values v ≡ place w v
+
+-- the valuation is a time with this state and these inputs, and with these values of what the literals are made of
+pub record IsAt (m : Parts) (lits : List Lit) (w : Valuation) (t : Time) : Type 0 where
   pub is_time : IsTime m w
   pub state : state_of m w ≡ t.state
   pub inputs : inputs_of m w ≡ t.inputs
-  pub places : m.max_var < length t.values
-  pub values : (v : ℕ) → (v ≡ 0) ⊎ Contains (defined m) v → place t.values v ≡ place w v
+  pub values : AreValues m lits w t.values
 
 -- each of the literals is true
 abbrev pub AllSet : Valuation → List Lit → Type 0

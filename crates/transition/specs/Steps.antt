@@ -12,14 +12,6 @@ use Rattle.transition.specs.declared.step.Consecution.{Consecution}
 use Rattle.transition.specs.declared.step.Consecution.TheVariants.{Held, Broken, GaveUp}
 use Rattle.transition.specs.States.{Guarded, HoldsGuarded, Holds, Denies, IsPartOf, IsTime, IsAt}
 
--- what is known of the steps from times in whose state the clauses of these guards hold: a part of the clause holds after
--- each, the clause doesn't hold after one, or the budget is exhausted
-abbrev pub IsConsecution : Parts → List Guarded → List ℕ → List StateLit → Steps → Consecution → Type 0
-IsConsecution m gs guards c after (Held part) =
-    IsPartOf part c × ((w : Valuation) → IsTime m w → HoldsGuarded gs guards (state_of m w) → Holds (next_state m w) part)
-IsConsecution m gs guards c after (Broken t) = (w : Valuation) × IsAt m w t × HoldsGuarded gs guards (state_of m w) × Denies (next_state m w) c
-IsConsecution m gs guards c after GaveUp = after.left ≡ 0
-
 -- the next literal of a latch, by its position
 abbrev pub next_literal : List Latch → ℕ → Lit
 next_literal latches i = slice_index_or (map (λ (l : Latch). l.next) latches) i (record { 0 = 0 })
@@ -27,6 +19,18 @@ next_literal latches i = slice_index_or (map (λ (l : Latch). l.next) latches) i
 -- the literal that is true where the latch takes over another value
 abbrev pub denial : List Latch → StateLit → Lit
 denial latches a = along a.value (next_literal latches a.latch)
+
+-- the literals that are true where the clause doesn't hold after the step
+abbrev pub denials_of : List Latch → List StateLit → List Lit
+denials_of latches c = map (denial latches) c
+
+-- what is known of the steps from times in whose state the clauses of these guards hold: a part of the clause holds after
+-- each, the clause doesn't hold after one, or the budget is exhausted
+abbrev pub IsConsecution : Parts → List Guarded → List ℕ → List StateLit → Steps → Consecution → Type 0
+IsConsecution m gs guards c after (Held part) =
+    IsPartOf part c × ((w : Valuation) → IsTime m w → HoldsGuarded gs guards (state_of m w) → Holds (next_state m w) part)
+IsConsecution m gs guards c after (Broken t) = (w : Valuation) × IsAt m (denials_of m.latches c) w t × HoldsGuarded gs guards (state_of m w) × Denies (next_state m w) c
+IsConsecution m gs guards c after GaveUp = after.left ≡ 0
 
 -- the part has each literal whose denial is in the core
 pub record HasNeeded (latches : List Latch) (clause : List StateLit) (core : List Lit) (part : List StateLit) : Type 0 where

@@ -1,6 +1,6 @@
 //! A question to a solver.
 
-ghost use Rattle.std.specs.Prelude.{◌≡◌, ◌+◌, ◌<◌, ◌^◌, ◌++◌, ℕ, List, map, All, IfOk, OnOk};
+ghost use Rattle.std.specs.Prelude.{◌≡◌, ◌+◌, ◌<◌, ◌^◌, ◌++◌, ℕ, List, Some, map, All, IfOk, OnOk};
 ghost use Rattle.base.specs.Budget.{Spends};
 ghost use Rattle.cnf.specs.Clauses.{literal};
 ghost use Rattle.cnf.specs.Formulas.{IsInRange};
@@ -9,6 +9,7 @@ ghost use Rattle.transition.specs.Replies.{IsReply, IsUsable};
 ghost use Rattle.transition.specs.Contents.{Contents, IsLoaded, HasGuards, guard_literal as guard_literal_of};
 ghost use Rattle.transition.specs.Readings.{assumptions_of};
 
+use crate::cone::{Cone, grow};
 use crate::encoding::guard_literal;
 use crate::reading::{core_lits, time_in};
 use crate::reply::Reply;
@@ -60,25 +61,28 @@ fn assumptions(
 }
 
 /// Asks for a time at which the literals are true, in a state where the clauses of these guards
-/// hold.
+/// hold. The solver is told first what it does not know yet of the literals' cone.
 pub(crate) fn ask<S: Sat>(
     solver: &mut S,
     alloc: Global,
     model: &Model,
+    cone: &mut Cone,
     guards: &[u32],
     lits: &[Lit],
     budget: &mut Budget,
 ) -> Result<Reply, EngineError>
-    requires guards { HasGuards model.now guards.now (record { vars = S.vars solver.old; clauses = S.clauses solver.old }) }
+    requires guards { HasGuards model.now guards.now (record { vars = S.vars solver.old; clauses = S.clauses solver.old; cone = Some cone.old }) }
     requires lits { All (IsUsable model.now) lits.now }
-    ensures vars { S.vars solver.new ≡ S.vars solver.old }
-    ensures clauses { S.clauses solver.new ≡ S.clauses solver.old }
     ensures spends { Spends budget.old budget.new }
-    ensures lawful { (n : ℕ) (gs : List Guarded) → IsLoaded model.now n gs (record { vars = S.vars solver.old; clauses = S.clauses solver.old }) →
+    ensures loaded { (n : ℕ) (gs : List Guarded) → IsLoaded model.now n gs (record { vars = S.vars solver.old; clauses = S.clauses solver.old; cone = Some cone.old }) →
+        OnOk result (IsLoaded model.now n gs (record { vars = S.vars solver.new; clauses = S.clauses solver.new; cone = Some cone.new })) }
+    ensures lawful { (n : ℕ) (gs : List Guarded) → IsLoaded model.now n gs (record { vars = S.vars solver.old; clauses = S.clauses solver.old; cone = Some cone.old }) →
         IfOk result (IsReply model.now gs guards.now lits.now budget.new) }
 {
     model.parts();
+    model.order();
     solver.vars();
+    grow(solver, alloc, model, cone, lits)?;
     let assumed = assumptions(alloc, model, guards, lits)?;
     match solver.solve(alloc, assumed.as_slice(), budget)? {
         Answer::Model(values) => Ok(Reply::Found(time_in(alloc, model, values)?)),

@@ -1,17 +1,14 @@
 //! A solver that has the circuit at one time, and guarded clauses.
 
-ghost use Rattle.std.specs.Prelude.{◌≡◌, ◌+◌, ◌<◌, ◌≤◌, ◌^◌, ◌++◌, ◌∷◌, [], ℕ, List, length, map, All, IfOk, OnOk, OnErr, neg_ℤ};
-ghost use Rattle.lrat.specs.Literals.{IsLiteral};
-ghost use Rattle.cnf.specs.Clauses.{time_clauses};
+ghost use Rattle.std.specs.Prelude.{◌≡◌, ◌+◌, ◌<◌, ◌≤◌, ◌^◌, ◌++◌, ◌∷◌, [], Some, length, map, All, IfOk, OnOk, OnErr, neg_ℤ};
 ghost use Rattle.transition.specs.States.{Guarded};
 ghost use Rattle.transition.specs.Contents.{Contents, IsLoaded, HasGuards, guard_literal as guard_literal_of, guarded_clause, state_literal as state_literal_of};
 
+use crate::cone::{Cone, add_constraints, grow};
 use crate::state::StateLit;
 use base::{Refused, push};
-use cnf::shared_base;
 use engine::EngineError;
 use graph::Model;
-use lrat::{Clause, Formula};
 use solver::Sat;
 use std::alloc::Global;
 
@@ -60,44 +57,25 @@ fn guarded(
     Ok(literals)
 }
 
-/// Truth, gates and constraints of the circuit.
-fn clauses_of(alloc: Global, model: &Model) -> Result<Formula, Refused>
-    ensures clauses { IfOk result (λ f. f.clauses ≡ time_clauses model.now 0) }
-    ensures literals { IfOk result (λ f. All (All (IsLiteral (model.now.max_var + 1))) f.clauses) }
-{
-    let formula = shared_base(alloc, model, &[])?;
-    Ok(formula)
-}
-
-/// Adds each clause.
-fn add_all<S: Sat>(solver: &mut S, alloc: Global, clauses: &[Clause]) -> Result<(), EngineError>
-    requires { All (All (IsLiteral (S.vars solver.old))) clauses.now }
-    ensures vars { S.vars solver.new ≡ S.vars solver.old }
-    ensures clauses { OnOk result (S.clauses solver.new ≡ S.clauses solver.old ++ clauses.now) }
-{
-    for clause in clauses {
-        solver.add(alloc, clause.as_slice())?;
-    }
-    Ok(())
-}
-
-/// Begins anew with the circuit.
+/// Begins anew with the cone of the circuit's constraints.
 pub(crate) fn load<S: Sat>(
     solver: &mut S,
     alloc: Global,
     model: &Model,
     guards: u32,
-) -> Result<(), EngineError>
-    ensures { OnOk result (IsLoaded model.now guards [] (record { vars = S.vars solver.new; clauses = S.clauses solver.new })) }
+) -> Result<Cone, EngineError>
+    ensures { IfOk result (λ c. IsLoaded model.now guards [] (record { vars = S.vars solver.new; clauses = S.clauses solver.new; cone = Some c })) }
 {
     model.parts();
     let variables = model.max_var() + 1;
     if guards > GREATEST - variables {
         return Err(EngineError::Limit);
     }
-    let formula = clauses_of(alloc, model)?;
+    let mut cone = Cone::new(alloc, model)?;
     solver.reset(alloc, variables + guards)?;
-    add_all(solver, alloc, formula.clauses.as_slice())
+    add_constraints(solver, alloc, model)?;
+    grow(solver, alloc, model, &mut cone, model.constraints())?;
+    Ok(cone)
 }
 
 /// Adds a clause under a guard.
@@ -108,7 +86,7 @@ pub(crate) fn add<S: Sat>(
     guard: u32,
     clause: &[StateLit],
 ) -> Result<(), EngineError>
-    requires guards { HasGuards model.now (guard ∷ []) (record { vars = S.vars solver.old; clauses = S.clauses solver.old }) }
+    requires guard { model.now.max_var + 2 + guard ≤ S.vars solver.old }
     requires latches { All (λ a. a.latch < length model.now.latches) clause.now }
     ensures vars { S.vars solver.new ≡ S.vars solver.old }
     ensures added { OnOk result (S.clauses solver.new ≡ S.clauses solver.old ++ guarded_clause model.now (record { guard = guard; clause = clause.now }) ∷ []) }

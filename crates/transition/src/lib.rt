@@ -7,12 +7,15 @@
 //! - `holds_after` asks whether a clause over the latches holds after each step from such states,
 //!   and finds a part of it that does (Bradley 2011).
 //!
-//! Clauses of solvers stay inside: the contracts speak of states and times. A question costs its
-//! guards and literals, the time that it answers, and what the solver does; no pass over the
+//! Clauses of solvers stay inside: the contracts speak of states and times. A solver has the
+//! constraints, and of the gates only those that some question needed: each question adds first what
+//! its literals are made of and the solver lacks (`cones`). So a question costs its guards and
+//! literals, what it adds, the time that it answers, and what the solver does; no pass over the
 //! circuit.
 #![tactic(auto)]
 
 mod asking;
+mod cone;
 mod encoding;
 mod lookup;
 mod reading;

@@ -11,12 +11,12 @@ pub struct StateLit {
 }
 
 /// The state and the inputs of a time, in the order of the circuit's latches and inputs, and the
-/// values of its variables.
+/// values of what was asked about.
 #[derive(Debug, Drop)]
 pub struct Time {
     pub state: Seq<bool>,
     pub inputs: Seq<bool>,
-    /// the value of each variable that the circuit defines, at the variable's place; what stands at
-    /// other places means nothing
+    /// the value of each variable of which the literals that were asked for and the constraints are
+    /// made, at the variable's place; what stands at other places means nothing
     pub values: Seq<bool>,
 }

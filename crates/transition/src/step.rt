@@ -1,11 +1,11 @@
 //! Whether a clause holds after each step.
 
-ghost use Rattle.std.specs.Prelude.{◌≡◌, ◌<◌, ◌≤◌, ◌*◌, ◌+◌, ◌↔◌, IsTrue, ℕ, List, length, map, All, Contains, IfOk};
+ghost use Rattle.std.specs.Prelude.{◌≡◌, ◌<◌, ◌≤◌, ◌*◌, ◌+◌, ◌↔◌, IsTrue, ℕ, List, length, All, Contains, IfOk, OnOk};
 ghost use Rattle.base.specs.Budget.{Spends};
 ghost use Rattle.cnf.specs.Clauses.{along as along_of};
 ghost use Rattle.transition.specs.States.{Guarded, IsPartOf};
 ghost use Rattle.transition.specs.Contents.{IsLoaded, HasGuards};
-ghost use Rattle.transition.specs.Steps.{IsConsecution, HasNeeded, denial};
+ghost use Rattle.transition.specs.Steps.{IsConsecution, HasNeeded, denial, denials_of};
 
 use crate::lookup::{contains, in_order};
 use crate::reply::Reply;
@@ -56,7 +56,7 @@ fn unset_after(latches: &[Latch], lit: StateLit) -> Lit
 pub fn denials(alloc: Global, latches: &[Latch], clause: &[StateLit]) -> Result<Seq<Lit>, Refused>
     requires latches { All (λ a. a.latch < length latches.now) clause.now }
     requires small { All (λ l. l.next.0 < 4294967295) latches.now }
-    ensures { IfOk result (λ lits. lits ≡ map (denial latches.now) clause.now) }
+    ensures { IfOk result (λ lits. lits ≡ denials_of latches.now clause.now) }
 {
     let mut lits = Seq::new(alloc);
     'denying: for lit in clause {
@@ -101,8 +101,8 @@ pub fn holds_after<S: Sat>(
 ) -> Result<Consecution, EngineError>
     requires loaded { HasGuards model.now guards.now transition.old }
     requires latches { All (λ a. a.latch < length model.now.latches) clause.now }
-    ensures stays { transition.new ≡ transition.old }
     ensures spends { Spends budget.old budget.new }
+    ensures loaded { (n : ℕ) (gs : List Guarded) → IsLoaded model.now n gs transition.old → OnOk result (IsLoaded model.now n gs transition.new) }
     ensures lawful { (n : ℕ) (gs : List Guarded) → IsLoaded model.now n gs transition.old → IfOk result (IsConsecution model.now gs guards.now clause.now budget.new) }
 {
     model.parts();

@@ -1,11 +1,12 @@
 //! One time of a circuit in a solver.
 
-ghost use Rattle.std.specs.Prelude.{◌≡◌, ◌<◌, ◌++◌, ◌∷◌, [], ℕ, List, length, All, IfOk, OnOk, OnErr};
+ghost use Rattle.std.specs.Prelude.{◌≡◌, ◌<◌, ◌++◌, ◌∷◌, [], ℕ, List, None, length, All, IfOk, OnOk, OnErr};
 ghost use Rattle.base.specs.Budget.{Spends};
 ghost use Rattle.transition.specs.States.{Guarded};
 ghost use Rattle.transition.specs.Replies.{IsReply, IsUsable};
 ghost use Rattle.transition.specs.Contents.{IsLoaded, HasGuards};
 
+use crate::cone::Cone;
 use crate::reply::Reply;
 use crate::state::StateLit;
 use crate::{asking, encoding};
@@ -15,10 +16,12 @@ use solver::Sat;
 use std::alloc::Global;
 
 /// One time of a circuit in an incremental solver, with clauses over its state, each under a
-/// guard. A contract sees the solver's variables and clauses, and only through `IsLoaded`.
+/// guard. The solver has the clauses of the gates that were asked about and of what these are made
+/// of. A contract sees its variables, its clauses and that cone, and only through `IsLoaded`.
 #[derive(Drop)]
 pub struct Transition<S: Sat> {
     solver: S,
+    cone: Option<Cone>,
 }
 
 impl<S: Sat> std::marker::Model for Transition<S> {
@@ -26,24 +29,26 @@ impl<S: Sat> std::marker::Model for Transition<S> {
 
     ghost Value = { Contents };
 
-    ghost view = { λ t. record { vars = S.vars t.solver; clauses = S.clauses t.solver } };
+    ghost view = { λ t. record { vars = S.vars t.solver; clauses = S.clauses t.solver; cone = t.cone } };
 }
 
 impl<S: Sat> Transition<S> {
     /// A solver that has no circuit yet.
     pub fn new(solver: S) -> Self
-        ensures { result ≡ record { vars = S.vars solver; clauses = S.clauses solver } }
+        ensures { result ≡ record { vars = S.vars solver; clauses = S.clauses solver; cone = None } }
     {
-        Transition { solver }
+        Transition { solver, cone: None }
     }
 
-    /// Begins anew with the circuit, its constraints and room for the guards below `guards`. It
-    /// costs the circuit, and refuses more variables than 2,147,483,647 as over the limit. After a
-    /// refusal it is to be loaded again.
+    /// Begins anew with the constraints of the circuit, what they are made of, and room for the
+    /// guards below `guards`. It costs the circuit, and refuses more variables than 2,147,483,647 as
+    /// over the limit. After a refusal it is to be loaded again.
     pub fn load(&mut self, alloc: Global, model: &Model, guards: u32) -> Result<(), EngineError>
         ensures { OnOk result (IsLoaded model.now guards [] self.new) }
     {
-        encoding::load(&mut self.solver, alloc, model, guards)
+        let cone = encoding::load(&mut self.solver, alloc, model, guards)?;
+        self.cone = Some(cone);
+        Ok(())
     }
 
     /// Adds a clause that holds where its guard is assumed. A refusal changes nothing.
@@ -64,8 +69,9 @@ impl<S: Sat> Transition<S> {
     }
 
     /// Asks for a time that keeps the constraints and at which the literals are true, in a state
-    /// where the clauses of these guards hold. It costs the guards and the literals, the state and
-    /// the inputs of what it finds, and what the solver does.
+    /// where the clauses of these guards hold. It costs the guards and the literals, what they are
+    /// made of that was not asked about before, the state and the inputs of what it finds, and what
+    /// the solver does. After a refusal it is to be loaded again.
     pub fn ask(
         &mut self,
         alloc: Global,
@@ -76,10 +82,13 @@ impl<S: Sat> Transition<S> {
     ) -> Result<Reply, EngineError>
         requires loaded { HasGuards model.now guards.now self.old }
         requires lits { All (IsUsable model.now) lits.now }
-        ensures stays { self.new ≡ self.old }
         ensures spends { Spends budget.old budget.new }
+        ensures loaded { (n : ℕ) (gs : List Guarded) → IsLoaded model.now n gs self.old → OnOk result (IsLoaded model.now n gs self.new) }
         ensures lawful { (n : ℕ) (gs : List Guarded) → IsLoaded model.now n gs self.old → IfOk result (IsReply model.now gs guards.now lits.now budget.new) }
     {
-        asking::ask(&mut self.solver, alloc, model, guards, lits, budget)
+        match &mut self.cone {
+            Some(cone) => asking::ask(&mut self.solver, alloc, model, cone, guards, lits, budget),
+            None => unreachable!(),
+        }
     }
 }

@@ -4,11 +4,11 @@ use Rattle.graph.specs.declared.circuit.Latch.{Latch}
 use Rattle.graph.specs.Valuation.{variable}
 use Rattle.graph.specs.WellFormed.{IsModel}
 use Rattle.cones.specs.declared.reach.Reach.TheVariants.{Justification}
-use Rattle.cones.specs.Marks.{IsKnown}
+use Rattle.cones.specs.Marks.{IsMarked, IsKnown}
 use Rattle.cones.specs.Reach.{IsDomain, IsExtended}
-use Rattle.cones.proofs.Grown.{full, full_serves, full_inside, full_all, known_small}
+use Rattle.cones.proofs.Grown.{known_small}
 use Rattle.ic3.specs.Cubes.{HasMarked}
-use Rattle.ic3.proofs.Lifted.{values_fire, wanted_known, cube_justifies}
+use Rattle.ic3.proofs.Lifted.{values_serve, none_inside, wanted_known, cube_justifies}
 use Rattle.ic3.proofs.lift.lifted.Goals as goal
 
 pub extend-requires-clause-wanted : goal.extend-requires-clause-wanted
@@ -23,12 +23,13 @@ extend-requires-clause-domain c =
     let m = c.args.circuit.now in
     let well = c.parts.ensures.well_formed in
     let at = c.requires.at.1 in
-    let are : c.deref.result.now ≡ c.args.targets.now ++ m.constraints = c.deref.ensures.value ∙ c.in_ok-wanted.ensures in
-    let known : All (λ (a : Lit). IsKnown m (variable a)) c.deref.result.now = subst (All (λ (a : Lit). IsKnown m (variable a))) (sym are) (wanted_known m c.args.targets.now well c.requires.known) in (
-      full m,
-      subst (λ (b : List Bool). IsDomain m Justification b (full m)) (sym c.as_slice.ensures) (full_serves m c.args.time.now.values well at.places (values_fire m c.requires.at.0 c.args.time.now well at)),
-      full_inside m c.args.marks.now c.requires.places,
-      full_all m c.deref.result.now (known_small m c.deref.result.now well known),
+    let cone : List Bool = at.values.cone in
+    let are : c.deref.result.now ≡ c.args.targets.now ++ m.constraints = c.deref.ensures.value ∙ c.in_ok-wanted.ensures in (
+      cone,
+      subst (λ (b : List Bool). IsDomain m Justification b cone) (sym c.as_slice.ensures)
+          (values_serve m c.args.targets.now c.requires.at.0 c.args.time.now.values well at.values at.is_time.agrees.gates),
+      none_inside c.args.marks.now cone c.requires.clear,
+      subst (All (λ (a : Lit). IsMarked cone (variable a))) (sym are) at.values.asked,
     )
 
 pub returns-clause-clause : goal.returns-clause-clause
@@ -47,4 +48,4 @@ returns-clause-justifies c =
     subst (λ (ls : List Latch). HasMarked ls t.state u c.in_ok-clause.clause) c.latches.ensures
     (subst (λ (s : List Bool). HasMarked c.latches.result.now s u c.in_ok-clause.clause) c.as_slice-2.ensures c.in_ok-clause.ensures.each) in
     cube_justifies m c.order.result.now c.requires.at.0 t c.args.targets.now c.deref.result.now c.args.marks.now u c.in_ok-list.list.items c.in_ok-clause.clause
-    model c.requires.at.1 c.requires.at.2 c.requires.known are ext has
+    model c.requires.at.1 c.requires.at.2 c.requires.known are c.requires.clear ext has

@@ -1,6 +1,7 @@
 use Rattle.std.proofs.Common.{◌≡◌, ◌∙◌, ap, sym, subst, map, List}
+use Rattle.graph.specs.declared.circuit.Lit.{Lit}
 use Rattle.graph.specs.declared.circuit.Latch.{Latch}
-use Rattle.transition.specs.States.{AllSet}
+use Rattle.transition.specs.States.{AllSet, IsAt}
 use Rattle.transition.specs.Steps.{denial}
 use Rattle.transition.proofs.Denied.{nexts_small, denials_known}
 use Rattle.ic3.proofs.Lifted.{denials_set, predecessors_by}
@@ -16,7 +17,7 @@ lift-requires-clause-at c =
     let are : c.as_slice-2.result.now ≡ map (denial m.latches) clause =
     c.as_slice-2.ensures ∙ c.in_ok-targets.ensures ∙ ap (λ (ls : List Latch). map (denial ls) c.as_slice.result.now) c.latches.ensures ∙ ap (map (denial m.latches)) c.as_slice.ensures in
     let at = c.requires.at in
-    (at.0, at.1, subst (AllSet at.0) (sym are) (denials_set m at.0 clause c.requires.clause.inside at.2))
+    (at.0, subst (λ (lits : List Lit). IsAt m lits at.0 c.args.time) (sym are) at.1, subst (AllSet at.0) (sym are) (denials_set m at.0 clause c.requires.clause.inside at.2))
 
 pub lift-requires-clause-known : goal.lift-requires-clause-known
 lift-requires-clause-known c =

@@ -1,7 +1,6 @@
 use Rattle.std.proofs.Common.{◌∙◌, All, sym, subst}
 use Rattle.lrat.specs.Literals.{IsLiteral}
 use Rattle.transition.specs.States.{Guarded}
-use Rattle.transition.specs.Contents.{Contents}
 use Rattle.transition.proofs.Loaded.{guarded_literals}
 use Rattle.transition.proofs.encoding.add.Goals as goal
 
@@ -9,6 +8,5 @@ pub add-requires : goal.add-requires
 add-requires g c =
     let vars = g.S.Sat.vars c.args.solver.now in
     let guarded : Guarded = record { guard = c.args.guard; clause = c.args.clause.now } in
-    let told : Contents = record { vars = vars; clauses = g.S.Sat.clauses c.args.solver.now } in
     subst (All (IsLiteral vars)) (sym (c.as_slice.ensures.value ∙ c.in_ok-literals.ensures))
-    (guarded_literals c.args.model.now guarded told c.parts.ensures.well_formed c.requires.guards)
+    (guarded_literals c.args.model.now guarded vars c.parts.ensures.well_formed c.requires.guard)

@@ -1,8 +1,9 @@
 use Rattle.std.proofs.Common.{◌+◌, ◌≤◌, ◌<◌, All, arith, sym, subst}
+use Rattle.transition.specs.Contents.{IsLoaded}
 use Rattle.transition.specs.Steps.{IsConsecution}
 use Rattle.ic3.specs.Answers.{IsAfter}
-use Rattle.ic3.proofs.Outcomes.{if_ok}
-use Rattle.ic3.proofs.Guarding.{told_guards, range_within, range_room, after_answer}
+use Rattle.ic3.proofs.Outcomes.{if_ok, on_ok}
+use Rattle.ic3.proofs.Guarding.{told_guards, sound_grown, range_within, range_room, after_answer}
 use Rattle.ic3.proofs.asker.Asker.after.Goals as goal
 
 pub holds_after-requires-clause-loaded : goal.holds_after-requires-clause-loaded
@@ -17,6 +18,16 @@ holds_after-requires-clause-loaded g c =
     told_guards m c.args.frames.now.entries a c.as_slice.result.now sound.told
     (range_room c.args.level (c.top.result + 1) a.room c.as_slice.result.now inside
     (subst (All (λ n. (c.args.level ≤ n) × (n < c.top.result + 1))) (sym c.as_slice.ensures) c.in_ok-guards.ensures))
+
+pub returns-clause-sound : goal.returns-clause-sound
+returns-clause-sound g c =
+    let m = c.args.circuit.now in
+    let a = c.args.self.now in
+    let f = c.args.frames.now in
+    let sound = c.requires.sound in
+    on_ok (IsLoaded m a.room sound.told.added c.holds_after.new.transition) _ c.holds_after.result
+    (λ loaded. sound_grown m a f c.holds_after.new.transition sound loaded)
+    (c.holds_after.ensures.loaded a.room sound.told.added sound.told.loaded)
 
 pub returns-clause-lawful : goal.returns-clause-lawful
 returns-clause-lawful g c =

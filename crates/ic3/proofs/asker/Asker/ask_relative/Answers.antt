@@ -1,6 +1,5 @@
-use Rattle.std.proofs.Common.{◌+◌, ◌≤◌, ◌++◌, ◌∷◌, [], ◌∙◌, arith, sym, subst}
-use Rattle.transition.specs.Contents.{IsLoaded, HasGuards}
-use Rattle.ic3.proofs.Guarding.{told_guard, told_guards, told_asked, told_let_go, guards_more, guards_room, relative_answer}
+use Rattle.std.proofs.Common.{◌+◌, ◌≤◌, ◌++◌, ◌∷◌, [], ◌∙◌, arith}
+use Rattle.ic3.proofs.Guarding.{told_guard, told_guards, told_grown, told_asked, told_let_go, guards_more, guards_room, relative_answer}
 use Rattle.ic3.proofs.asker.Asker.ask_relative.Goals as goal
 
 pub add-requires-clause-loaded : goal.add-requires-clause-loaded
@@ -26,7 +25,8 @@ add-requires-2-clause-loaded g c =
     let a = c.args.self.now in
     let told = c.requires.sound.told in
     let asked = told_asked m c.args.frames.now.entries a c.add.new.self c.args.clause.now told c.requires.room (c.in_ok-add.ensures.added a.room told.added told.loaded) in
-    subst (HasGuards m (a.next ∷ [])) (sym c.holds_after.ensures.stays) (told_guard m c.args.frames.now.entries _ a.next asked c.requires.room)
+    let loaded = c.in_ok-known.ensures.loaded a.room asked.added asked.loaded in
+    told_guard m c.args.frames.now.entries _ a.next (told_grown m c.args.frames.now.entries _ c.holds_after.new.transition asked loaded) c.requires.room
 
 pub returns-clause-sound : goal.returns-clause-sound
 returns-clause-sound g c =
@@ -35,7 +35,7 @@ returns-clause-sound g c =
     let es = c.args.frames.now.entries in
     let told = c.requires.sound.told in
     let asked = told_asked m es a c.add.new.self c.args.clause.now told c.requires.room (c.in_ok-add.ensures.added a.room told.added told.loaded) in
-    let loaded = subst (IsLoaded m a.room asked.added) (sym c.holds_after.ensures.stays) asked.loaded in
+    let loaded = c.in_ok-known.ensures.loaded a.room asked.added asked.loaded in
     record {
       told = told_let_go m es _ c.add-2.new.self a.next [] asked told.order (omega arith) (c.in_ok-add-2.ensures.added a.room asked.added loaded);
       laws = c.requires.sound.laws;

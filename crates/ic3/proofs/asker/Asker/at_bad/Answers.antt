@@ -3,7 +3,7 @@ use Rattle.graph.specs.declared.circuit.Lit.{Lit}
 use Rattle.transition.specs.Replies.{IsReply}
 use Rattle.frames.specs.Frames.{Excludes}
 use Rattle.cnf.specs.Formulas.{bad_literal}
-use Rattle.ic3.proofs.Guarding.{told_guards, range_within, range_room}
+use Rattle.ic3.proofs.Guarding.{told_guards, sound_grown, range_within, range_room}
 use Rattle.ic3.proofs.Joining.{bad_usable, set_at, excluded_by}
 use Rattle.ic3.proofs.asker.Asker.at_bad.Goals as goal
 
@@ -53,3 +53,18 @@ returns-clause-lawful g c =
     let lits : List Lit = get_or c.bad.result.now 0 (record { 0 = 0 }) ∷ [] in
     let told = c.requires.sound.told in
     subst (IsReply c.args.circuit.now told.added c.as_slice.result.now lits c.ask.new.budget) c.in-Spent.is (c.in_ok-time.ensures.lawful c.args.self.now.room told.added told.loaded)
+
+pub returns-in-Found-clause-sound : goal.returns-in-Found-clause-sound
+returns-in-Found-clause-sound g c =
+    let told = c.requires.sound.told in
+    sound_grown c.args.circuit.now c.args.self.now c.args.frames.now c.ask.new.self c.requires.sound (c.in_ok-time.ensures.loaded c.args.self.now.room told.added told.loaded)
+
+pub returns-in-Core-clause-sound : goal.returns-in-Core-clause-sound
+returns-in-Core-clause-sound g c =
+    let told = c.requires.sound.told in
+    sound_grown c.args.circuit.now c.args.self.now c.args.frames.now c.ask.new.self c.requires.sound (c.in_ok-time.ensures.loaded c.args.self.now.room told.added told.loaded)
+
+pub returns-clause-sound : goal.returns-clause-sound
+returns-clause-sound g c =
+    let told = c.requires.sound.told in
+    sound_grown c.args.circuit.now c.args.self.now c.args.frames.now c.ask.new.self c.requires.sound (c.in_ok-time.ensures.loaded c.args.self.now.room told.added told.loaded)

@@ -4,7 +4,6 @@ use Rattle.std.proofs.lemmas.List.Elements.{All-set}
 use Rattle.cnf.specs.Formulas.{bad_literal}
 use Rattle.frames.specs.declared.frames.Entry.{Entry}
 use Rattle.frames.specs.Frames.{IsStateClause, HoldsAfter}
-use Rattle.ic3.specs.Told.{IsTold}
 use Rattle.ic3.specs.Answers.{IsAfter}
 use Rattle.ic3.proofs.Guarding.{item_has, told_within}
 use Rattle.ic3.proofs.Joining.{entry_holds, raised_found}
@@ -27,11 +26,11 @@ tell_counted-requires g c =
     let es = c.args.frames.now.entries in
     let e = c.index-entries-place.result in
     let item : e ≡ get_or es c.args.place e = c.index-entries-place.is ∙ ap (λ (xs : List Entry). get_or xs c.args.place e) c.entries.ensures in
-    let top = c.requires.sound.top in
-    let level : c.args.level + 1 < c.args.self.now.levels = omega (arith, top, c.requires.below) in
+    let sound = c.in_ok-after.ensures.sound in
+    let top = sound.top in
     record {
-      told = (es, subst (IsTold m es) (sym c.after.ensures.stays) c.requires.sound.told);
-      level = rw c.after.ensures.stays level;
+      told = (es, sound.told);
+      level = omega (arith, top, c.requires.below);
       clause = subst (IsStateClause m) (sym c.as_slice-clause.ensures) (item_has (λ (x : Entry). IsStateClause m x.clause) es c.args.place e c.requires.place item c.requires.sound.laws.clauses);
     }
 
@@ -52,25 +51,24 @@ returns-in-Held-clause-len g c = ap length (c.raise.ensures.entries c.index-entr
 pub returns-in-Held-clause-sound : goal.returns-in-Held-clause-sound
 returns-in-Held-clause-sound g c =
     let m = c.args.circuit.now in
-    let a = c.args.self.now in
+    let a = c.after.new.self in
     let es = c.args.frames.now.entries in
     let fs = c.raise.new.self.entries in
     let place = c.args.place in
     let k = c.args.level in
     let e = c.index-entries-place.result in
     let clause = c.as_slice-clause.result.now in
-    let sound = c.requires.sound in
+    let sound = c.in_ok-after.ensures.sound in
     let top = sound.top in
     let item : e ≡ get_or es place e = c.index-entries-place.is ∙ ap (λ (xs : List Entry). get_or xs place e) c.entries.ensures in
     let clause_is : (get_or es place e).clause ≡ clause = ap (λ (x : Entry). x.clause) (sym item) ∙ sym c.as_slice-clause.ensures in
     let level_is : (get_or es place e).level ≡ k = ap (λ (x : Entry). x.level) (sym item) ∙ c.if-entry-level.false in
     let after = subst (IsAfter m es k clause c.after.new.budget) c.in-Held.is c.in_ok-after.ensures.lawful in
-    let old = subst (IsTold m es) (sym c.after.ensures.stays) sound.told in
-    let same : a.levels ≡ c.tell_counted.new.self.levels = sym (c.tell_counted.ensures.levels ∙ ap (λ x. x.levels) c.after.ensures.stays) in
+    let same : a.levels ≡ c.tell_counted.new.self.levels = sym c.tell_counted.ensures.levels in
     let found = raised_found es fs place k e clause (c.raise.ensures.entries e) c.requires.place clause_is level_is in
     let above : (get_or es place e).level + 1 < c.tell_counted.new.self.levels = omega (arith, level_is, same, top, c.requires.below) in
     record {
-      told = c.in_ok-tell_counted-in-Held.ensures.told fs (told_within m es fs c.after.new.self c.raise.ensures.within old) (λ s inside. entry_holds fs clause (k + 1) s found inside);
+      told = c.in_ok-tell_counted-in-Held.ensures.told fs (told_within m es fs a c.raise.ensures.within sound.told) (λ s inside. entry_holds fs clause (k + 1) s found inside);
       laws = c.raise.ensures.laws m (bad_literal m 0) k e sound.laws level_is (subst (HoldsAfter m es k) (sym clause_is) after);
       top = omega (arith, top, same, c.raise.ensures.top);
       below = subst (All (λ (x : Entry). x.level < c.tell_counted.new.self.levels)) (sym (c.raise.ensures.entries e))
