@@ -1,3 +1,4 @@
 pub mod Taking
 pub mod LaneLaws
 pub mod WideLaws
+pub mod Refilled

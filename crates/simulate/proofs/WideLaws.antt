@@ -1,17 +1,17 @@
 -- The places of many runs, written one after the other.
-use Rattle.std.proofs.Common.{◌≡◌, ℕ, zero, suc, ◌+◌, ◌%◌, ◌<◌, ◌≢◌, ◌&&◌, ◌==◌, ◌↔◌, IsTrue, Bool, true, false, not, if◌then◌else◌, List, [], length, map, set, get_or, refl, arith, All, AllPairs, ◌∙◌, sym, ap, subst, below_more}
+use Rattle.std.proofs.Common.{◌≡◌, ℕ, zero, suc, ◌+◌, ◌%◌, ◌<◌, ◌≢◌, ◌&&◌, ◌==◌, ◌↔◌, IsTrue, Bool, true, false, not, if◌then◌else◌, List, [], length, map, set, get_or, refl, arith, All, AllPairs, ◌∙◌, sym, ap, subst, replicate}
 use Rattle.std.proofs.lemmas.List.{map-set, get_or-map, length-map, get_or_default}
 use Rattle.graph.specs.declared.circuit.Lit.{Lit}
 use Rattle.graph.specs.declared.circuit.Latch.{Latch}
 use Rattle.graph.specs.declared.circuit.Gate.{Gate}
+use Rattle.graph.specs.declared.parts.Parts.{Parts}
 use Rattle.graph.specs.Valuation.{variable, place, value_of}
 use Rattle.graph.specs.WellFormed.{gate_in, IsOrder}
-use Rattle.graph.proofs.Filled.{Written, Written-more, place-set_same, place-set_other}
+use Rattle.graph.proofs.Filled.{Written, Written-more}
 use Rattle.graph.proofs.Gates.{left, Evaluated, Evaluated-more}
 use Rattle.simulate.specs.Lanes.{value_in, row_of}
 use Rattle.simulate.specs.Starts.{IsFine}
-use Rattle.simulate.specs.Wides.{AreFineAt}
-use Rattle.simulate.proofs.LaneLaws.{four, value_in-zeros}
+use Rattle.simulate.specs.Wides.{AreFineAt, AreDefinedOnly}
 use Rattle.simulate.proofs.Taking.{Taken, Taken-more}
 
 pub place_in : (r : ℕ) (lanes : List (List ℕ)) (v : ℕ) → v < length lanes → place (row_of r lanes) v ≡ value_in (get_or lanes v []) r
@@ -38,12 +38,15 @@ pub fine_from : (latches : List Latch) (values : List (List ℕ)) (n : ℕ) (e :
     AreFineAt latches values n → (r : ℕ) → r < 256 → IsFine (get_or latches n e) (value_in (get_or values n []) r)
 fine_from latches values n e n_in n_value h r r_in = subst (IsFine (get_or latches n e)) (place_in r values n n_value) (h r r_in e)
 
-pub cleared_in : (out : List (List ℕ)) (i : ℕ) → i < length out → ((r v : ℕ) → r < 256 → v < i → place (row_of r out) v ≡ false) →
-    (r v : ℕ) → r < 256 → v < i + 1 → place (row_of r (set out i (four 0))) v ≡ false
-cleared_in out i i_in h r v r_in = below_more (λ q. place (row_of r (set out i (four 0))) q ≡ false) i
-    (λ q q_in. rw (map-set (λ y. value_in y r) out i (four 0)) (place-set_other (row_of r out) q i (value_in (four 0) r) (λ e. omega (arith, e, q_in)) ∙ h r q r_in q_in))
-    (rw (map-set (λ y. value_in y r) out i (four 0)) (place-set_same (row_of r out) i (value_in (four 0) r) (omega (arith, i_in, length-map out (λ y. value_in y r))) ∙ value_in-zeros r r_in))
-    v
+-- one value in each place, which is false in a run
+blank_at : (x : List ℕ) (r n v : ℕ) → value_in x r ≡ false → place (row_of r (replicate n x)) v ≡ false
+blank_at x r zero v off = refl
+blank_at x r (suc n) zero off = off
+blank_at x r (suc n) (suc v) off = blank_at x r n v off
+
+-- where it is false in each run, no place is true
+pub blank_in : (m : Parts) (x : List ℕ) (n : ℕ) → ((r : ℕ) → r < 256 → value_in x r ≡ false) → AreDefinedOnly m (replicate n x)
+blank_in m x n h r v r_in on = let off = blank_at x r n v (h r r_in) in absurd cc
 
 pub written_in : (vars : List ℕ) (values before out : List (List ℕ)) (r n v : ℕ) → n < length vars → n < length values → AllPairs (λ a b. a ≢ b) vars →
     get_or vars n 0 ≡ v → v < length out →

@@ -1,8 +1,8 @@
 -- Replaying 256 runs of a circuit at once, one time after another.
-use Rattle.std.specs.Prelude.{ℕ, ◌<◌, List, length, Option, Some, None}
+use Rattle.std.specs.Prelude.{◌≡◌, ℕ, ◌<◌, true, List, length, Option, Some, None, Contains}
 use Rattle.graph.specs.declared.circuit.Latch.{Latch}
 use Rattle.graph.specs.declared.parts.Parts.{Parts}
-use Rattle.graph.specs.Valuation.{Valuation}
+use Rattle.graph.specs.Valuation.{Valuation, place, defined}
 use Rattle.simulate.specs.declared.replay_error.ReplayError.{ReplayError}
 use Rattle.simulate.specs.declared.replay_error.ReplayError.TheVariants.{InitialReset, OutOfMemory}
 use Rattle.simulate.specs.Lanes.{row_of}
@@ -31,6 +31,10 @@ run_in w r = record { circuit = w.circuit; state = row_of r w.state; now = valua
 -- one time passes in each of the 256 runs
 abbrev pub AllStep : WideReplayed → WideReplayed → List (List ℕ) → Type 0
 AllStep before after inputs = (r : ℕ) → r < 256 → Steps (run_in before r) (run_in after r) (row_of r inputs)
+
+-- what nothing defines is false in each run
+abbrev pub AreDefinedOnly : Parts → List (List ℕ) → Type 0
+AreDefinedOnly m values = (r v : ℕ) → r < 256 → place (row_of r values) v ≡ true → Contains (defined m) v
 
 -- each latch of each run that is reset to 0 or to 1 has that value
 abbrev pub AllStart : List Latch → List (List ℕ) → Type 0

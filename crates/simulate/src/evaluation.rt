@@ -1,10 +1,11 @@
 //! The steps of an evaluation of 256 runs, over plain slices.
 
-ghost use Rattle.std.specs.Prelude.{◌≡◌, ℕ, ◌<◌, ◌+◌, ◌%◌, ◌≢◌, ◌⊎◌, ◌&&◌, length, map, false, All, AllPairs, Contains, slice_index_or};
+ghost use Rattle.std.specs.Prelude.{◌≡◌, ℕ, ◌<◌, ◌+◌, ◌%◌, ◌≢◌, ◌⊎◌, ◌&&◌, length, map, All, AllPairs, Contains, slice_index_or};
 ghost use Rattle.graph.specs.Valuation.{variable, place, value_of, Fires};
 ghost use Rattle.graph.specs.WellFormed.{IsOrder, IsModel};
 ghost use Rattle.simulate.specs.Lanes.{value_in, row_of};
 ghost use Rattle.simulate.specs.Replays.{IsTheValuation};
+ghost use Rattle.simulate.specs.Wides.{AreDefinedOnly};
 
 use crate::lanes::{both, negated_if};
 use graph::{Gate, Latch, Lit, Parts};
@@ -16,15 +17,6 @@ pub fn literal_value(values: &[u64x4], lit: Lit) -> u64x4
     ensures { (r : ℕ) → r < 256 → value_in result r ≡ value_of (row_of r values.now) lit }
 {
     negated_if(values[lit.variable() as usize], lit.is_negated())
-}
-
-/// Makes every place false.
-fn clear(out: &mut [u64x4])
-    ensures { (r v : ℕ) → r < 256 → place (row_of r out.new) v ≡ false }
-{
-    for x in out.iter_mut() {
-        *x = u64x4::splat(0);
-    }
 }
 
 /// Gives the inputs their values.
@@ -79,15 +71,16 @@ fn fill_gates(gates: &[Gate], order: &[u32], out: &mut [u64x4])
     }
 }
 
-/// Fills in, for each run, the one agreeing valuation with its state and inputs.
+/// Fills in, for each run, the one agreeing valuation with its state and inputs. What nothing defines is false before, and stays
+/// so.
 pub fn evaluate(parts: &Parts, order: &[u32], state: &[u64x4], inputs: &[u64x4], out: &mut [u64x4])
     requires model { IsModel parts.now order.now }
     requires state { length state.now ≡ length parts.now.latches }
     requires inputs { length inputs.now ≡ length parts.now.inputs }
     requires places { length out.old ≡ parts.now.max_var + 1 }
+    requires defined_only { AreDefinedOnly parts.now out.old }
     ensures { (r : ℕ) → r < 256 → IsTheValuation parts.now (row_of r state.now) (row_of r inputs.now) (row_of r out.new) }
 {
-    clear(out);
     fill_inputs(parts.inputs.as_slice(), inputs, out);
     fill_latches(parts.latches.as_slice(), state, out);
     fill_gates(parts.gates.as_slice(), order, out);

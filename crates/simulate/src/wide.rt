@@ -22,7 +22,7 @@ pub struct Wide<'a> {
     model: &'a Model,
     // the states of the next time to be stepped
     state: Vec<u64x4>,
-    // the values of the variables at the time stepped last
+    // the values of the variables at the time stepped last, and false before; what nothing defines stays so
     values: Vec<u64x4>,
     // whether there is such a time
     is_stepped: bool,
@@ -30,13 +30,13 @@ pub struct Wide<'a> {
 
 impl<'a> std::marker::Model for Wide<'a> {
     ghost use Rattle.std.specs.Prelude.{◌≡◌, ◌+◌, length, Some, None, if◌then◌else◌};
-    ghost use Rattle.simulate.specs.Wides.{WideReplayed};
+    ghost use Rattle.simulate.specs.Wides.{WideReplayed, AreDefinedOnly};
 
     ghost Value = { WideReplayed };
 
     ghost view = { λ r. record { circuit = r.model.now; state = r.state.items; now = if r.is_stepped then Some r.values.items else None } };
 
-    ghost invariant = { λ r. (length r.state.items ≡ length r.model.now.latches) × (length r.values.items ≡ r.model.now.max_var + 1) };
+    ghost invariant = { λ r. (length r.state.items ≡ length r.model.now.latches) × (length r.values.items ≡ r.model.now.max_var + 1) × AreDefinedOnly r.model.now r.values.items };
 }
 
 impl<'a> Wide<'a> {

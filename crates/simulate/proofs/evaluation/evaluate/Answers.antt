@@ -3,7 +3,8 @@ use Rattle.std.proofs.lemmas.List.{length-map}
 use Rattle.simulate.specs.Lanes.{value_in, row_of}
 use Rattle.graph.specs.Valuation.{variable}
 use Rattle.graph.proofs.Gates.{left}
-use Rattle.graph.proofs.Evaluation.{held, once-left, once-right, alike_same, Filled, Filled-agrees, Filled-state, Filled-inputs, latches_in_range, lefts_in_range, lefts_even, rights0, rights1}
+use Rattle.graph.proofs.Evaluation.{held, once-left, once-right, alike_same, latches_in_range, lefts_in_range, lefts_even, rights0, rights1}
+use Rattle.simulate.proofs.Refilled.{Refilled, Refilled-agrees, Refilled-state, Refilled-inputs}
 use Rattle.simulate.proofs.evaluation.evaluate.Goals as goal
 
 pub fill_inputs-requires-clause-once : goal.fill_inputs-requires-clause-once
@@ -49,9 +50,9 @@ returns c r r_in =
     let out : List Bool = row_of r c.fill_gates.new.out in
     let state_long : length state ≡ length m.latches = length-map c.args.state.now (λ x. value_in x r) ∙ c.requires.state in
     let inputs_long : length inputs ≡ length m.inputs = length-map c.args.inputs.now (λ x. value_in x r) ∙ c.requires.inputs in
-    let filled : Filled m state inputs (row_of r c.clear.new.out) (row_of r c.fill_inputs.new.out) (row_of r c.fill_latches.new.out) out = record {
+    let filled : Refilled m state inputs (row_of r c.args.out.now) (row_of r c.fill_inputs.new.out) (row_of r c.fill_latches.new.out) out = record {
       places = omega (arith, length-map c.fill_gates.new.out (λ x. value_in x r));
-      cleared = λ v. c.clear.ensures r v r_in;
+      defined_only = λ v. c.requires.defined_only r v r_in;
       inputs_written = rw (← c.as_slice.ensures) (c.fill_inputs.ensures.written r);
       inputs_kept = rw (← c.as_slice.ensures) (c.fill_inputs.ensures.kept r);
       latches_written = rw (← c.as_slice-2.ensures) (c.fill_latches.ensures.written r);
@@ -59,9 +60,9 @@ returns c r r_in =
       gates_fire = rw (← c.as_slice-3.ensures) (c.fill_gates.ensures.fires r r_in);
       gates_kept = rw (← c.as_slice-3.ensures) (λ v. c.fill_gates.ensures.kept r v r_in);
     } in
-    let agrees = Filled-agrees m _ _ _ _ _ out well filled in
-    let states = Filled-state m _ _ _ _ _ out well state_long filled in
-    let ins = Filled-inputs m _ _ _ _ _ out well inputs_long filled in
+    let agrees = Refilled-agrees m _ _ _ _ _ out well filled in
+    let states = Refilled-state m _ _ _ _ _ out well state_long filled in
+    let ins = Refilled-inputs m _ _ _ _ _ out well inputs_long filled in
     record {
       agrees = agrees;
       has_state = states;
