@@ -3,18 +3,31 @@
 //! `aigcheck safe FILE CERT` puts `yes safe P` where the certificate CERT shows that no run of the
 //! circuit FILE which keeps the constraints sets the bad literal P at any time, and else `no` with
 //! the number of the refusal. `aigcheck run FILE STIM` puts `yes run P` where the replay of the stimulus
-//! STIM shows that the property P of the circuit is violated, and else `no` with the number. The status
-//! is 0 for yes, 1 for no, and 3 where there is no answer.
+//! STIM shows that the property P of the circuit is violated, and else `no` with the number.
+//!
+//! `aigcheck all FILE DIR` does so for each property P of the circuit, in their order
+//! (`properties::all_properties`), by the files `P.cert` and `P.stim` of the folder DIR: the certificate,
+//! and where there is none that gets a yes, the stimulus. It puts the line of each that it judges, but `no
+//! match P` for a yes to another property than the file's name says, and `no evidence P` where there is
+//! neither; and last how many properties have a yes, and how many not. A FILE that is no circuit gets `no`
+//! with the number alone.
+//!
+//! The status is 0 for yes, of `all` for a yes to each property; 1 for no; and 3 where there is no answer.
 //!
 //! Nothing is decided here: the answers are those of `checker::run_safe` and `checker::run_stimulus`,
 //! whose contracts say what they mean. That the files hold what was read is the premise.
 #![tactic(auto)]
 
+mod folder;
+mod no_answer;
+
 use base::push;
-use checker::{RunError, run_safe, run_stimulus};
+use checker::{run_safe, run_stimulus};
 use clap::error::ErrorKind;
 use clap::{Arg, ArgAction, ArgMatches, Command, Error};
+use folder::all;
 use graph::{FromRead, ToWrite};
+use no_answer::{FAULT, NoAnswer, fault, given};
 use std::alloc::{AllocError, Global};
 use std::fs::File;
 use std::process::ExitCode;
@@ -24,8 +37,6 @@ use std::{env, io};
 const YES: u8 = 0;
 /// The status of a no.
 const NO: u8 = 1;
-/// The status where there is no answer.
-const FAULT: u8 = 3;
 
 /// A file that has to be named.
 fn file<'a>(alloc: Global, name: &'a str, about: &'a str) -> Arg<'a> {
@@ -45,48 +56,21 @@ fn command<'a>(alloc: Global) -> Result<Command<'a>, AllocError> {
         .about("Whether a stimulus shows that a property is violated")
         .arg(file(alloc, "FILE", "The circuit (AIGER 1.9, ASCII or binary)"))?
         .arg(file(alloc, "STIM", "The stimulus"))?;
+    let all = Command::new(alloc, "all")
+        .about("Whether a folder has evidence about each property of a circuit")
+        .arg(file(alloc, "FILE", "The circuit (AIGER 1.9, ASCII or binary)"))?
+        .arg(file(alloc, "DIR", "The folder: b0.cert, b1.stim and so on"))?;
     Command::new(alloc, "aigcheck")
         .about("Checks evidence about AIGER circuits")
         .subcommand_required(true)
         .subcommand(safe)?
-        .subcommand(run)
-}
-
-/// Why there is no answer.
-#[derive(Clone, Copy, Debug)]
-enum NoAnswer {
-    /// There is no memory for the words, or for the system to open a file.
-    Memory,
-    /// The call that was asked gave none.
-    Call(RunError),
-}
-
-impl From<RunError> for NoAnswer {
-    fn from(e: RunError) -> NoAnswer {
-        NoAnswer::Call(e)
-    }
-}
-
-/// Tells a fault, and the status of one.
-fn fault(rt: &HostRuntime, why: NoAnswer) -> ExitCode {
-    let _ = match why {
-        NoAnswer::Memory => eprintln!(rt; "aigcheck: out of memory"),
-        NoAnswer::Call(error) => eprintln!(rt; "aigcheck: {error}"),
-    };
-    ExitCode::from(FAULT)
-}
-
-/// The fault of a file that is not opened.
-fn unopened(error: &io::Error) -> NoAnswer {
-    match error.kind() {
-        io::ErrorKind::OutOfMemory => NoAnswer::Memory,
-        _ => NoAnswer::Call(RunError::Device),
-    }
+        .subcommand(run)?
+        .subcommand(all)
 }
 
 /// Opens the file that a word names.
 fn open(rt: &HostRuntime, words: &ArgMatches<'_>, word: &str) -> Result<File, NoAnswer> {
-    File::open(rt, words.get_str(word).unwrap_or("")).map_err(|e| unopened(&e))
+    given(File::open(rt, words.get_str(word).unwrap_or("")))
 }
 
 /// Opens both files, and then says whether the second shows that the first is safe.
@@ -115,11 +99,19 @@ fn run(rt: &HostRuntime, words: &ArgMatches<'_>) -> Result<bool, NoAnswer> {
     Ok(yes)
 }
 
+/// Whether the evidence in a folder shows each property of the circuit.
+fn each(rt: &HostRuntime, words: &ArgMatches<'_>) -> Result<bool, NoAnswer> {
+    let circuit = words.get_str("FILE").unwrap_or("");
+    let folder = words.get_str("DIR").unwrap_or("");
+    all(rt, circuit, folder)
+}
+
 /// What the words ask for.
 fn answer(rt: &HostRuntime, matches: &ArgMatches<'_>) -> ExitCode {
     let answer = match matches.subcommand() {
         Some(("safe", words)) => safe(rt, words),
         Some(("run", words)) => run(rt, words),
+        Some(("all", words)) => each(rt, words),
         _ => return ExitCode::from(FAULT),
     };
     match answer {

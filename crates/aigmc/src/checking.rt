@@ -1,8 +1,8 @@
-//! The command `check`.
+//! The commands `check` and `all`.
 
 use crate::files::{circuit, keep, print};
-use crate::making::is_same;
-use crate::stop::Stop;
+use crate::making::{expect_folder, is_same};
+use crate::stop::{DONE, Stop};
 use arguments::{EngineKind, Search};
 use base::{boxed, push};
 use bmc::Bmc;
@@ -11,8 +11,12 @@ use cli::{CliError, Verdict, decide, property_named};
 use engine::Engine;
 use graph::{AigerFile, Budget, Property};
 use ic3::Ic3;
+use properties::{Evidence, all_properties, evidence_name};
 use random::Random;
 use std::alloc::Global;
+
+/// The status of a violation.
+const VIOLATED: u8 = 1;
 
 /// Asks the engines for evidence about the property.
 fn ask(
@@ -44,25 +48,13 @@ fn ask(
     Ok(verdict)
 }
 
-/// Keeps a certificate where a file for it is named, and then prints the verdict.
-fn report(
-    rt: &HostRuntime,
-    property: Property,
-    verdict: &Verdict,
-    certificate: Option<&str>,
-) -> Result<u8, Stop> {
-    if let (Verdict::Safe(found), Some(name)) = (verdict, certificate) {
-        keep(rt, name, found)?;
-    }
-    print(rt, property, verdict)
+/// Whether a file for evidence would be the circuit's, or the one that standard output goes to.
+fn is_taken(rt: &HostRuntime, circuit: &str, out: &str) -> bool {
+    is_same(rt, out, circuit) || is_same(rt, out, "/dev/stdout")
 }
 
-/// Whether a certificate's file would be the circuit's, or the one that standard output goes to.
-fn is_taken(rt: &HostRuntime, circuit: &str, certificate: &str) -> bool {
-    is_same(rt, certificate, circuit) || is_same(rt, certificate, "/dev/stdout")
-}
-
-/// Looks for evidence about the property of this name, and reports the verdict.
+/// Looks for evidence about the property of this name, and prints the verdict. A certificate goes to the
+/// file of that name first, where one is named.
 pub fn check(
     rt: &HostRuntime,
     name: &str,
@@ -76,5 +68,63 @@ pub fn check(
     }
     let file = circuit(rt, name)?;
     let verdict = ask(rt.alloc(), &file, property, search)?;
-    report(rt, property, &verdict, certificate)
+    if let (Verdict::Safe(_), Some(out)) = (&verdict, certificate) {
+        keep(rt, out, property, &verdict)?;
+    }
+    print(rt, property, &verdict)
+}
+
+/// Makes the folder's file with the verdict's evidence, where it has some.
+fn keep_in(
+    rt: &HostRuntime,
+    circuit: &str,
+    folder: &str,
+    property: Property,
+    verdict: &Verdict,
+) -> Result<(), Stop> {
+    let evidence = match verdict {
+        Verdict::Safe(_) => Evidence::Certificate,
+        Verdict::Unsafe(_) => Evidence::Stimulus,
+        Verdict::Unknown(_) => return Ok(()),
+    };
+    let Ok(out) = evidence_name(rt.alloc(), folder, property, evidence) else {
+        return Err(Stop::Memory);
+    };
+    if is_taken(rt, circuit, out.as_str()) {
+        return Err(Stop::BadArgument);
+    }
+    keep(rt, out.as_str(), property, verdict)
+}
+
+/// The status of two verdicts: that of a violation, else that of an unknown.
+fn joined(one: u8, other: u8) -> u8 {
+    if one == VIOLATED || other == VIOLATED {
+        VIOLATED
+    } else {
+        one.max(other)
+    }
+}
+
+/// Looks for evidence about each property of the circuit in turn, and prints each verdict as it comes.
+/// Evidence goes to the folder of that name first, where one is named.
+pub fn check_all(
+    rt: &HostRuntime,
+    name: &str,
+    folder: Option<&str>,
+    search: Search,
+) -> Result<u8, Stop> {
+    if let Some(folder) = folder {
+        expect_folder(rt, folder)?;
+    }
+    let file = circuit(rt, name)?;
+    let properties = all_properties(rt.alloc(), file.model()).map_err(CliError::from)?;
+    let mut status = DONE;
+    for property in properties {
+        let verdict = ask(rt.alloc(), &file, property, search)?;
+        if let Some(folder) = folder {
+            keep_in(rt, name, folder, property, &verdict)?;
+        }
+        status = joined(status, print(rt, property, &verdict)?);
+    }
+    Ok(status)
 }

@@ -3,7 +3,6 @@
 use crate::making::Making;
 use crate::stop::{Stop, finished};
 use base::buffered;
-use certificate::Certificate;
 use cli::{
     CliError, Layout, Verdict, load, load_stimulus, put_certificate, put_file, put_table, show,
 };
@@ -47,18 +46,32 @@ pub fn make(rt: &HostRuntime, name: &str, file: &AigerFile, layout: Layout) -> R
     making.end(rt, written)
 }
 
-/// Writes the certificate's text to the file.
-fn write_certificate(rt: &HostRuntime, out: File, certificate: &Certificate) -> Result<(), Stop> {
+/// Writes a verdict's evidence to the file: the certificate, or what is printed.
+fn write_evidence(
+    rt: &HostRuntime,
+    out: File,
+    property: Property,
+    verdict: &Verdict,
+) -> Result<(), Stop> {
     let out = buffered(rt.alloc(), out)?;
     let mut out = ToWrite::new(out);
-    put_certificate(certificate, &mut out).map_err(CliError::from)?;
+    if let Verdict::Safe(certificate) = verdict {
+        put_certificate(certificate, &mut out).map_err(CliError::from)?;
+    } else {
+        show(property, verdict, &mut out).map_err(CliError::from)?;
+    }
     finished(out.into_inner().flush())
 }
 
-/// Makes the file of this name with the certificate's text.
-pub fn keep(rt: &HostRuntime, name: &str, certificate: &Certificate) -> Result<(), Stop> {
+/// Makes the file of this name with a verdict's evidence.
+pub fn keep(
+    rt: &HostRuntime,
+    name: &str,
+    property: Property,
+    verdict: &Verdict,
+) -> Result<(), Stop> {
     let (making, out) = Making::begin(rt, name)?;
-    let written = write_certificate(rt, out, certificate);
+    let written = write_evidence(rt, out, property, verdict);
     making.end(rt, written)
 }
 

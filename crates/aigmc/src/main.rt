@@ -10,15 +10,23 @@
 //! constraints nor the property.
 //!
 //! `aigmc check FILE -p P` looks for evidence about the property P of the circuit FILE (`b0` for the first
-//! bad literal), and prints what it found as a stimulus: `1`, P and a run that violates it, `0` and P where
-//! it holds, or `2` and P where nothing is known. `--engine` says what looks: `bmc`, bounded search through
-//! runs of at most `--depth` steps; `ic3`; `all`, the one and then the other, which is the default; or
-//! `random`, random simulation from `--seed`. `--budget` is how many steps the search may cost. With `--cert
-//! OUT` the certificate of a property that holds is written to OUT before anything is printed; OUT may name neither the
-//! circuit's file nor the file that standard output goes to. What is said is `cli::decide`'s.
+//! bad literal, `j0` for the first justice property, `o0` for the first output of a circuit without bad
+//! literals, constraints, justice properties and fairness literals), and prints what it found as a stimulus:
+//! `1`, P and a run that violates it, `0` and P where it holds, or `2` and P where nothing is known.
+//! `--engine` says what looks: `bmc`, bounded search through runs of at most `--depth` steps; `ic3`; `all`,
+//! the one and then the other, which is the default; or `random`, random simulation from `--seed`.
+//! `--budget` is how many steps the search may cost. With `--cert OUT` the certificate of a property that
+//! holds is written to OUT before anything is printed; OUT may name neither the circuit's file nor the file
+//! that standard output goes to. What is said is `cli::decide`'s.
 //!
-//! The status of `check` is 0 where the property holds, 1 for a violation and 2 where nothing is known. Else
-//! the status is 0, and 3 where the command failed.
+//! `aigmc all FILE` does the same for all properties of the circuit, in their order
+//! (`properties::all_properties`), and prints one stimulus after the other. The budget is for each. With
+//! `--out DIR` the evidence about each is written to the folder DIR before its verdict is printed: a
+//! certificate to `P.cert`, a stimulus to `P.stim`.
+//!
+//! The status of `check` is 0 where the property holds, 1 for a violation and 2 where nothing is known. That
+//! of `all` is 1 where a property is violated, else 2 where nothing is known of one, and else 0. Else the
+//! status is 0, and 3 where the command failed.
 #![tactic(auto)]
 
 mod checking;
@@ -28,7 +36,7 @@ mod stop;
 
 use arguments::{Request, Wrong, parse};
 use base::push;
-use checking::check;
+use checking::{check, check_all};
 use cli::{CliError, Layout, ready};
 use files::{circuit, make, print_table, stimulus_of};
 use graph::AigerFile;
@@ -75,6 +83,14 @@ fn done(rt: &HostRuntime, request: &Request) -> Result<u8, Stop> {
         } => {
             let certificate = certificate.as_ref().map(|name| name.as_str());
             check(rt, file.as_str(), property.as_str(), certificate, *search)
+        }
+        Request::All {
+            file,
+            folder,
+            search,
+        } => {
+            let folder = folder.as_ref().map(|name| name.as_str());
+            check_all(rt, file.as_str(), folder, *search)
         }
     }
 }

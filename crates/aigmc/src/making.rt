@@ -39,6 +39,14 @@ pub fn is_same(rt: &HostRuntime, one: &str, other: &str) -> bool {
     }
 }
 
+/// Refuses a name that is of no folder.
+pub fn expect_folder(rt: &HostRuntime, name: &str) -> Result<(), Stop> {
+    if finished(fs::metadata(rt, name))?.is_dir() {
+        return Ok(());
+    }
+    Err(Stop::Refused(CliError::Device))
+}
+
 impl<'a> Making<'a> {
     /// The file to write to. It is a new one, but for a device or a pipe.
     pub fn begin(rt: &HostRuntime, name: &'a str) -> Result<(Making<'a>, File), Stop> {

@@ -22,12 +22,12 @@ fn option<'a>(alloc: Global, name: &'a str, about: &'a str, value: &'a str) -> A
         .default_value(value)
 }
 
-/// The words of `check` that say how the search is to go.
-fn with_search<'a>(alloc: Global, check: Command<'a>) -> Result<Command<'a>, AllocError> {
+/// A command with the options that say how a search is to go.
+fn with_search<'a>(alloc: Global, command: Command<'a>) -> Result<Command<'a>, AllocError> {
     let budget = option(
         alloc,
         "budget",
-        "How many steps the search may cost",
+        "How many steps the search for a property may cost",
         "10000000",
     )
     .value_name("N")
@@ -41,13 +41,13 @@ fn with_search<'a>(alloc: Global, check: Command<'a>) -> Result<Command<'a>, All
     let seed = option(alloc, "seed", "Where the random engine begins", "0")
         .value_name("S")
         .value_parser(value_parser!(u64));
-    check.arg(budget)?.arg(depth)?.arg(engine)?.arg(seed)
+    command.arg(budget)?.arg(depth)?.arg(engine)?.arg(seed)
 }
 
 /// The words of `check`.
 fn check_command<'a>(alloc: Global) -> Result<Command<'a>, AllocError> {
     let property = Arg::new(alloc, "property")
-        .help("The property: b or j and its position")
+        .help("The property: b, j or o and its position")
         .short('p')
         .value_name("P")
         .required(true)
@@ -63,6 +63,20 @@ fn check_command<'a>(alloc: Global) -> Result<Command<'a>, AllocError> {
         .arg(property)?
         .arg(certificate)?;
     with_search(alloc, check)
+}
+
+/// The words of `all`.
+fn all_command<'a>(alloc: Global) -> Result<Command<'a>, AllocError> {
+    let folder = Arg::new(alloc, "out")
+        .help("The folder for the evidence, which is there: b0.cert, b1.stim and so on")
+        .long("out")
+        .value_name("DIR")
+        .action(ArgAction::Set);
+    let all = Command::new(alloc, "all")
+        .about("Looks for evidence about all properties of a circuit, one after the other")
+        .arg(file(alloc, "FILE", "The circuit (AIGER 1.9, ASCII or binary)"))?
+        .arg(folder)?;
+    with_search(alloc, all)
 }
 
 /// A command over a circuit and one more file.
@@ -97,6 +111,7 @@ pub fn command<'a>(alloc: Global) -> Result<Command<'a>, AllocError> {
         .about("Looks for evidence about AIGER circuits")
         .subcommand_required(true)
         .subcommand(check_command(alloc)?)?
+        .subcommand(all_command(alloc)?)?
         .subcommand(convert)?
         .subcommand(sim)
 }

@@ -37,7 +37,7 @@ pub struct Search {
     pub engine: EngineKind,
     /// how many steps a run may have that bounded search or random simulation looks at
     pub depth: u8,
-    /// how many steps the search may cost
+    /// how many steps the search for a property may cost
     pub budget: u64,
     /// where random simulation begins
     pub seed: u64,
@@ -71,6 +71,15 @@ pub enum Request {
         /// how the search is to go
         search: Search,
     },
+    /// Look for evidence about all properties.
+    All {
+        /// the circuit's file
+        file: String,
+        /// the folder for the evidence, where one is named
+        folder: Option<String>,
+        /// how the search is to go
+        search: Search,
+    },
 }
 
 /// The engine that the words name.
@@ -101,16 +110,29 @@ fn word(alloc: Global, words: &ArgMatches<'_>, name: &str) -> Result<String, All
     String::from_str(alloc, words.get_str(name).unwrap_or(""))
 }
 
+/// The word given for an argument, where there is one.
+fn given(alloc: Global, words: &ArgMatches<'_>, name: &str) -> Result<Option<String>, AllocError> {
+    match words.get_str(name) {
+        Some(word) => Ok(Some(String::from_str(alloc, word)?)),
+        None => Ok(None),
+    }
+}
+
 /// What `check` asks for.
 fn asked_check(alloc: Global, words: &ArgMatches<'_>) -> Result<Request, AllocError> {
-    let certificate = match words.get_str("cert") {
-        Some(name) => Some(String::from_str(alloc, name)?),
-        None => None,
-    };
     Ok(Request::Check {
         file: word(alloc, words, "FILE")?,
         property: word(alloc, words, "property")?,
-        certificate,
+        certificate: given(alloc, words, "cert")?,
+        search: asked_search(words),
+    })
+}
+
+/// What `all` asks for.
+fn asked_all(alloc: Global, words: &ArgMatches<'_>) -> Result<Request, AllocError> {
+    Ok(Request::All {
+        file: word(alloc, words, "FILE")?,
+        folder: given(alloc, words, "out")?,
         search: asked_search(words),
     })
 }
@@ -137,6 +159,7 @@ pub fn parse(alloc: Global, words: &[String]) -> Result<Option<Request>, Wrong> 
     let matches = command(alloc)?.try_get_matches_from(words)?;
     let request = match matches.subcommand() {
         Some(("check", words)) => asked_check(alloc, words)?,
+        Some(("all", words)) => asked_all(alloc, words)?,
         Some(("convert", words)) => asked_convert(alloc, words)?,
         Some(("sim", words)) => asked_sim(alloc, words)?,
         _ => return Ok(None),

@@ -21,6 +21,7 @@ use Rattle.cnf.proofs.Formed.{literal_from, allows_to, bad_known}
 use Rattle.cnf.proofs.Laid.{Lies, laid_lies}
 use Rattle.cnf.proofs.RunLaw.{unroll_law}
 use Rattle.solver.specs.Answers.{IsCore}
+use Rattle.graph.specs.declared.circuit.Property.TheVariants.{Bad}
 use Rattle.engine.specs.Bounds.{IsUnsetFor}
 use Rattle.engine.specs.Findings.{IsForBad}
 use Rattle.bmc.specs.Depths.{IsUnsetAfter, clauses_before}
@@ -42,11 +43,11 @@ named_first : (xs : List Lit) (a d : Lit) → slice_get xs 0 ≡ Some a → get_
 named_first [] a d e = cc
 named_first (x ∷ xs) a d e = cc
 
-pub unset_none : (m : Parts) → IsUnsetFor m 0 0
+pub unset_none : (m : Parts) → IsUnsetFor m (Bad 0) 0
 unset_none m r a run keeps short exists i d i_in = absurd (omega (arith, short, i_in))
 
 -- one number of steps more
-pub unset_more : (m : Parts) (k : ℕ) → IsUnsetFor m 0 k → IsUnsetAfter m k → IsUnsetFor m 0 (k + 1)
+pub unset_more : (m : Parts) (k : ℕ) → IsUnsetFor m (Bad 0) k → IsUnsetAfter m k → IsUnsetFor m (Bad 0) (k + 1)
 unset_more m k before here r a run keeps short exists i d i_in = elim (cases_lt i k) [
   | inl below ↦
       let first : List (List Bool) = take (i + 1) r in

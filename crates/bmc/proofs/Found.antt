@@ -127,11 +127,9 @@ run_shown m b k vars well for_bad model =
     let first : 0 * (m.max_var + 1) ≡ 0 = omega arith in
     let begins : state_of m (valuation_at m b (0 * (m.max_var + 1))) ≡ state_at m b 0 = rw first (state_same m b 0 well) in
     record {
-      position = 0;
       bad = bad_literal m 0;
       replay = r;
-      names = refl;
-      exists = slice_get-get_or m.bad 0 (record { 0 = 0 }) some;
+      watched = slice_get-get_or m.bad 0 (record { 0 = 0 }) some;
       replays = record {
         agrees = is.runs.agrees;
         begins = begins;

@@ -63,8 +63,8 @@ pub held_empty : (m : Parts) (steps : ℕ) (table : List (Option ℤ)) → table
 held_empty m steps table is x k at = absurd (none_some k (sym (ap (λ h. slice_index_or h x None) is) ∙ at))
 
 -- what ends the search at so many steps is the shortest, where nothing less ended it
-pub ends_shortest : (m : Parts) (steps : ℕ) (after : Steps) (f : Finding) → EndsAt m steps after f → IsUnsetFor m 0 steps → IsShortest m f
-ends_shortest m steps after (Run initial inputs) ends unset = let last : steps ≡ length inputs - 1 = omega (arith, ends.1) in subst (IsUnsetFor m 0) last unset
+pub ends_shortest : (m : Parts) (steps : ℕ) (after : Steps) (f : Finding) → EndsAt m steps after f → IsUnsetFor m (Bad 0) steps → IsShortest m f
+ends_shortest m steps after (Run initial inputs) ends unset = let last : steps ≡ length inputs - 1 = omega (arith, ends.1) in subst (IsUnsetFor m (Bad 0)) last unset
 ends_shortest m steps after (Invariant inv) ends unset = tt
 ends_shortest m steps after (Unknown reason) ends unset = tt
 

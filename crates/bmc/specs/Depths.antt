@@ -18,7 +18,7 @@ use Rattle.bmc.specs.declared.planned.Reached.TheVariants.{Nothing, Ends, Unclea
 
 -- no run of fewer times than the one found that keeps the constraints sets the bad literal
 abbrev pub IsShortest : Parts → Finding → Type 0
-IsShortest m (Run initial inputs) = IsUnsetFor m 0 (length inputs - 1)
+IsShortest m (Run initial inputs) = IsUnsetFor m (Bad 0) (length inputs - 1)
 IsShortest m (Invariant inv) = Unit {0}
 IsShortest m (Unknown reason) = Unit {0}
 

@@ -15,8 +15,8 @@ use Rattle.scan.proofs.WordLaws.{reads_number, field_reads}
 use Rattle.graph.specs.Properties.{position_of, property_text}
 use Rattle.graph.specs.declared.circuit.Lit.{Lit}
 use Rattle.graph.specs.declared.circuit.Property.{Property}
-use Rattle.graph.specs.declared.circuit.Property.TheVariants.{Bad, Justice}
-use Rattle.certificate.specs.Reading.{greatest, bad_at, justice_at, property_at, spaced_at, literals_at, clause_at}
+use Rattle.graph.specs.declared.circuit.Property.TheVariants.{Bad, Justice, Output}
+use Rattle.certificate.specs.Reading.{greatest, bad_at, justice_at, output_at, property_at, spaced_at, literals_at, clause_at}
 use Rattle.certificate.specs.Texts.{clause_line}
 
 -- ---- the property
@@ -28,24 +28,38 @@ IsPropertyLine t p = (t ≡ property_text p ++ codes "\n") × (position_of p < 4
 abbrev OfPosition : (ℕ → Property) → List ℕ → Property → Type 0
 OfPosition make = Then (IsField 4294967295 any 10) (λ n. Nothing {A = Property} (make n))
 
+-- no bad literal
+abbrev OfOther : List ℕ → Property → Type 0
+OfOther t p = After (106 ∷ []) (OfPosition Justice) t p ⊎ After (111 ∷ []) (OfPosition Output) t p
+
 abbrev OfProperty : List ℕ → Property → Type 0
-OfProperty t p = After (98 ∷ []) (OfPosition Bad) t p ⊎ After (106 ∷ []) (OfPosition Justice) t p
+OfProperty t p = After (98 ∷ []) (OfPosition Bad) t p ⊎ OfOther t p
 
 bad_reads : Reads bad_at (OfPosition Bad)
 unfolding bad_at
 bad_reads = reads_then (field_reads 4294967295 any 10 (omega arith) refl) (λ n. reads_nothing {A = Property} (Bad n))
 
-justice_reads : Reads justice_at (After (106 ∷ []) (OfPosition Justice))
+justice_reads : Reads justice_at (OfPosition Justice)
 unfolding justice_at
-justice_reads = reads_after (skips_byte 106) (reads_then (field_reads 4294967295 any 10 (omega arith) refl) (λ n. reads_nothing {A = Property} (Justice n)))
+justice_reads = reads_then (field_reads 4294967295 any 10 (omega arith) refl) (λ n. reads_nothing {A = Property} (Justice n))
 
-justice_begins : NeverBegins 98 (After (106 ∷ []) (OfPosition Justice))
-justice_begins t p rest (a, one, whole) = rw whole refl
+output_reads : Reads output_at (After (111 ∷ []) (OfPosition Output))
+unfolding output_at
+output_reads = reads_after (skips_byte 111) (reads_then (field_reads 4294967295 any 10 (omega arith) refl) (λ n. reads_nothing {A = Property} (Output n)))
+
+output_begins : NeverBegins 106 (After (111 ∷ []) (OfPosition Output))
+output_begins t p rest (a, one, whole) = rw whole refl
+
+other_begins : NeverBegins 98 OfOther
+other_begins t p rest (inl (a, one, whole)) = rw whole refl
+other_begins t p rest (inr (a, one, whole)) = rw whole refl
 
 property_to : (t : List ℕ) (p : Property) → OfProperty t p → IsPropertyLine t p
 property_to t p (inl (a, (n, b, c, field, last, p2), p1)) =
     rw last.1 (rw (p1, p2, field.spells, last.0) (simp append-nil), omega (arith, field.within))
-property_to t p (inr (a, (n, b, c, field, last, p2), p1)) =
+property_to t p (inr (inl (a, (n, b, c, field, last, p2), p1))) =
+    rw last.1 (rw (p1, p2, field.spells, last.0) (simp append-nil), omega (arith, field.within))
+property_to t p (inr (inr (a, (n, b, c, field, last, p2), p1))) =
     rw last.1 (rw (p1, p2, field.spells, last.0) (simp append-nil), omega (arith, field.within))
 
 position_of_line : (make : ℕ → Property) (n : ℕ) → n < 4294967296 → OfPosition make (decimal n ++ 10 ∷ []) (make n)
@@ -54,11 +68,12 @@ position_of_line make n lt =
 
 property_from : (t : List ℕ) (p : Property) → IsPropertyLine t p → OfProperty t p
 property_from t (Bad n) r = inl (decimal n ++ 10 ∷ [], position_of_line Bad n r.1, r.0)
-property_from t (Justice n) r = inr (decimal n ++ 10 ∷ [], position_of_line Justice n r.1, r.0)
+property_from t (Justice n) r = inr (inl (decimal n ++ 10 ∷ [], position_of_line Justice n r.1, r.0))
+property_from t (Output n) r = inr (inr (decimal n ++ 10 ∷ [], position_of_line Output n r.1, r.0))
 
 pub property_reads : Reads property_at IsPropertyLine
 unfolding property_at
-property_reads = reads_as IsPropertyLine (reads_choice 98 bad_reads justice_reads justice_begins) property_to property_from
+property_reads = reads_as IsPropertyLine (reads_choice 98 bad_reads (reads_choice 106 justice_reads output_reads output_begins) other_begins) property_to property_from
 
 -- ---- clauses
 

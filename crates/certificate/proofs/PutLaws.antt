@@ -5,7 +5,7 @@ use Rattle.base.specs.Devices.{PutsBeginning}
 use Rattle.graph.specs.Properties.{position_of, property_text}
 use Rattle.graph.specs.declared.circuit.Lit.{Lit}
 use Rattle.graph.specs.declared.circuit.Property.{Property}
-use Rattle.graph.specs.declared.circuit.Property.TheVariants.{Bad, Justice}
+use Rattle.graph.specs.declared.circuit.Property.TheVariants.{Bad, Justice, Output}
 use Rattle.lrat.specs.declared.line.Line.{Line}
 use Rattle.lrat.proofs.PutLaws.{begins_more, puts_err}
 use Rattle.lrat.specs.Texts.{Puts}
@@ -24,6 +24,7 @@ puts_as r a b s t e p = subst (Puts r a b) e p
 pub property_parts : (p : Property) → (letter_of p ∷ []) ++ (decimal (position_of p) ++ codes "\n") ≡ property_text p ++ codes "\n"
 property_parts (Bad n) = refl
 property_parts (Justice n) = refl
+property_parts (Output n) = refl
 
 pub clause_parts : (c : List Lit) → decimal (length c) ++ (flat_map literal_text c ++ codes "\n") ≡ clause_line c
 clause_parts c = sym (append_assoc (decimal (length c)) (flat_map literal_text c) (codes "\n"))

@@ -7,7 +7,7 @@ use Rattle.scan.specs.Words.{any, field_at}
 use Rattle.scan.specs.Lists.{many_at, items_at}
 use Rattle.graph.specs.declared.circuit.Lit.{Lit}
 use Rattle.graph.specs.declared.circuit.Property.{Property}
-use Rattle.graph.specs.declared.circuit.Property.TheVariants.{Bad, Justice}
+use Rattle.graph.specs.declared.circuit.Property.TheVariants.{Bad, Justice, Output}
 use Rattle.lrat.specs.declared.line.Line.{Line}
 use Rattle.lrat.specs.Reading.{line_at}
 use Rattle.certificate.specs.declared.certificate.Certificate.{Certificate}
@@ -16,7 +16,7 @@ use Rattle.certificate.specs.declared.certificate.Certificate.{Certificate}
 abbrev pub greatest : ℕ
 greatest = 4194303
 
--- the position of a bad literal, and of a justice property
+-- the position of a bad literal, of a justice property, and the letter and the position of an output
 unfoldable pub bad_at : List ℕ → Read Property
 bad_at bytes = do
   n ← field_at 4294967295 any 10 bytes
@@ -24,13 +24,18 @@ bad_at bytes = do
 
 unfoldable pub justice_at : List ℕ → Read Property
 justice_at bytes = do
-  rest ← byte_at 106 bytes
-  n ← field_at 4294967295 any 10 rest
+  n ← field_at 4294967295 any 10 bytes
   Some (Justice n.0, n.1)
+
+unfoldable pub output_at : List ℕ → Read Property
+output_at bytes = do
+  rest ← byte_at 111 bytes
+  n ← field_at 4294967295 any 10 rest
+  Some (Output n.0, n.1)
 
 -- the property's line
 unfoldable pub property_at : List ℕ → Read Property
-property_at bytes = choice_at 98 bad_at justice_at bytes
+property_at bytes = choice_at 98 bad_at (choice_at 106 justice_at output_at) bytes
 
 -- a space and a literal
 unfoldable pub spaced_at : List ℕ → Read Lit

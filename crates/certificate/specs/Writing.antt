@@ -2,7 +2,7 @@
 use Rattle.std.specs.Prelude.{◌≡◌, ◌≢◌, ℕ, ◌+◌, ◌*◌, List, ◌++◌, length, flat_map, codes, decimal}
 use Rattle.graph.specs.declared.circuit.Lit.{Lit}
 use Rattle.graph.specs.declared.circuit.Property.{Property}
-use Rattle.graph.specs.declared.circuit.Property.TheVariants.{Bad, Justice}
+use Rattle.graph.specs.declared.circuit.Property.TheVariants.{Bad, Justice, Output}
 use Rattle.graph.specs.Properties.{property_text}
 use Rattle.certificate.specs.declared.certificate.Certificate.{Certificate}
 use Rattle.certificate.specs.declared.cert_write_error.CertWriteError.{CertWriteError}
@@ -19,6 +19,7 @@ SpelledByNone c Device = ⊥
 abbrev pub letter_of : Property → ℕ
 letter_of (Bad n) = 98
 letter_of (Justice n) = 106
+letter_of (Output n) = 111
 
 -- a space and a literal
 abbrev pub literal_text : Lit → List ℕ

@@ -12,7 +12,7 @@ use std::alloc::Global;
 pub const GREATEST: u32 = 4_194_303;
 
 /// The property that the second line names, and what follows that line.
-#[tactic(auto, unfolding(crate::specs::Reading::property_at, crate::specs::Reading::bad_at, crate::specs::Reading::justice_at))]
+#[tactic(auto, unfolding(crate::specs::Reading::property_at, crate::specs::Reading::bad_at, crate::specs::Reading::justice_at, crate::specs::Reading::output_at))]
 pub fn property(text: &[u8]) -> Result<(Property, &[u8]), Fault<Refusal>>
     ensures { Gives (λ x. (x.0, x.1.now)) result (property_at text.now) }
 {
@@ -21,10 +21,14 @@ pub fn property(text: &[u8]) -> Result<(Property, &[u8]), Fault<Refusal>>
             let (position, rest) = field(behind, u32::MAX, b'\n', IN_PROPERTY)?;
             Ok((Property::Bad(position), rest))
         }
-        _ => {
-            let behind = byte(text, b'j', IN_PROPERTY)?;
+        [b'j', behind @ ..] => {
             let (position, rest) = field(behind, u32::MAX, b'\n', IN_PROPERTY)?;
             Ok((Property::Justice(position), rest))
+        }
+        _ => {
+            let behind = byte(text, b'o', IN_PROPERTY)?;
+            let (position, rest) = field(behind, u32::MAX, b'\n', IN_PROPERTY)?;
+            Ok((Property::Output(position), rest))
         }
     }
 }

@@ -27,7 +27,9 @@ pub fn position(property: Property) -> u32
     ensures { result ≡ position_of property }
 {
     match property {
-        Property::Bad(position) | Property::Justice(position) => position,
+        Property::Bad(position) | Property::Justice(position) | Property::Output(position) => {
+            position
+        }
     }
 }
 

@@ -35,6 +35,7 @@ fn letter(property: Property) -> u8
     match property {
         Property::Bad(_) => b'b',
         Property::Justice(_) => b'j',
+        Property::Output(_) => b'o',
     }
 }
 

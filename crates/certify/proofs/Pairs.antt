@@ -6,7 +6,7 @@ use Rattle.graph.specs.declared.parts.Parts.{Parts}
 use Rattle.lrat.specs.declared.formula.Formula.{Formula}
 use Rattle.lrat.specs.declared.line.Line.{Line}
 use Rattle.certificate.specs.declared.certificate.Certificate.{Certificate}
-use Rattle.cnf.specs.Formulas.{init_formula, step_formula, bad_formula, bad_literal}
+use Rattle.cnf.specs.Formulas.{init_formula, step_formula, bad_formula}
 use Rattle.checker.specs.Accepted.{cases, IsAcceptedFor, IsGood, IsProofOf, RefuteBelow}
 use Rattle.checker.proofs.Accepted.{IsOpened, accepted_from}
 use Rattle.checker.proofs.InOrder.{refute_more}
@@ -51,14 +51,13 @@ count_of_cases m inv a =
     )
 
 -- proofs of all cases make a certificate that is accepted
-pub accepted : (m : Parts) (c : Certificate) (n : ℕ) (inv : List (List Lit)) → n < length m.bad → c.invariant ≡ inv → length inv ≤ 4194303 →
-    All (IsGood m) inv → AreProofs (cases m inv (bad_literal m n)) c.sections → IsAcceptedFor m n c
-accepted m c n inv exists is_inv few good are =
-    let opened : IsOpened m c n inv c.sections = record {
+pub accepted : (m : Parts) (c : Certificate) (a : Lit) (inv : List (List Lit)) → c.invariant ≡ inv → length inv ≤ 4194303 → All (IsGood m) inv → AreProofs (cases m inv a) c.sections →
+    IsAcceptedFor m a c
+accepted m c a inv is_inv few good are =
+    let opened : IsOpened c inv c.sections = record {
       is_inv = sym is_inv;
       is_ps = refl;
-      exists = exists;
       few = few;
-      count = are.count ∙ count_of_cases m inv (bad_literal m n);
+      count = are.count ∙ count_of_cases m inv a;
     } in
-    accepted_from m c n inv c.sections opened good are.each
+    accepted_from m c a inv c.sections opened good are.each

@@ -4,7 +4,6 @@ use Rattle.base.specs.Budget.{Steps}
 use Rattle.graph.specs.declared.circuit.Lit.{Lit}
 use Rattle.graph.specs.declared.circuit.Property.{Property}
 use Rattle.graph.specs.declared.parts.Parts.{Parts}
-use Rattle.cnf.specs.Formulas.{bad_literal}
 use Rattle.cnf.specs.Invariants.{IsInductive}
 use Rattle.certificate.specs.declared.certificate.Certificate.{Certificate}
 use Rattle.checker.specs.Accepted.{circuit_of, bad_of, IsShowable, IsAcceptedFor, IsAcceptedCertificate}
@@ -16,24 +15,26 @@ use Rattle.certify.specs.declared.certify_error.CertifyError.{CertifyError}
 use Rattle.certify.specs.declared.certify_error.CertifyError.TheVariants.{NoProperty, Limit, NotLatch, Repeated, OutOfMemory}
 use Rattle.certify.proofs.Stopped.{not_inductive}
 
-accepted_named : (m : Parts) (p : Property) (c : Certificate) → c.property ≡ p → IsShowable m p → IsAcceptedFor (circuit_of m p) (bad_of p) c → IsAcceptedCertificate m c
+accepted_named : (m : Parts) (p : Property) (c : Certificate) → c.property ≡ p → IsShowable m p → IsAcceptedFor (circuit_of m p) (bad_of m p) c → IsAcceptedCertificate m c
 accepted_named m p c is showable accepted =
     let named : p ≡ c.property = sym is in
     record {
       showable = subst (IsShowable m) named showable;
-      accepted = subst (λ (r : Property). IsAcceptedFor (circuit_of m r) (bad_of r) c) named accepted;
+      accepted = subst (λ (r : Property). IsAcceptedFor (circuit_of m r) (bad_of m r) c) named accepted;
     }
 
 certified_of : (m : Parts) (p : Property) (inv : List (List Lit)) (after : Steps) (r : Certified) → IsShowable m p →
-    IsCertifiedFor (circuit_of m p) (bad_of p) p inv after r → IsCertified m p inv after r
+    IsCertifiedFor (circuit_of m p) (bad_of m p) p inv after r → IsCertified m p inv after r
 certified_of m p inv after (outcome.Certificate c) showable is = (is.0, is.1, accepted_named m p c is.0 showable is.2)
 certified_of m p inv after outcome.NotInvariant showable is = is
 certified_of m p inv after outcome.Spent showable is = is
 
-pub certified : (m : Parts) (p : Property) (inv : List (List Lit)) (after : Steps) (r : Result Certified CertifyError) → IsShowable m p →
-    IfOk r (IsCertifiedFor (circuit_of m p) (bad_of p) p inv after) → IfOk r (IsCertified m p inv after)
-certified m p inv after (Ok r) showable is = certified_of m p inv after r showable is
-certified m p inv after (Err e) showable is = tt
+pub certified : (m s : Parts) (p : Property) (a : Lit) (inv : List (List Lit)) (after : Steps) (r : Result Certified CertifyError) → IsShowable m p → s ≡ circuit_of m p → a ≡ bad_of m p →
+    IfOk r (IsCertifiedFor s a p inv after) → IfOk r (IsCertified m p inv after)
+certified m s p a inv after (Ok r) showable circuit literal is =
+    certified_of m p inv after r showable
+    (subst (λ (b : Lit). IsCertifiedFor (circuit_of m p) b p inv after r) literal (subst (λ (t : Parts). IsCertifiedFor t a p inv after r) circuit is))
+certified m s p a inv after (Err e) showable circuit literal is = tt
 
 cause_of : (m : Parts) (p : Property) (inv : List (List Lit)) (e : CertifyError) → IsShowable m p → HasCauseFor (circuit_of m p) inv e → HasCause m p inv e
 cause_of m p inv (NoProperty n) showable cause = absurd cause
@@ -42,18 +43,18 @@ cause_of m p inv (NotLatch k) showable cause = (showable, cause)
 cause_of m p inv (Repeated k) showable cause = (showable, cause)
 cause_of m p inv (OutOfMemory refused) showable cause = showable.exists
 
-pub refused : (m : Parts) (p : Property) (inv : List (List Lit)) (r : Result Certified CertifyError) → IsShowable m p →
-    IfErr r (HasCauseFor (circuit_of m p) inv) → IfErr r (HasCause m p inv)
-refused m p inv (Ok r) showable cause = tt
-refused m p inv (Err e) showable cause = cause_of m p inv e showable cause
+pub refused : (m s : Parts) (p : Property) (inv : List (List Lit)) (r : Result Certified CertifyError) → IsShowable m p → s ≡ circuit_of m p →
+    IfErr r (HasCauseFor s inv) → IfErr r (HasCause m p inv)
+refused m s p inv (Ok r) showable circuit cause = tt
+refused m s p inv (Err e) showable circuit cause = cause_of m p inv e showable (subst (λ (t : Parts). HasCauseFor t inv e) circuit cause)
 
 honest_of : (m : Parts) (p : Property) (inv : List (List Lit)) (after : Steps) (r : Certified) → IsCertified m p inv after r → r ≡ outcome.NotInvariant →
-    IsInductive (circuit_of m p) inv (bad_literal (circuit_of m p) (bad_of p)) → ⊥
+    IsInductive (circuit_of m p) inv (bad_of m p) → ⊥
 honest_of m p inv after r is named inductive =
-    not_inductive (circuit_of m p) inv (bad_literal (circuit_of m p) (bad_of p)) (subst (IsCertified m p inv after) named is) inductive
+    not_inductive (circuit_of m p) inv (bad_of m p) (subst (IsCertified m p inv after) named is) inductive
 
 -- an invariant is never called none
 pub honest : (m : Parts) (p : Property) (inv : List (List Lit)) (after : Steps) (r : Result Certified CertifyError) → IfOk r (IsCertified m p inv after) →
-    IfOk r (λ x. x ≡ outcome.NotInvariant → IsInductive (circuit_of m p) inv (bad_literal (circuit_of m p) (bad_of p)) → ⊥)
+    IfOk r (λ x. x ≡ outcome.NotInvariant → IsInductive (circuit_of m p) inv (bad_of m p) → ⊥)
 honest m p inv after (Ok r) is = honest_of m p inv after r is
 honest m p inv after (Err e) is = tt

@@ -53,7 +53,13 @@ pub halt_last : (fs : List Formula) (f g : Formula) (after : Steps) (x : Halt) �
 halt_last fs f g after x is stopped =
     halt_among (f ∷ []) (fs ++ f ∷ []) after x (λ e found. Contains-append_right fs (f ∷ []) e found) (subst (λ e. IsHalt (e ∷ []) after x) is stopped)
 
--- what stops the step cases stops all cases
+-- what stops the initial cases, or the step cases, stops all cases
+pub halt_initial : (m : Parts) (inv : List (List Lit)) (a : Lit) (after : Steps) (x : Halt) → IsHalt (map (init_formula m) inv) after x → IsHalt (cases m inv a) after x
+halt_initial m inv a after x stopped =
+    halt_among (map (init_formula m) inv) (cases m inv a) after x
+    (λ f found. Contains-append_left (map (init_formula m) inv ++ map (step_formula m inv) inv) (bad_formula m inv a ∷ []) f
+    (Contains-append_left (map (init_formula m) inv) (map (step_formula m inv) inv) f found)) stopped
+
 pub halt_steps : (m : Parts) (inv : List (List Lit)) (a : Lit) (after : Steps) (x : Halt) → IsHalt (map (step_formula m inv) inv) after x → IsHalt (cases m inv a) after x
 halt_steps m inv a after x stopped =
     halt_among (map (step_formula m inv) inv) (cases m inv a) after x

@@ -1,9 +1,10 @@
 //! From clauses to a certificate.
 
-ghost use Rattle.std.specs.Prelude.{◌≡◌, ◌<◌, length, IfErr, IfOk};
+ghost use Rattle.std.specs.Prelude.{◌≡◌, Contains, IfErr, IfOk};
 ghost use Rattle.base.specs.Budget.{Spends};
-ghost use Rattle.graph.specs.declared.circuit.Property.TheVariants.{Bad, Justice};
-ghost use Rattle.cnf.specs.Formulas.{bad_literal};
+ghost use Rattle.graph.specs.declared.circuit.Property.TheVariants.{Justice};
+ghost use Rattle.graph.specs.Properties.{position_of};
+ghost use Rattle.graph.specs.WellFormed.{used};
 ghost use Rattle.cnf.specs.Invariants.{IsInductive};
 ghost use Rattle.checker.specs.Accepted.{circuit_of, bad_of};
 ghost use Rattle.certify.specs.Causes.{HasCause, HasCauseFor, IsUnspent};
@@ -32,16 +33,17 @@ fn copied(alloc: Global, invariant: &[Seq<Lit>]) -> Result<Seq<Seq<Lit>>, Refuse
     Ok(copy)
 }
 
-/// A certificate of the property by clauses about the circuit's bad literal at this position.
+/// A certificate of the property by clauses about this one of the circuit's literals, which no run is
+/// to set.
 fn certify_for(
     alloc: Global,
     circuit: &Model,
-    bad: u32,
+    bad: Lit,
     property: Property,
     invariant: &[Seq<Lit>],
     budget: &mut Budget,
 ) -> Result<Certified, CertifyError>
-    requires { bad < length circuit.now.bad }
+    requires { Contains (used circuit.now) bad }
     ensures spends { Spends budget.old budget.new }
     ensures certified { IfOk result (IsCertifiedFor circuit.now bad property invariant.now budget.new) }
     ensures refused { IfErr result (HasCauseFor circuit.now invariant.now) }
@@ -63,26 +65,6 @@ fn certify_for(
     }
 }
 
-/// A certificate of the bad literal at position `n`.
-fn certify_bad(
-    alloc: Global,
-    model: &Model,
-    n: u32,
-    invariant: &[Seq<Lit>],
-    budget: &mut Budget,
-) -> Result<Certified, CertifyError>
-    ensures spends { Spends budget.old budget.new }
-    ensures certified { IfOk result (IsCertified model.now (Bad n) invariant.now budget.new) }
-    ensures refused { IfErr result (HasCause model.now (Bad n) invariant.now) }
-    ensures unspent { IfErr result (IsUnspent budget.old budget.new) }
-{
-    model.parts();
-    if n as usize >= model.bad().len() {
-        return Err(CertifyError::NoProperty(n));
-    }
-    certify_for(alloc, model, n, Property::Bad(n), invariant, budget)
-}
-
 /// A certificate of the justice property at position `n`, by clauses about its shadow circuit.
 fn certify_justice(
     alloc: Global,
@@ -97,10 +79,54 @@ fn certify_justice(
     ensures unspent { IfErr result (IsUnspent budget.old budget.new) }
 {
     match to_safety(alloc, model, n) {
-        Ok(shadow) => certify_for(alloc, &shadow, 0, Property::Justice(n), invariant, budget),
+        Ok(shadow) => certify_for(
+            alloc,
+            &shadow,
+            shadow.bad()[0],
+            Property::Justice(n),
+            invariant,
+            budget,
+        ),
         Err(LiveError::NoProperty(_)) => Err(CertifyError::NoProperty(n)),
         Err(LiveError::Limit) => Err(CertifyError::Limit),
         Err(LiveError::OutOfMemory(refused)) => Err(CertifyError::OutOfMemory(refused)),
+    }
+}
+
+/// The refusal of a property that the circuit has not.
+fn no_property(property: Property) -> CertifyError
+    ensures { result ≡ CertifyError.NoProperty (position_of property) }
+{
+    let (Property::Bad(n) | Property::Justice(n) | Property::Output(n)) = property;
+    CertifyError::NoProperty(n)
+}
+
+/// A certificate of the property, where the circuit has it.
+fn certify_property(
+    alloc: Global,
+    model: &Model,
+    property: Property,
+    invariant: &[Seq<Lit>],
+    budget: &mut Budget,
+) -> Result<Certified, CertifyError>
+    ensures spends { Spends budget.old budget.new }
+    ensures certified { IfOk result (IsCertified model.now property invariant.now budget.new) }
+    ensures refused { IfErr result (HasCause model.now property invariant.now) }
+    ensures unspent { IfErr result (IsUnspent budget.old budget.new) }
+{
+    if !model.parts().has_property(property) {
+        return Err(no_property(property));
+    }
+    match property {
+        Property::Bad(n) => {
+            let bad = model.bad()[n as usize];
+            certify_for(alloc, model, bad, property, invariant, budget)
+        }
+        Property::Justice(n) => certify_justice(alloc, model, n, invariant, budget),
+        Property::Output(n) => {
+            let output = model.outputs()[n as usize];
+            certify_for(alloc, model, output, property, invariant, budget)
+        }
     }
 }
 
@@ -126,12 +152,9 @@ pub fn certify(
     ensures spends { Spends budget.old budget.new }
     ensures certified { IfOk result (IsCertified model.now property invariant.now budget.new) }
     // What is inductive and excludes the bad literal is never called no invariant.
-    ensures honest { IfOk result (λ r. r ≡ NotInvariant → IsInductive (circuit_of model.now property) invariant.now (bad_literal (circuit_of model.now property) (bad_of property)) → ⊥) }
+    ensures honest { IfOk result (λ r. r ≡ NotInvariant → IsInductive (circuit_of model.now property) invariant.now (bad_of model.now property) → ⊥) }
     ensures refused { IfErr result (HasCause model.now property invariant.now) }
     ensures unspent { IfErr result (IsUnspent budget.old budget.new) }
 {
-    match property {
-        Property::Bad(n) => certify_bad(alloc, model, n, invariant, budget),
-        Property::Justice(n) => certify_justice(alloc, model, n, invariant, budget),
-    }
+    certify_property(alloc, model, property, invariant, budget)
 }

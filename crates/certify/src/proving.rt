@@ -1,10 +1,11 @@
 //! A proof for each case of an invariant.
 
-ghost use Rattle.std.specs.Prelude.{◌≡◌, ◌<◌, ◌++◌, ◌∷◌, [], List, map, length, IfErr, IfOk, OnOk};
+ghost use Rattle.std.specs.Prelude.{◌≡◌, ◌<◌, ◌++◌, ◌∷◌, [], Contains, List, map, length, IfErr, IfOk, OnOk};
+ghost use Rattle.graph.specs.WellFormed.{used};
 ghost use Rattle.base.specs.Budget.{Spends};
 ghost use Rattle.lrat.specs.Limits.{IsFormula};
 ghost use Rattle.lrat.specs.declared.formula.Formula.{Formula};
-ghost use Rattle.cnf.specs.Formulas.{IsInvariant, bad_literal, init_formula, step_formula};
+ghost use Rattle.cnf.specs.Formulas.{IsInvariant, init_formula, step_formula};
 ghost use Rattle.checker.specs.Accepted.{IsProofOf, cases};
 ghost use Rattle.certify.specs.Halts.{IsHalt};
 ghost use Rattle.certify.specs.Sections.{AreProofs};
@@ -80,14 +81,14 @@ pub fn prove_cases(
     alloc: Global,
     model: &Model,
     invariant: &[Seq<Lit>],
-    bad: u32,
+    bad: Lit,
     budget: &mut Budget,
 ) -> Result<Seq<Proof>, Halt>
     requires invariant { IsInvariant model.now invariant.now }
-    requires bad { bad < length model.now.bad }
+    requires bad { Contains (used model.now) bad }
     ensures spends { Spends budget.old budget.new }
-    ensures proved { IfOk result (AreProofs (cases model.now invariant.now (bad_literal model.now bad))) }
-    ensures halted { IfErr result (IsHalt (cases model.now invariant.now (bad_literal model.now bad)) budget.new) }
+    ensures proved { IfOk result (AreProofs (cases model.now invariant.now bad)) }
+    ensures halted { IfErr result (IsHalt (cases model.now invariant.now bad) budget.new) }
 {
     let mut sections = Seq::new(alloc);
     prove_initial(alloc, model, invariant, &mut sections, budget)?;

@@ -1,23 +1,26 @@
 -- What an accepted certificate shows.
-use Rattle.std.proofs.Common.{◌≡◌, ◌≢◌, ℕ, zero, suc, ◌+◌, ◌*◌, ◌<◌, ◌≤◌, List, [], ◌∷◌, ◌++◌, map, length, get_or, All, AllPairs, Some, Result, Ok, Err, OnOk, slice_get, inl, inr, refl, sym, ◌∙◌, ap, subst, arith, length-append}
+use Rattle.std.proofs.Common.{◌≡◌, ◌≢◌, ℕ, ◌+◌, ◌*◌, ◌<◌, ◌≤◌, List, [], ◌∷◌, ◌++◌, map, length, get_or, All, AllPairs, Result, Ok, Err, IfErr, OnOk, inl, inr, refl, sym, ◌∙◌, ap, subst, arith, length-append}
 use Rattle.std.proofs.lemmas.List.{get_or_at, get_or_append_left, map-append}
 use Rattle.base.specs.Witness.{witness}
 use Rattle.graph.specs.declared.circuit.Lit.{Lit}
 use Rattle.graph.specs.declared.circuit.Property.{Property}
-use Rattle.graph.specs.declared.circuit.Property.TheVariants.{Bad, Justice}
+use Rattle.graph.specs.declared.circuit.Property.TheVariants.{Bad, Justice, Output}
 use Rattle.graph.specs.declared.parts.Parts.{Parts}
 use Rattle.graph.specs.Runs.{IsSafe}
 use Rattle.graph.specs.Valuation.{variable}
+use Rattle.graph.specs.Properties.{HasProperty, IsWatched}
 use Rattle.graph.specs.WellFormed.{IsWellFormed}
-use Rattle.live_safe.specs.Shadow.{shadow_of}
+use Rattle.live_safe.specs.Shadow.{closing_literal, shadow_of}
 use Rattle.live_safe.proofs.Consequence.{bounded_if_safe}
 use Rattle.live_safe.proofs.Shape.{shadow_well_formed}
 use Rattle.lrat.specs.declared.formula.Formula.{Formula}
 use Rattle.lrat.specs.declared.line.Line.{Line}
+use Rattle.lrat.proofs.Fit.{if_err}
 use Rattle.lrat.proofs.Refuted.{refuted_false}
 use Rattle.lrat.proofs.Refusing.{refused_proof_not}
-use Rattle.cnf.specs.Formulas.{init_formula, step_formula, bad_formula, bad_literal}
+use Rattle.cnf.specs.Formulas.{init_formula, step_formula, bad_formula}
 use Rattle.cnf.specs.Invariants.{AreContradictory, IsInductive}
+use Rattle.stimulus.proofs.Watching.{bad_watched, output_watched}
 use Rattle.cnf.proofs.Safety.{safety_law}
 use Rattle.certificate.specs.declared.certificate.Certificate.{Certificate}
 use Rattle.checker.specs.declared.check_error.CheckError.{CheckError}
@@ -43,21 +46,15 @@ inductive_from m inv a ps count refute = record {
   excludes = contradictory (cases m inv a) ps (length ps) (2 * length inv) (bad_formula m inv a) refute (omega arith) (λ g. case_bad m inv a g);
 }
 
-get_at : (xs : List Lit) (n : ℕ) (d : Lit) → n < length xs → slice_get xs n ≡ Some (get_or xs n d)
-get_at [] n d n_in = absurd (omega arith)
-get_at (x ∷ xs) zero d n_in = refl
-get_at (x ∷ xs) (suc n) d n_in = get_at xs n d (omega arith)
+safe_for : (m : Parts) (p : Property) (a : Lit) (c : Certificate) → IsWellFormed m → IsWatched m p a → IsAcceptedFor m a c → IsSafe m p
+safe_for m p a c well watched accepted =
+    safety_law m c.invariant well (λ k d k_in. (accepted.clauses k d k_in).over) p a watched (inductive_from m c.invariant a c.sections accepted.count accepted.sections)
 
-safe_for : (m : Parts) (n : ℕ) (c : Certificate) → IsWellFormed m → IsAcceptedFor m n c → IsSafe m n
-safe_for m n c well accepted =
-    let a : Lit = bad_literal m n in
-    let named : slice_get m.bad n ≡ Some a = get_at m.bad n (record { 0 = 0 }) accepted.exists in
-    safety_law m c.invariant well (λ k d k_in. (accepted.clauses k d k_in).over) n a named (inductive_from m c.invariant a c.sections accepted.count accepted.sections)
-
-upheld : (m : Parts) (p : Property) (c : Certificate) → IsWellFormed m → IsShowable m p → IsAcceptedFor (circuit_of m p) (bad_of p) c → IsUpheld m p
-upheld m (Bad n) c well showable accepted = safe_for m n c well accepted
+upheld : (m : Parts) (p : Property) (c : Certificate) → IsWellFormed m → IsShowable m p → IsAcceptedFor (circuit_of m p) (bad_of m p) c → IsUpheld m p
+upheld m (Bad n) c well showable accepted = safe_for m (Bad n) (bad_of m (Bad n)) c well (bad_watched m (Bad n) n m.bad (record { 0 = 0 }) refl refl showable.exists) accepted
+upheld m (Output n) c well showable accepted = safe_for m (Output n) (bad_of m (Output n)) c well (output_watched m (Output n) n m.outputs (record { 0 = 0 }) refl refl showable.exists) accepted
 upheld m (Justice n) c well showable accepted =
-    bounded_if_safe m n well showable.exists (safe_for (shadow_of m n) 0 c (shadow_well_formed m n well showable.within) accepted)
+    bounded_if_safe m n well showable.exists (safe_for (shadow_of m n) (Bad 0) (closing_literal m n) c (shadow_well_formed m n well showable.within) refl accepted)
 
 pub accepted_law : AcceptedLaw
 accepted_law m c well accepted = upheld m c.property c well accepted.showable accepted.accepted
@@ -90,19 +87,19 @@ first_fault_refuses m inv k fault.Repeated f good =
     let g = f.faulty in no_repeat m f.clause g.before g.after g.literal g.are g.faulty.1 (middle m inv f.before f.after f.clause f.are good)
 
 -- what has a cause is not accepted
-cause_refuses_for : (m : Parts) (n : ℕ) (c : Certificate) (e : CheckError) → HasCauseFor m n c e → e ≢ OutOfMemory witness → IsAcceptedFor m n c → ⊥
-cause_refuses_for m n c (NoProperty k) cause ne accepted = cause
-cause_refuses_for m n c Limit cause ne accepted = let few = accepted.few in omega (arith, cause, few)
-cause_refuses_for m n c (Sections k) cause ne accepted = cause.2 (cause.1 ∙ accepted.count)
-cause_refuses_for m n c (NotLatch k) cause ne accepted = first_fault_refuses m c.invariant k fault.NotLatch cause.1 accepted.clauses
-cause_refuses_for m n c (Repeated k) cause ne accepted = first_fault_refuses m c.invariant k fault.Repeated cause.1 accepted.clauses
-cause_refuses_for m n c (Section e k) cause ne accepted =
-    let f : Formula = bad_formula m c.invariant (bad_literal m 0) in
+cause_refuses_for : (m : Parts) (a : Lit) (c : Certificate) (e : CheckError) → HasCauseFor m a c e → e ≢ OutOfMemory witness → IsAcceptedFor m a c → ⊥
+cause_refuses_for m a c (NoProperty k) cause ne accepted = cause
+cause_refuses_for m a c Limit cause ne accepted = let few = accepted.few in omega (arith, cause, few)
+cause_refuses_for m a c (Sections k) cause ne accepted = cause.2 (cause.1 ∙ accepted.count)
+cause_refuses_for m a c (NotLatch k) cause ne accepted = first_fault_refuses m c.invariant k fault.NotLatch cause.1 accepted.clauses
+cause_refuses_for m a c (Repeated k) cause ne accepted = first_fault_refuses m c.invariant k fault.Repeated cause.1 accepted.clauses
+cause_refuses_for m a c (Section e k) cause ne accepted =
+    let f : Formula = bad_formula m c.invariant a in
     refused_proof_not _ _ e (cause.2.refused f []) cause.2.other (accepted.sections k cause.2.stands f []).1
-cause_refuses_for m n c (OutOfMemory refused) cause ne accepted = ne refl
+cause_refuses_for m a c (OutOfMemory refused) cause ne accepted = ne refl
 
 of_circuit_refuses : (m : Parts) (c : Certificate) (e : CheckError) → IsOfCircuit m c e → e ≢ OutOfMemory witness → IsAcceptedCertificate m c → ⊥
-of_circuit_refuses m c e cause ne accepted = cause_refuses_for (circuit_of m c.property) (bad_of c.property) c e cause.cause ne accepted.accepted
+of_circuit_refuses m c e cause ne accepted = cause_refuses_for (circuit_of m c.property) (bad_of m c.property) c e cause.cause ne accepted.accepted
 
 pub cause_refuses : (m : Parts) (c : Certificate) (e : CheckError) → HasCause m c e → e ≢ OutOfMemory witness → IsAcceptedCertificate m c → ⊥
 cause_refuses m c (NoProperty n) cause ne accepted = cause.1 accepted.showable.exists
@@ -115,7 +112,7 @@ cause_refuses m c (Section e k) cause ne accepted = of_circuit_refuses m c (Sect
 cause_refuses m c (OutOfMemory refused) cause ne accepted = absurd (ne refl)
 
 -- a cause for the property's circuit is one
-cause_of_circuit : (m : Parts) (c : Certificate) (e : CheckError) → IsShowable m c.property → HasCauseFor (circuit_of m c.property) (bad_of c.property) c e → HasCause m c e
+cause_of_circuit : (m : Parts) (c : Certificate) (e : CheckError) → IsShowable m c.property → HasCauseFor (circuit_of m c.property) (bad_of m c.property) c e → HasCause m c e
 cause_of_circuit m c (NoProperty n) showable cause = absurd cause
 cause_of_circuit m c Limit showable cause = inr (record { showable = showable; cause = cause })
 cause_of_circuit m c (Sections n) showable cause = record { showable = showable; cause = cause }
@@ -124,71 +121,83 @@ cause_of_circuit m c (Repeated k) showable cause = record { showable = showable;
 cause_of_circuit m c (Section e k) showable cause = record { showable = showable; cause = cause }
 cause_of_circuit m c (OutOfMemory refused) showable cause = tt
 
--- a cause for the circuit of the certificate's property, whatever names that
-pub property_cause : (m : Parts) (c : Certificate) (p : Property) (e : CheckError) → c.property ≡ p → IsShowable m p → HasCauseFor (circuit_of m p) (bad_of p) c e → HasCause m c e
-property_cause m c p e is showable cause =
-    cause_of_circuit m c e (subst (IsShowable m) (sym is) showable) (subst (λ q. HasCauseFor (circuit_of m q) (bad_of q) c e) (sym is) cause)
-
 -- what holds of an `Ok` follows from what holds of it
 pub if_on_ok : {T E P Q : Type 0} → (r : Result T E) → OnOk r P → (P → Q) → OnOk r Q
 if_on_ok (Ok x) p f = f p
 if_on_ok (Err e) p f = tt
 
+-- a property that is there can be shown where its circuit is the given one
+pub showable_here : (m : Parts) (p : Property) → IsWellFormed m → m ≡ circuit_of m p → HasProperty m p → IsShowable m p
+showable_here m p well circuit there = record { exists = there; within = subst (λ (s : Parts). s.max_var ≤ 4194303) circuit well.limits.max_var }
+
+-- what is accepted, and what is refused, for the circuit and the literal of the certificate's property
+pub accepted_of : (m s : Parts) (a : Lit) (c : Certificate) (r : Result Unit CheckError) → IsShowable m c.property → s ≡ circuit_of m c.property → a ≡ bad_of m c.property →
+    OnOk r (IsAcceptedFor s a c) → OnOk r (IsAcceptedCertificate m c)
+accepted_of m s a c r showable circuit literal accepted =
+    if_on_ok {P = IsAcceptedFor s a c} {Q = IsAcceptedCertificate m c} r accepted
+    (λ h. record {
+      showable = showable;
+      accepted = subst (λ (b : Lit). IsAcceptedFor (circuit_of m c.property) b c) literal (subst (λ (t : Parts). IsAcceptedFor t a c) circuit h);
+    })
+
+pub refused_of : (m s : Parts) (a : Lit) (c : Certificate) (r : Result Unit CheckError) → IsShowable m c.property → s ≡ circuit_of m c.property → a ≡ bad_of m c.property →
+    IfErr r (HasCauseFor s a c) → IfErr r (HasCause m c)
+refused_of m s a c r showable circuit literal refused =
+    if_err (HasCauseFor s a c) (HasCause m c) r
+    (λ e h. cause_of_circuit m c e showable (subst (λ (b : Lit). HasCauseFor (circuit_of m c.property) b c e) literal (subst (λ (t : Parts). HasCauseFor t a c e) circuit h))) refused
+
 -- the parts of a certificate, as they were read, with their counts in order
-pub record IsOpened (m : Parts) (c : Certificate) (n : ℕ) (inv : List (List Lit)) (ps : List (List Line)) : Type 0 where
+pub record IsOpened (c : Certificate) (inv : List (List Lit)) (ps : List (List Line)) : Type 0 where
   pub is_inv : inv ≡ c.invariant
   pub is_ps : ps ≡ c.sections
-  pub exists : n < length m.bad
   pub few : length inv ≤ 4194303
   pub count : length ps ≡ 2 * length inv + 1
 
-counted : (m : Parts) (c : Certificate) (n : ℕ) (inv : List (List Lit)) (ps : List (List Line)) → IsOpened m c n inv ps → IsCounted m n c
-counted m c n inv ps opened = record {
-  exists = opened.exists;
+counted : (c : Certificate) (inv : List (List Lit)) (ps : List (List Line)) → IsOpened c inv ps → IsCounted c
+counted c inv ps opened = record {
   few = subst (λ i. length i < 4194304) opened.is_inv (let few = opened.few in omega arith);
   count = subst (λ i. length c.sections ≡ 2 * length i + 1) opened.is_inv (ap length (sym opened.is_ps) ∙ opened.count);
 }
 
-cases_are : (m : Parts) (c : Certificate) (n : ℕ) (inv : List (List Lit)) (ps : List (List Line)) → IsOpened m c n inv ps →
-    cases m inv (bad_literal m n) ≡ cases m c.invariant (bad_literal m n)
-cases_are m c n inv ps opened = ap (λ i. cases m i (bad_literal m n)) opened.is_inv
+cases_are : (m : Parts) (c : Certificate) (a : Lit) (inv : List (List Lit)) (ps : List (List Line)) → IsOpened c inv ps →
+    cases m inv a ≡ cases m c.invariant a
+cases_are m c a inv ps opened = ap (λ i. cases m i a) opened.is_inv
 
-pub accepted_from : (m : Parts) (c : Certificate) (n : ℕ) (inv : List (List Lit)) (ps : List (List Line)) → IsOpened m c n inv ps → All (IsGood m) inv →
-    RefuteBelow (cases m inv (bad_literal m n)) ps (length ps) → IsAcceptedFor m n c
-accepted_from m c n inv ps opened good refute =
-    let counts = counted m c n inv ps opened in
+pub accepted_from : (m : Parts) (c : Certificate) (a : Lit) (inv : List (List Lit)) (ps : List (List Line)) → IsOpened c inv ps → All (IsGood m) inv →
+    RefuteBelow (cases m inv a) ps (length ps) → IsAcceptedFor m a c
+accepted_from m c a inv ps opened good refute =
+    let counts = counted c inv ps opened in
     record {
-      exists = counts.exists;
       few = let few = counts.few in omega arith;
       count = counts.count;
       clauses = subst (All (IsGood m)) opened.is_inv good;
-      sections = subst (λ fs. RefuteBelow fs c.sections (length c.sections)) (cases_are m c n inv ps opened)
-          (subst (λ s. RefuteBelow (cases m inv (bad_literal m n)) s (length s)) opened.is_ps refute);
+      sections = subst (λ fs. RefuteBelow fs c.sections (length c.sections)) (cases_are m c a inv ps opened)
+          (subst (λ s. RefuteBelow (cases m inv a) s (length s)) opened.is_ps refute);
     }
 
-clauses_cause_of : (m : Parts) (n : ℕ) (c : Certificate) (e : ClauseError) → IsCounted m n c → IsClausesFault m c.invariant e → HasCauseFor m n c (of_clauses e)
-clauses_cause_of m n c (clauses.NotLatch k) counts fault = (counts, fault)
-clauses_cause_of m n c (clauses.Repeated k) counts fault = (counts, fault)
-clauses_cause_of m n c (clauses.OutOfMemory refused) counts fault = tt
+clauses_cause_of : (m : Parts) (a : Lit) (c : Certificate) (e : ClauseError) → IsCounted c → IsClausesFault m c.invariant e → HasCauseFor m a c (of_clauses e)
+clauses_cause_of m a c (clauses.NotLatch k) counts fault = (counts, fault)
+clauses_cause_of m a c (clauses.Repeated k) counts fault = (counts, fault)
+clauses_cause_of m a c (clauses.OutOfMemory refused) counts fault = tt
 
 -- a refusal of the clauses, and one of the sections, is a cause
-pub clauses_cause : (m : Parts) (c : Certificate) (n : ℕ) (inv : List (List Lit)) (ps : List (List Line)) → IsOpened m c n inv ps → (e : ClauseError) →
-    IsClausesFault m inv e → HasCauseFor m n c (of_clauses e)
-clauses_cause m c n inv ps opened e fault =
-    clauses_cause_of m n c e (counted m c n inv ps opened) (subst (λ i. IsClausesFault m i e) opened.is_inv fault)
+pub clauses_cause : (m : Parts) (c : Certificate) (a : Lit) (inv : List (List Lit)) (ps : List (List Line)) → IsOpened c inv ps → (e : ClauseError) →
+    IsClausesFault m inv e → HasCauseFor m a c (of_clauses e)
+clauses_cause m c a inv ps opened e fault =
+    clauses_cause_of m a c e (counted c inv ps opened) (subst (λ i. IsClausesFault m i e) opened.is_inv fault)
 
-section_cause_of : (m : Parts) (n : ℕ) (c : Certificate) (e : CheckError) → IsCounted m n c → All (IsGood m) c.invariant →
-    IsSectionFault (cases m c.invariant (bad_literal m n)) c.sections e → HasCauseFor m n c e
-section_cause_of m n c (Section e k) counts good fault = (counts, good, fault)
-section_cause_of m n c (OutOfMemory refused) counts good fault = tt
-section_cause_of m n c (NoProperty k) counts good fault = absurd fault
-section_cause_of m n c Limit counts good fault = absurd fault
-section_cause_of m n c (Sections k) counts good fault = absurd fault
-section_cause_of m n c (NotLatch k) counts good fault = absurd fault
-section_cause_of m n c (Repeated k) counts good fault = absurd fault
+section_cause_of : (m : Parts) (a : Lit) (c : Certificate) (e : CheckError) → IsCounted c → All (IsGood m) c.invariant →
+    IsSectionFault (cases m c.invariant a) c.sections e → HasCauseFor m a c e
+section_cause_of m a c (Section e k) counts good fault = (counts, good, fault)
+section_cause_of m a c (OutOfMemory refused) counts good fault = tt
+section_cause_of m a c (NoProperty k) counts good fault = absurd fault
+section_cause_of m a c Limit counts good fault = absurd fault
+section_cause_of m a c (Sections k) counts good fault = absurd fault
+section_cause_of m a c (NotLatch k) counts good fault = absurd fault
+section_cause_of m a c (Repeated k) counts good fault = absurd fault
 
-pub section_cause : (m : Parts) (c : Certificate) (n : ℕ) (inv : List (List Lit)) (ps : List (List Line)) → IsOpened m c n inv ps → All (IsGood m) inv → (e : CheckError) →
-    IsSectionFault (cases m inv (bad_literal m n)) ps e → HasCauseFor m n c e
-section_cause m c n inv ps opened good e fault =
-    section_cause_of m n c e (counted m c n inv ps opened) (subst (All (IsGood m)) opened.is_inv good)
-    (subst (λ fs. IsSectionFault fs c.sections e) (cases_are m c n inv ps opened) (subst (λ s. IsSectionFault (cases m inv (bad_literal m n)) s e) opened.is_ps fault))
+pub section_cause : (m : Parts) (c : Certificate) (a : Lit) (inv : List (List Lit)) (ps : List (List Line)) → IsOpened c inv ps → All (IsGood m) inv → (e : CheckError) →
+    IsSectionFault (cases m inv a) ps e → HasCauseFor m a c e
+section_cause m c a inv ps opened good e fault =
+    section_cause_of m a c e (counted c inv ps opened) (subst (All (IsGood m)) opened.is_inv good)
+    (subst (λ fs. IsSectionFault fs c.sections e) (cases_are m c a inv ps opened) (subst (λ s. IsSectionFault (cases m inv a) s e) opened.is_ps fault))

@@ -1,5 +1,6 @@
 pub mod Good
 pub mod Shared
+pub mod Watched
 pub mod InOrder
 pub mod Accepted
 pub mod Said

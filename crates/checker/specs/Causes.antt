@@ -3,14 +3,13 @@ use Rattle.std.specs.Prelude.{◌≡◌, ◌≢◌, ℕ, ◌+◌, ◌*◌, ◌<�
 use Rattle.base.specs.Witness.{witness}
 use Rattle.graph.specs.declared.circuit.Lit.{Lit}
 use Rattle.graph.specs.declared.parts.Parts.{Parts}
-use Rattle.graph.specs.Properties.{position_of}
+use Rattle.graph.specs.Properties.{position_of, HasProperty}
 use Rattle.graph.specs.Valuation.{variable}
 use Rattle.lrat.specs.declared.fault.Fault.TheVariants.{OutOfMemory as NoMemory}
 use Rattle.lrat.specs.declared.formula.Formula.{Formula}
 use Rattle.lrat.specs.declared.line.Line.{Line}
 use Rattle.lrat.specs.declared.step_error.StepError.{StepError}
 use Rattle.lrat.specs.Proofs.{IsRefusedProof}
-use Rattle.cnf.specs.Formulas.{bad_literal}
 use Rattle.certificate.specs.declared.certificate.Certificate.{Certificate}
 use Rattle.checker.specs.declared.check_error.CheckError.{CheckError}
 use Rattle.checker.specs.declared.check_error.CheckError.TheVariants.{NoProperty, Limit, Sections, NotLatch, Repeated, Section, OutOfMemory}
@@ -18,7 +17,7 @@ use Rattle.checker.specs.declared.clause_error.ClauseError.{ClauseError}
 use Rattle.checker.specs.declared.clause_error.ClauseError.TheVariants as clauses
 use Rattle.checker.specs.declared.invariant.ClauseFault.{ClauseFault}
 use Rattle.checker.specs.declared.invariant.ClauseFault.TheVariants as fault
-use Rattle.checker.specs.Accepted.{IsGood, cases, RefuteBelow, HasProperty, IsShowable, circuit_of, bad_of}
+use Rattle.checker.specs.Accepted.{IsGood, cases, RefuteBelow, IsShowable, circuit_of, bad_of}
 
 -- the clause is good up to a literal of which P holds
 pub record HasFirst (m : Parts) (c : List Lit) (P : List Lit → Lit → Type 0) : Type 0 where
@@ -81,26 +80,25 @@ IsSectionFault fs ps (OutOfMemory refused) = Unit {0}
 IsSectionFault fs ps _ = ⊥
 
 -- the counts are in order
-pub record IsCounted (m : Parts) (n : ℕ) (c : Certificate) : Type 0 where
-  pub exists : n < length m.bad
+pub record IsCounted (c : Certificate) : Type 0 where
   pub few : length c.invariant < 4194304
   pub count : length c.sections ≡ 2 * length c.invariant + 1
 
--- the first cause of a refusal for the n-th bad literal of a circuit: the number of clauses, the number of sections, a
--- clause, a section
-abbrev pub HasCauseFor : Parts → ℕ → Certificate → CheckError → Type 0
-HasCauseFor m n c (NoProperty k) = ⊥
-HasCauseFor m n c Limit = 4194303 < length c.invariant
-HasCauseFor m n c (Sections k) = (length c.invariant < 4194304) × (k ≡ length c.sections) × (k ≢ 2 * length c.invariant + 1)
-HasCauseFor m n c (NotLatch k) = IsCounted m n c × IsFirstFault m c.invariant k fault.NotLatch
-HasCauseFor m n c (Repeated k) = IsCounted m n c × IsFirstFault m c.invariant k fault.Repeated
-HasCauseFor m n c (Section e k) = IsCounted m n c × All (IsGood m) c.invariant × IsFirstRefused (cases m c.invariant (bad_literal m n)) c.sections e k
-HasCauseFor m n c (OutOfMemory refused) = Unit {0}
+-- the first cause of a refusal for a literal of a circuit: the number of clauses, the number of sections, a clause, a
+-- section
+abbrev pub HasCauseFor : Parts → Lit → Certificate → CheckError → Type 0
+HasCauseFor m a c (NoProperty k) = ⊥
+HasCauseFor m a c Limit = 4194303 < length c.invariant
+HasCauseFor m a c (Sections k) = (length c.invariant < 4194304) × (k ≡ length c.sections) × (k ≢ 2 * length c.invariant + 1)
+HasCauseFor m a c (NotLatch k) = IsCounted c × IsFirstFault m c.invariant k fault.NotLatch
+HasCauseFor m a c (Repeated k) = IsCounted c × IsFirstFault m c.invariant k fault.Repeated
+HasCauseFor m a c (Section e k) = IsCounted c × All (IsGood m) c.invariant × IsFirstRefused (cases m c.invariant a) c.sections e k
+HasCauseFor m a c (OutOfMemory refused) = Unit {0}
 
 -- it is the first cause for the property's circuit
 pub record IsOfCircuit (m : Parts) (c : Certificate) (e : CheckError) : Type 0 where
   pub showable : IsShowable m c.property
-  pub cause : HasCauseFor (circuit_of m c.property) (bad_of c.property) c e
+  pub cause : HasCauseFor (circuit_of m c.property) (bad_of m c.property) c e
 
 -- the first cause of each refusal: the property, the variables of its circuit, and then what there is for that
 abbrev pub HasCause : Parts → Certificate → CheckError → Type 0

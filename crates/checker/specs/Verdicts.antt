@@ -28,8 +28,8 @@ pub record Accepts (xs ys : List ℕ) (p : Property) : Type 0 where
   pub accepted : IsAcceptedCertificate file.model certificate
   pub property : certificate.property ≡ p
 
--- the circuit that the text spells upholds the property: no run of it that keeps the constraints sets the bad literal at
--- any time, or holds more rounds of justice than it has states
+-- the circuit that the text spells upholds the property: no run of it that keeps the constraints sets the literal that the
+-- property watches at any time, or holds more rounds of justice than it has states
 abbrev pub IsUpheldText : List ℕ → Property → Type 0
 IsUpheldText xs p = (f : File) → SpellsFile xs f → IsUpheld f.model p
 

@@ -56,10 +56,11 @@ fn safe_property<M: Source, C: Source>(
 /// that the first's spell (AIGER 1.9, binary where the second byte is `i`, else ASCII): it puts
 /// `yes safe P` with the property that the certificate names, or `no NUMBER`, and a line end.
 ///
-/// A yes means that no run of the circuit that keeps the constraints sets that bad literal at any
-/// time or, for a justice property, holds more rounds of it than the circuit has states. A fault of the first text is told without reading the second, and a fault of the second,
-/// anywhere in it, before every fault of the certificate. Where memory is wanting or a source
-/// fails, nothing is put.
+/// A yes means that no run of the circuit that keeps the constraints sets that bad literal, or the
+/// output that is taken as one, at any time or, for a justice property, holds more rounds of it than
+/// the circuit has states. A fault of the first text is told without reading the second, and a fault
+/// of the second, anywhere in it, before every fault of the certificate. Where memory is wanting or a
+/// source fails, nothing is put.
 ///
 /// It takes no memory beyond the file, the certificate, the clauses that the cases share, and
 /// those of one section. While a text is read, its bytes are held too.

@@ -1,9 +1,9 @@
 //! The judge of certificates.
 //!
 //! - `check` answers Ok exactly where a certificate is accepted for a circuit, out of memory
-//!   aside. Then no run of the circuit that keeps the constraints sets the bad literal at any time or,
-//!   for a justice property, holds more rounds of it than the circuit has states. A refusal has the
-//!   first cause.
+//!   aside. Then no run of the circuit that keeps the constraints sets the bad literal, or the output
+//!   that is taken as one, at any time or, for a justice property, holds more rounds of it than the
+//!   circuit has states. A refusal has the first cause.
 //! - `run_safe` does it from bytes to bytes: it reads a circuit and a certificate, and puts one
 //!   line, `yes safe b0` or `no 44`. It says yes exactly where the first bytes spell a circuit and
 //!   the second, to their end, a certificate that is accepted for it; and then that property is

@@ -31,13 +31,14 @@ fn push_number(line: &mut Vec<u8>, number: u32) -> Result<(), Refused>
     Ok(())
 }
 
-/// Adds a property's name: `b` or `j`, and its position.
+/// Adds a property's name: `b`, `j` or `o`, and its position.
 fn push_property(line: &mut Vec<u8>, property: Property) -> Result<(), Refused>
     ensures { OnOk result (line.new.items ≡ line.old.items ++ property_text property) }
 {
     let (letter, position) = match property {
         Property::Bad(n) => (b'b', n),
         Property::Justice(n) => (b'j', n),
+        Property::Output(n) => (b'o', n),
     };
     push(line, letter)?;
     push_number(line, position)?;

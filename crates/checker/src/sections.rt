@@ -1,7 +1,8 @@
 //! The sections of a certificate: a proof for each case of the invariant.
 
-ghost use Rattle.std.specs.Prelude.{◌≡◌, ◌+◌, ◌*◌, ◌<◌, ◌^◌, All, IfErr, None, OnOk, length};
-ghost use Rattle.cnf.specs.Formulas.{IsInvariant, bad_literal};
+ghost use Rattle.std.specs.Prelude.{◌≡◌, ◌+◌, ◌*◌, ◌<◌, ◌^◌, All, Contains, IfErr, None, OnOk, length};
+ghost use Rattle.graph.specs.WellFormed.{used};
+ghost use Rattle.cnf.specs.Formulas.{IsInvariant};
 ghost use Rattle.cnf.specs.Tables.{IsTableOf};
 ghost use Rattle.lrat.specs.Literals.{IsLiteral};
 ghost use Rattle.lrat.specs.Proofs.{IsRefusedProof};
@@ -68,13 +69,13 @@ fn check_initial(
     alloc: Global,
     model: &Model,
     invariant: &[Seq<Lit>],
-    bad: u32,
+    bad: Lit,
     sections: &[Proof],
 ) -> Result<(), CheckError>
     requires invariant { IsInvariant model.now invariant.now }
     requires count { length sections.now ≡ 2 * length invariant.now + 1 }
-    ensures ok { OnOk result (RefuteBelow (cases model.now invariant.now (bad_literal model.now bad)) sections.now (length invariant.now)) }
-    ensures err { IfErr result (IsSectionFault (cases model.now invariant.now (bad_literal model.now bad)) sections.now) }
+    ensures ok { OnOk result (RefuteBelow (cases model.now invariant.now bad) sections.now (length invariant.now)) }
+    ensures err { IfErr result (IsSectionFault (cases model.now invariant.now bad) sections.now) }
 {
     model.parts();
     let base = start_base(alloc, model)?;
@@ -96,16 +97,16 @@ fn check_others(
     model: &Model,
     table: &NextTable,
     invariant: &[Seq<Lit>],
-    bad: u32,
+    bad: Lit,
     sections: &[Proof],
 ) -> Result<(), CheckError>
     requires invariant { IsInvariant model.now invariant.now }
     requires table { IsTableOf model.now.latches table.now }
-    requires bad { bad < length model.now.bad }
+    requires bad { Contains (used model.now) bad }
     requires count { length sections.now ≡ 2 * length invariant.now + 1 }
-    requires initial { RefuteBelow (cases model.now invariant.now (bad_literal model.now bad)) sections.now (length invariant.now) }
-    ensures ok { OnOk result (RefuteBelow (cases model.now invariant.now (bad_literal model.now bad)) sections.now (length sections.now)) }
-    ensures err { IfErr result (IsSectionFault (cases model.now invariant.now (bad_literal model.now bad)) sections.now) }
+    requires initial { RefuteBelow (cases model.now invariant.now bad) sections.now (length invariant.now) }
+    ensures ok { OnOk result (RefuteBelow (cases model.now invariant.now bad) sections.now (length sections.now)) }
+    ensures err { IfErr result (IsSectionFault (cases model.now invariant.now bad) sections.now) }
 {
     model.parts();
     let base = shared_base(alloc, model, invariant)?;
@@ -133,15 +134,15 @@ pub fn check_sections(
     model: &Model,
     table: &NextTable,
     invariant: &[Seq<Lit>],
-    bad: u32,
+    bad: Lit,
     sections: &[Proof],
 ) -> Result<(), CheckError>
     requires invariant { IsInvariant model.now invariant.now }
     requires table { IsTableOf model.now.latches table.now }
-    requires bad { bad < length model.now.bad }
+    requires bad { Contains (used model.now) bad }
     requires count { length sections.now ≡ 2 * length invariant.now + 1 }
-    ensures ok { OnOk result (RefuteBelow (cases model.now invariant.now (bad_literal model.now bad)) sections.now (length sections.now)) }
-    ensures err { IfErr result (IsSectionFault (cases model.now invariant.now (bad_literal model.now bad)) sections.now) }
+    ensures ok { OnOk result (RefuteBelow (cases model.now invariant.now bad) sections.now (length sections.now)) }
+    ensures err { IfErr result (IsSectionFault (cases model.now invariant.now bad) sections.now) }
 {
     check_initial(alloc, model, invariant, bad, sections)?;
     check_others(alloc, model, table, invariant, bad, sections)

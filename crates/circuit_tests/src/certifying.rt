@@ -1,9 +1,10 @@
 //! Circuits and clauses, with what comes of them.
 
+use crate::questions::{HOLD, Question, asked};
 use base::{Budget, Refused};
 use certify::{Certified, certify};
 use checker::check;
-use graph::{Gate, Latch, Lit, Model, Parts, Property, Seq};
+use graph::{Lit, Model, Property, Seq};
 use std::alloc::Global;
 use std::test::Fail;
 
@@ -18,89 +19,49 @@ enum Answer {
     Refused(u8, u64),
 }
 
-/// A latch that keeps its value 0.
-static HOLD: [Latch; 1] = [Latch {
-    lit: Lit(2),
-    next: Lit(2),
-    reset: Lit(0),
-}];
-
-/// Two latches of which one at most is 1.
-static PAIR: [Latch; 2] = [
-    Latch {
-        lit: Lit(2),
-        next: Lit(6),
-        reset: Lit(0),
-    },
-    Latch {
-        lit: Lit(4),
-        next: Lit(8),
-        reset: Lit(0),
-    },
-];
-
-/// The next values of the two latches, and whether both are 1.
-static PAIR_GATES: [Gate; 3] = [
-    Gate {
-        lhs: Lit(6),
-        rhs0: Lit(5),
-        rhs1: Lit(3),
-    },
-    Gate {
-        lhs: Lit(8),
-        rhs0: Lit(5),
-        rhs1: Lit(2),
-    },
-    Gate {
-        lhs: Lit(10),
-        rhs0: Lit(4),
-        rhs1: Lit(2),
-    },
-];
-
-/// A circuit whose bad literal is `2` or, with gates, the last gate's.
-fn circuit(alloc: Global, latches: &[Latch], gates: &[Gate]) -> Result<Parts, Refused> {
-    let bad = match gates.last() {
-        Some(gate) => gate.lhs,
-        None => Lit(2),
-    };
-    Ok(Parts {
-        max_var: bad.variable(),
-        inputs: Seq::new(alloc),
-        latches: Seq::from_slice(alloc, latches)?,
-        outputs: Seq::new(alloc),
-        bad: Seq::from_slice(alloc, &[bad])?,
-        constraints: Seq::new(alloc),
-        justice: Seq::new(alloc),
-        fairness: Seq::new(alloc),
-        gates: Seq::from_slice(alloc, gates)?,
-    })
+/// Clauses for a property, and how many steps may be spent.
+#[derive(Clone, Copy)]
+struct Clauses {
+    property: Property,
+    clauses: &'static [&'static [Lit]],
+    steps: u64,
 }
 
-/// What comes of the clauses in so many steps.
-fn told(
-    alloc: Global,
-    parts: Parts,
-    property: Property,
-    clauses: &[&[Lit]],
-    steps: u64,
-) -> Result<Answer, Fail> {
-    let model = Model::from_parts(alloc, parts)?;
+/// The list of clauses.
+fn invariant(alloc: Global, clauses: &[&[Lit]]) -> Result<Seq<Seq<Lit>>, Refused> {
     let mut invariant = Seq::new(alloc);
     for clause in clauses {
         invariant.push(Seq::from_slice(alloc, clause)?)?;
     }
-    let mut budget = Budget::new(steps);
-    match certify(alloc, &model, property, invariant.as_slice(), &mut budget) {
-        Ok(Certified::Certificate(certificate)) => {
-            check(alloc, &model, &certificate)?;
-            Ok(Answer::Accepted)
+    Ok(invariant)
+}
+
+impl Question for Clauses {
+    type Answer = Answer;
+
+    fn answer(&self, alloc: Global, circuit: &Model) -> Result<Answer, Fail> {
+        let clauses = invariant(alloc, self.clauses)?;
+        let mut budget = Budget::new(self.steps);
+        match certify(
+            alloc,
+            circuit,
+            self.property,
+            clauses.as_slice(),
+            &mut budget,
+        ) {
+            Ok(Certified::Certificate(certificate)) => {
+                check(alloc, circuit, &certificate)?;
+                Ok(Answer::Accepted)
+            }
+            Ok(Certified::NotInvariant) => Ok(Answer::NotInvariant),
+            Ok(Certified::Spent) => Ok(Answer::Spent),
+            Err(e) => Ok(Answer::Refused(e.number(), e.place())),
         }
-        Ok(Certified::NotInvariant) => Ok(Answer::NotInvariant),
-        Ok(Certified::Spent) => Ok(Answer::Spent),
-        Err(e) => Ok(Answer::Refused(e.number(), e.place())),
     }
 }
+
+/// Two latches of which one at most is 1, the gates of their next values, and whether both are 1, which is bad.
+static PAIR: &[u8] = b"aag 5 0 2 0 3 1\n2 6\n4 8\n10\n6 5 3\n8 5 2\n10 4 2\n";
 
 /// Clauses for the latch that keeps its value.
 static OF_HOLD: [(Property, &[&[Lit]], u64, Answer); 9] = [
@@ -135,15 +96,6 @@ static OF_HOLD: [(Property, &[&[Lit]], u64, Answer); 9] = [
     ),
 ];
 
-#[test]
-fn clauses_of_one_latch(rt: HostRuntime) -> Result<(), Fail> {
-    for (property, clauses, steps, want) in &OF_HOLD {
-        let parts = circuit(rt.alloc(), &HOLD, &[])?;
-        assert_eq!(rt; told(rt.alloc(), parts, *property, clauses, *steps)?, *want);
-    }
-    Ok(())
-}
-
 /// Clauses for the two latches.
 static OF_PAIR: [(&[&[Lit]], Answer); 3] = [
     (&[&[Lit(3), Lit(5)]], Answer::Accepted),
@@ -152,13 +104,22 @@ static OF_PAIR: [(&[&[Lit]], Answer); 3] = [
 ];
 
 #[test]
-fn clauses_of_two_latches(rt: HostRuntime) -> Result<(), Fail> {
-    for (clauses, want) in &OF_PAIR {
-        let parts = circuit(rt.alloc(), &PAIR, &PAIR_GATES)?;
-        assert_eq!(rt;
-            told(rt.alloc(), parts, Property::Bad(0), clauses, 100_000)?,
-            *want
-        );
+fn clauses_of_circuits(rt: HostRuntime) -> Result<(), Fail> {
+    for (property, clauses, steps, wanted) in &OF_HOLD {
+        let question = Clauses {
+            property: *property,
+            clauses,
+            steps: *steps,
+        };
+        assert!(rt; asked(rt.alloc(), HOLD, &question)? == *wanted);
+    }
+    for (clauses, wanted) in &OF_PAIR {
+        let question = Clauses {
+            property: Property::Bad(0),
+            clauses,
+            steps: 100_000,
+        };
+        assert!(rt; asked(rt.alloc(), PAIR, &question)? == *wanted);
     }
     Ok(())
 }

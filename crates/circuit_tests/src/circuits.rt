@@ -1,9 +1,8 @@
 //! Circuits that no text spells: refusals of parts and of lists of symbols.
 
+use crate::questions::{Question, asked};
 use base::Refused;
-use graph::{
-    AigerFile, Gate, Latch, Lit, Model, Parts, ReadError, Seq, Symbol, SymbolKind, is_name,
-};
+use graph::{AigerFile, Gate, Latch, Lit, Model, Parts, ReadError, Seq, Symbol, SymbolKind};
 use std::alloc::Global;
 use std::test::Fail;
 
@@ -64,35 +63,22 @@ static TOGGLE: Plain<'static> = Plain {
     gates: &[(10, 7, 9), (8, 3, 5), (6, 2, 4)],
 };
 
-/// The circuit of plain parts.
-fn model_of(alloc: Global, plain: &Plain<'_>) -> Result<Model, Fail> {
+/// The same circuit as a text.
+static TOGGLE_TEXT: &[u8] = b"aag 5 1 1 0 3 2\n2\n4 11 4\n4\n5\n10 7 9\n8 3 5\n6 2 4\n";
+
+/// The number and place of a refusal, where there is one.
+type Refusal = Option<(u8, u64)>;
+
+/// A refusal's number and place.
+fn told(error: Option<ReadError>) -> Refusal {
+    let error = error?;
+    Some((error.number(), error.place()))
+}
+
+/// Why parts make no circuit.
+fn refusal(alloc: Global, plain: &Plain<'_>) -> Result<Refusal, Refused> {
     let parts = parts_of(alloc, plain)?;
-    let model = Model::from_parts(alloc, parts)?;
-    Ok(model)
-}
-
-/// The number and place of the refusal of parts.
-fn refusal(alloc: Global, plain: &Plain<'_>) -> Result<Option<(u8, u64)>, Fail> {
-    let parts = parts_of(alloc, plain)?;
-    match Model::build(alloc, &parts) {
-        Ok(_) => Ok(None),
-        Err(e) => Ok(Some((e.number(), e.place()))),
-    }
-}
-
-/// The number and place of the refusal of one of the toggle's bad literals alone.
-fn alone(alloc: Global, n: u32) -> Result<Option<(u8, u64)>, Fail> {
-    let model = model_of(alloc, &TOGGLE)?;
-    match model.for_bad(alloc, n) {
-        Ok(_) => Ok(None),
-        Err(e) => Ok(Some((e.number(), e.place()))),
-    }
-}
-
-#[test]
-fn no_such_bad_literal_alone(rt: HostRuntime) -> Result<(), Fail> {
-    assert_eq!(rt; alone(rt.alloc(), 2)?, Some((30, 2)));
-    Ok(())
+    Ok(told(Model::build(alloc, &parts).err()))
 }
 
 /// Parts that make no circuit and that no text spells, or of which a text has another place, with the
@@ -211,10 +197,33 @@ static REFUSED: [(Plain<'static>, u8, u64); 10] = [
 ];
 
 #[test]
-fn refusals_with_number_and_place(rt: HostRuntime) -> Result<(), Fail> {
+fn refusals_with_number_and_place(rt: HostRuntime) {
     for (plain, number, place) in &REFUSED {
-        assert_eq!(rt; refusal(rt.alloc(), plain)?, Some((*number, *place)));
+        let answer = refusal(rt.alloc(), plain);
+        assert!(rt;
+            answer == Ok(Some((*number, *place))),
+            "{number} at {place}"
+        );
     }
+}
+
+/// Why a bad literal is not taken alone.
+#[derive(Clone, Copy)]
+struct Alone {
+    n: u32,
+}
+
+impl Question for Alone {
+    type Answer = Refusal;
+
+    fn answer(&self, alloc: Global, circuit: &Model) -> Result<Refusal, Fail> {
+        Ok(told(circuit.for_bad(alloc, self.n).err()))
+    }
+}
+
+#[test]
+fn no_such_bad_literal_alone(rt: HostRuntime) -> Result<(), Fail> {
+    assert!(rt; asked(rt.alloc(), TOGGLE_TEXT, &Alone { n: 2 })? == Some((30, 2)));
     Ok(())
 }
 
@@ -227,27 +236,31 @@ fn symbol(alloc: Global, kind: SymbolKind, position: u32, name: &[u8]) -> Result
     })
 }
 
-/// The toggle's file with a name of its input, one more symbol, and a comment; or the number and place of
-/// the refusal.
-fn file_with(
+/// A name of the toggle's input, and one more symbol.
+fn symbols(
     alloc: Global,
     kind: SymbolKind,
     position: u32,
     name: &[u8],
-) -> Result<Result<AigerFile, (u8, u64)>, Fail> {
-    let model = model_of(alloc, &TOGGLE)?;
+) -> Result<Seq<Symbol>, Refused> {
     let mut symbols = Seq::new(alloc);
     symbols.push(symbol(alloc, SymbolKind::Input, 0, b"enable")?)?;
     symbols.push(symbol(alloc, kind, position, name)?)?;
-    let comment = Seq::from_slice(alloc, b"free")?;
-    match AigerFile::new(alloc, model, symbols, Some(comment)) {
-        Ok(file) => Ok(Ok(file)),
-        Err(e) => Ok(Err((e.number(), e.place()))),
-    }
+    Ok(symbols)
 }
 
-/// How many symbols there are, how long the comment is, and the greatest variable.
-fn sizes(file: &AigerFile) -> (usize, Option<usize>, u32) {
+/// The toggle's file with these symbols and a comment.
+fn file_with(alloc: Global, symbols: Seq<Symbol>) -> Result<AigerFile, ReadError> {
+    let parts = parts_of(alloc, &TOGGLE)?;
+    let model = Model::from_parts(alloc, parts)?;
+    let comment = Seq::from_slice(alloc, b"free")?;
+    AigerFile::new(alloc, model, symbols, Some(comment))
+}
+
+/// How many symbols a file has, how long its comment is, and its greatest variable.
+type Sizes = (usize, Option<usize>, u32);
+
+fn sizes(file: &AigerFile) -> Sizes {
     (
         file.symbols().len(),
         file.comment().map(|bytes| bytes.len()),
@@ -255,13 +268,22 @@ fn sizes(file: &AigerFile) -> (usize, Option<usize>, u32) {
     )
 }
 
+/// The sizes of the toggle's file with a name of its input, one more symbol, and a comment.
+fn sizes_with(
+    alloc: Global,
+    kind: SymbolKind,
+    position: u32,
+    name: &[u8],
+) -> Result<Sizes, ReadError> {
+    let symbols = symbols(alloc, kind, position, name)?;
+    let file = file_with(alloc, symbols)?;
+    Ok(sizes(&file))
+}
+
 #[test]
-fn a_file_of_a_circuit_and_names(rt: HostRuntime) -> Result<(), Fail> {
-    match file_with(rt.alloc(), SymbolKind::Bad, 1, b"b 1")? {
-        Ok(file) => assert_eq!(rt; sizes(&file), (2, Some(4), 5)),
-        Err(refused) => assert_eq!(rt; refused, (0, 0)),
-    }
-    Ok(())
+fn a_file_of_a_circuit_and_names(rt: HostRuntime) {
+    let answer = sizes_with(rt.alloc(), SymbolKind::Bad, 1, b"b 1");
+    assert!(rt; answer == Ok((2, Some(4), 5)));
 }
 
 /// Which second symbol after an input's is refused: the kind, the position and the name.
@@ -273,33 +295,9 @@ static SECOND: [(SymbolKind, u32, &[u8]); 4] = [
 ];
 
 #[test]
-fn symbols_that_name_nothing(rt: HostRuntime) -> Result<(), Fail> {
+fn symbols_that_name_nothing(rt: HostRuntime) {
     for (kind, position, name) in &SECOND {
-        let refused = file_with(rt.alloc(), *kind, *position, name)?.err();
-        assert_eq!(rt; refused, Some((14, 1)));
+        let answer = sizes_with(rt.alloc(), *kind, *position, name);
+        assert!(rt; told(answer.err()) == Some((14, 1)), "{name:?}");
     }
-    Ok(())
-}
-
-/// Bytes, and whether they are a name.
-static NAMES: [(&[u8], bool); 3] = [(b"a b", true), (b"", false), (b"a\nb", false)];
-
-#[test]
-fn names_are_lines(rt: HostRuntime) {
-    for (bytes, wanted) in &NAMES {
-        assert_eq!(rt; is_name(bytes), *wanted);
-    }
-}
-
-/// A refusal's number and place.
-fn told(error: ReadError) -> (u8, u64) {
-    (error.number(), error.place())
-}
-
-#[test]
-fn errors_have_words(rt: HostRuntime) -> Result<(), Fail> {
-    let text = format!(in rt.alloc(); "{}", ReadError::Cyclic(7))?;
-    assert_eq!(rt; text.as_str(), "variable 7 leads into a cycle");
-    assert_eq!(rt; told(ReadError::TooLong), (1, 67_108_864));
-    Ok(())
 }

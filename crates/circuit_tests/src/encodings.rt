@@ -1,192 +1,173 @@
 //! Frames and unrollings of worked circuits, clause by clause.
 
-use base::Refused;
+use crate::questions::{HOLD, Question, asked};
 use cnf::{CnfError, extension, frame, unroll};
-use graph::{Gate, Latch, Lit, Model, Parts, Seq};
+use graph::Model;
 use lrat::Formula;
 use std::alloc::Global;
-use std::process::Abort;
 use std::test::Fail;
 
-/// A circuit as plain numbers, in the order of an AIGER file.
-struct Circuit<'a> {
-    max_var: u32,
-    inputs: &'a [u32],
-    latches: &'a [(u32, u32, u32)],
-    bad: &'a [u32],
-    constraints: &'a [u32],
-    gates: &'a [(u32, u32, u32)],
-}
-
-/// A latch that keeps its value 0.
-const HOLD: Circuit<'static> = Circuit {
-    max_var: 1,
-    inputs: &[],
-    latches: &[(2, 2, 0)],
-    bad: &[2],
-    constraints: &[],
-    gates: &[],
-};
-
 /// Latches that begin with 1, with 0 and with any value, an input, a constraint and a gate.
-const MIXED: Circuit<'static> = Circuit {
-    max_var: 5,
-    inputs: &[2],
-    latches: &[(4, 11, 1), (6, 4, 0), (8, 1, 8)],
-    bad: &[11, 0],
-    constraints: &[3, 8],
-    gates: &[(10, 5, 6)],
-};
+static MIXED: &[u8] = b"aag 5 1 3 0 1 2 2\n2\n4 11 1\n6 4\n8 1 8\n11\n0\n3\n8\n10 5 6\n";
 
-fn literals(alloc: Global, lits: &[u32]) -> Result<Seq<Lit>, Refused> {
-    let mut list = Seq::new(alloc);
-    for lit in lits {
-        list.push(Lit(*lit))?;
-    }
-    Ok(list)
+/// What is made of a circuit.
+#[derive(Clone, Copy, Debug, PartialEq, Eq)]
+enum Encoding {
+    /// the gates of a time, with the constant
+    Frame,
+    /// so many steps
+    Unrolling(u32),
+    /// what so many steps add, over the variables of three times
+    Extension(u32),
 }
 
-fn latches(alloc: Global, rows: &[(u32, u32, u32)]) -> Result<Seq<Latch>, Refused> {
-    let mut list = Seq::new(alloc);
-    for (lit, next, reset) in rows {
-        list.push(Latch {
-            lit: Lit(*lit),
-            next: Lit(*next),
-            reset: Lit(*reset),
-        })?;
-    }
-    Ok(list)
-}
-
-fn gates(alloc: Global, rows: &[(u32, u32, u32)]) -> Result<Seq<Gate>, Refused> {
-    let mut list = Seq::new(alloc);
-    for (lhs, rhs0, rhs1) in rows {
-        list.push(Gate {
-            lhs: Lit(*lhs),
-            rhs0: Lit(*rhs0),
-            rhs1: Lit(*rhs1),
-        })?;
-    }
-    Ok(list)
-}
-
-fn model(alloc: Global, circuit: &Circuit) -> Result<Model, CnfError> {
-    let parts = Parts {
-        max_var: circuit.max_var,
-        inputs: literals(alloc, circuit.inputs)?,
-        latches: latches(alloc, circuit.latches)?,
-        outputs: Seq::new(alloc),
-        bad: literals(alloc, circuit.bad)?,
-        constraints: literals(alloc, circuit.constraints)?,
-        justice: Seq::new(alloc),
-        fairness: Seq::new(alloc),
-        gates: gates(alloc, circuit.gates)?,
-    };
-    match Model::from_parts(alloc, parts) {
-        Ok(model) => Ok(model),
-        Err(_e) => Err(CnfError::Limit),
+/// The clauses that are made of a circuit.
+fn encoded(alloc: Global, circuit: &Model, encoding: Encoding) -> Result<Formula, CnfError> {
+    match encoding {
+        Encoding::Frame => Ok(frame(alloc, circuit)?),
+        Encoding::Unrolling(steps) => unroll(alloc, circuit, steps),
+        Encoding::Extension(steps) => {
+            let clauses = extension(alloc, circuit, steps)?;
+            Ok(Formula { vars: 6, clauses })
+        }
     }
 }
 
-/// The gates of a time, with the constant.
-fn frame_of(alloc: Global, circuit: &Circuit) -> Result<Formula, CnfError> {
-    Ok(frame(alloc, &model(alloc, circuit)?)?)
+/// Whether a formula has these clauses over so many variables.
+fn is_formula(formula: &Formula, vars: u32, wanted: &[&[i32]]) -> bool {
+    formula.vars == vars
+        && formula.clauses.len() == wanted.len()
+        && formula
+            .clauses
+            .as_slice()
+            .iter()
+            .zip(wanted)
+            .all(|(clause, literals)| clause.as_slice() == *literals)
 }
 
-/// So many steps.
-fn unrolled(alloc: Global, circuit: &Circuit, steps: u32) -> Result<Formula, CnfError> {
-    unroll(alloc, &model(alloc, circuit)?, steps)
+/// Whether what is made of a circuit has these clauses over so many variables.
+struct Wanted {
+    encoding: Encoding,
+    vars: u32,
+    clauses: &'static [&'static [i32]],
 }
 
-/// What so many steps add, over the variables of three times.
-fn extension_of(alloc: Global, circuit: &Circuit, steps: u32) -> Result<Formula, CnfError> {
-    let clauses = extension(alloc, &model(alloc, circuit)?, steps)?;
-    Ok(Formula { vars: 6, clauses })
-}
+impl Question for Wanted {
+    type Answer = bool;
 
-/// Compares the formula's clauses with these.
-fn compare(rt: &impl Abort, formula: &Formula, vars: u32, want: &[&[i32]]) {
-    assert_eq!(rt; formula.vars, vars);
-    assert_eq!(rt; formula.clauses.len(), want.len());
-    for (clause, literals) in formula.clauses.as_slice().iter().zip(want) {
-        assert_eq!(rt; clause.as_slice(), *literals);
+    fn answer(&self, alloc: Global, circuit: &Model) -> Result<bool, Fail> {
+        let formula = encoded(alloc, circuit, self.encoding)?;
+        Ok(is_formula(&formula, self.vars, self.clauses))
     }
 }
+
+/// The latch that holds: all of three times, what the first time has, and what the third adds to the first two.
+static OF_HOLD: [Wanted; 3] = [
+    Wanted {
+        encoding: Encoding::Unrolling(2),
+        vars: 6,
+        clauses: &[
+            &[-1],
+            &[2],
+            &[-3, 1],
+            &[3, -1],
+            &[4],
+            &[-5, 3],
+            &[5, -3],
+            &[6],
+        ],
+    },
+    Wanted {
+        encoding: Encoding::Extension(0),
+        vars: 6,
+        clauses: &[&[-1], &[2]],
+    },
+    Wanted {
+        encoding: Encoding::Extension(2),
+        vars: 6,
+        clauses: &[&[-5, 3], &[5, -3], &[6]],
+    },
+];
+
+/// Latches of each kind: a frame, and all of two times.
+static OF_MIXED: [Wanted; 2] = [
+    Wanted {
+        encoding: Encoding::Frame,
+        vars: 6,
+        clauses: &[&[6], &[-5, -2], &[-5, 3], &[5, 2, -3]],
+    },
+    Wanted {
+        encoding: Encoding::Unrolling(1),
+        vars: 12,
+        clauses: &[
+            &[2],
+            &[-3],
+            &[6],
+            &[-5, -2],
+            &[-5, 3],
+            &[5, 2, -3],
+            &[-1],
+            &[4],
+            &[-8, -5],
+            &[8, 5],
+            &[-9, 2],
+            &[9, -2],
+            &[-10, 6],
+            &[10, -6],
+            &[12],
+            &[-11, -8],
+            &[-11, 9],
+            &[11, 8, -9],
+            &[-7],
+            &[10],
+        ],
+    },
+];
 
 #[test]
-fn frames_a_gate(rt: HostRuntime) -> Result<(), Fail> {
-    let gates: &[&[i32]] = &[&[6], &[-5, -2], &[-5, 3], &[5, 2, -3]];
-    compare(&rt, &frame_of(rt.alloc(), &MIXED)?, 6, gates);
+fn clauses_of_circuits(rt: HostRuntime) -> Result<(), Fail> {
+    for wanted in &OF_HOLD {
+        assert!(rt; asked(rt.alloc(), HOLD, wanted)?);
+    }
+    for wanted in &OF_MIXED {
+        assert!(rt; asked(rt.alloc(), MIXED, wanted)?);
+    }
     Ok(())
 }
 
-/// A latch that holds, over three times.
-#[test]
-fn unrolls_a_latch_that_holds(rt: HostRuntime) -> Result<(), Fail> {
-    let alloc = rt.alloc();
-    let want: &[&[i32]] = &[
-        &[-1],
-        &[2],
-        &[-3, 1],
-        &[3, -1],
-        &[4],
-        &[-5, 3],
-        &[5, -3],
-        &[6],
-    ];
-    compare(&rt, &unrolled(alloc, &HOLD, 2)?, 6, want);
-    let longest = unrolled(alloc, &HOLD, 255)?;
-    assert_eq!(rt; (longest.vars, longest.clauses.len()), (512, 767));
-    assert!(rt; matches!(unrolled(alloc, &HOLD, 256), Err(CnfError::Limit)));
-    Ok(())
+/// The greatest variable and the number of clauses, or why there are none.
+#[derive(Clone, Copy)]
+struct Sizes {
+    encoding: Encoding,
 }
 
-/// Latches of each kind, over two times.
-#[test]
-fn unrolls_each_kind(rt: HostRuntime) -> Result<(), Fail> {
-    let want: &[&[i32]] = &[
-        &[2],
-        &[-3],
-        &[6],
-        &[-5, -2],
-        &[-5, 3],
-        &[5, 2, -3],
-        &[-1],
-        &[4],
-        &[-8, -5],
-        &[8, 5],
-        &[-9, 2],
-        &[9, -2],
-        &[-10, 6],
-        &[10, -6],
-        &[12],
-        &[-11, -8],
-        &[-11, 9],
-        &[11, 8, -9],
-        &[-7],
-        &[10],
-    ];
-    compare(&rt, &unrolled(rt.alloc(), &MIXED, 1)?, 12, want);
-    Ok(())
+impl Question for Sizes {
+    type Answer = Result<(u32, usize), CnfError>;
+
+    fn answer(
+        &self,
+        alloc: Global,
+        circuit: &Model,
+    ) -> Result<Result<(u32, usize), CnfError>, Fail> {
+        match encoded(alloc, circuit, self.encoding) {
+            Ok(formula) => Ok(Ok((formula.vars, formula.clauses.len()))),
+            Err(e) => Ok(Err(e)),
+        }
+    }
 }
 
-#[test]
-fn tells_refusals_by_number(rt: HostRuntime) -> Result<(), Fail> {
-    let limit = CnfError::Limit;
-    assert_eq!(rt; (limit.number(), limit.place()), (4, 0));
-    let text = format!(in rt.alloc(); "{limit}")?;
-    assert_eq!(rt; text.as_str(), "more than 255 steps");
-    Ok(())
-}
+/// The longest encodings of the latch that holds, and those that are too long.
+static LONG: [(Encoding, Result<(u32, usize), CnfError>); 3] = [
+    (Encoding::Unrolling(255), Ok((512, 767))),
+    (Encoding::Unrolling(256), Err(CnfError::Limit)),
+    (Encoding::Extension(256), Err(CnfError::Limit)),
+];
 
-/// A latch that holds: what the first time has, and what the third adds to the first two.
 #[test]
-fn extends_an_unrolling(rt: HostRuntime) -> Result<(), Fail> {
-    let alloc = rt.alloc();
-    let first: &[&[i32]] = &[&[-1], &[2]];
-    compare(&rt, &extension_of(alloc, &HOLD, 0)?, 6, first);
-    let third: &[&[i32]] = &[&[-5, 3], &[5, -3], &[6]];
-    compare(&rt, &extension_of(alloc, &HOLD, 2)?, 6, third);
-    assert!(rt; matches!(extension_of(alloc, &HOLD, 256), Err(CnfError::Limit)));
+fn steps_have_a_limit(rt: HostRuntime) -> Result<(), Fail> {
+    for (encoding, wanted) in &LONG {
+        let encoding = *encoding;
+        assert!(rt; asked(rt.alloc(), HOLD, &Sizes { encoding })? == *wanted);
+    }
     Ok(())
 }

@@ -1,6 +1,7 @@
 //! Tests of circuits and of what is made of them: values, clauses, shadow circuits, certificates, verdicts.
 //!
-//! They stand over the public calls alone, in a crate of their own, so that no library is proved twice.
+//! They stand over the public calls alone, in a crate of their own, so that no library is proved twice. A test
+//! asserts small answers, and one function (`questions::asked`) has each circuit: so the proof of each is short.
 #![tactic(auto)]
 
 #[cfg(test)]
@@ -10,15 +11,15 @@ mod checks;
 #[cfg(test)]
 mod circuits;
 #[cfg(test)]
-mod commands;
-#[cfg(test)]
 mod encodings;
 #[cfg(test)]
 mod literals;
 #[cfg(test)]
-mod refutations;
+mod questions;
 #[cfg(test)]
-mod replays;
+mod refusals;
+#[cfg(test)]
+mod refutations;
 #[cfg(test)]
 mod shadow_circuits;
 #[cfg(test)]

@@ -1,4 +1,5 @@
-//! Worked proofs with their answers, and that each call succeeds where there is memory.
+//! Lines, sections, derivations and trails, and that each call succeeds where there is memory. `worked_proofs` has
+//! whole proofs.
 
 ghost use Rattle.std.specs.Prelude.{◌≡◌, ◌+◌, ◌<◌, ◌^◌, length, IfOk};
 ghost use Rattle.lrat.specs.Limits.{IsFormula};
@@ -8,10 +9,9 @@ use crate::literals::are_literals;
 use base::{Refused, Seq};
 use lrat::{
     Clause, Clauses, Fault, Formula, Line, Lookup, LratError, Proof, Refuter, StepError, Trail,
-    derive, derive_with, refutes,
+    derive, derive_with,
 };
 use std::alloc::Global;
-use std::process::Abort;
 use std::test::Fail;
 
 /// A line in a table.
@@ -66,86 +66,46 @@ fn formula(alloc: Global, vars: u16, clauses: &[&[i32]]) -> Result<Formula, Lrat
     })
 }
 
-/// Checks each proof of the table, and compares the number and the line of its refusal.
-fn compare(
-    rt: &impl Abort,
-    alloc: Global,
-    formula: &Formula,
-    table: &[(&[Row], Option<(u8, u64)>)],
-) -> Result<(), Fail>
-    requires { IsFormula formula.now }
-{
-    for (i, (rows, want)) in table.iter().enumerate() {
-        let lines = proof(alloc, rows)?;
-        let answer = match refutes(alloc, formula, &lines) {
-            Ok(()) => None,
-            Err(e) => Some((e.number(), e.place())),
-        };
-        assert_eq!(rt; answer, *want, "at {i}");
-    }
-    Ok(())
+/// Lines, and whether they have no zeros and are in the limits.
+static LINES: [(Row<'static>, bool); 11] = [
+    (
+        Row::Add(1, &[i32::MAX, -i32::MAX], &[4_294_967_295, -4_294_967_295]),
+        true,
+    ),
+    (Row::Add(4_294_967_295, &[], &[]), true),
+    (Row::Delete(1, &[]), true),
+    (Row::Add(0, &[1], &[1]), false),
+    (Row::Add(1, &[1, 0], &[1]), false),
+    (Row::Add(1, &[i32::MIN], &[1]), false),
+    (Row::Add(1, &[1], &[1, 0]), false),
+    (Row::Add(1, &[1], &[4_294_967_296]), false),
+    (Row::Add(1, &[1], &[-4_294_967_296]), false),
+    (Row::Delete(0, &[1]), false),
+    (Row::Delete(1, &[1, 0]), false),
+];
+
+/// What a proof answers to one more line.
+fn pushed(alloc: Global, to: &mut Proof, row: Row) -> Result<Result<(), LratError>, Refused> {
+    let line = line(alloc, row)?;
+    Ok(to.push(line))
 }
 
-/// All four clauses over two variables, with the accepted proof and changed copies of it.
-#[test]
-fn refuses_changed_proofs_over_two_variables(rt: HostRuntime) -> Result<(), Fail> {
-    let all = formula(rt.alloc(), 2, &[&[1, 2], &[1, -2], &[-1, 2], &[-1, -2]])?;
-    let first = Row::Add(5, &[1], &[1, 2]);
-    compare(
-        &rt,
-        rt.alloc(),
-        &all,
-        &[
-            (&[first, Row::Add(6, &[], &[5, 3, 4])], None),
-            (&[first, Row::Add(6, &[], &[5, 3])], Some((44, 1))),
-            (&[first, Row::Add(6, &[], &[3, 4])], Some((42, 1))),
-            (&[first, Row::Add(6, &[], &[5, 3, 4, 4])], Some((45, 1))),
-            (&[first, Row::Add(6, &[], &[5, 5, 3, 4])], Some((43, 1))),
-            (&[first, Row::Add(6, &[], &[3, 5, 3, 4])], Some((42, 1))),
-            (&[first, Row::Add(6, &[], &[3, 5, 4])], Some((42, 1))),
-            (&[Row::Add(6, &[], &[5, 3, 4])], Some((40, 0))),
-            (&[first], Some((49, 1))),
-            (
-                &[Row::Add(5, &[], &[1, 2]), Row::Add(6, &[], &[5, 3, 4])],
-                Some((42, 0)),
-            ),
-            (&[first, Row::Add(5, &[], &[5, 3, 4])], Some((41, 1))),
-            (&[first, Row::Add(6, &[], &[-5, 3, 4])], Some((47, 1))),
-        ],
-    )
-}
-
-#[test]
-fn takes_only_lines_without_zeros_and_in_the_limits(rt: HostRuntime) -> Result<(), Fail> {
-    let rows: &[(Row, bool)] = &[
-        (
-            Row::Add(1, &[i32::MAX, -i32::MAX], &[4_294_967_295, -4_294_967_295]),
-            true,
-        ),
-        (Row::Add(4_294_967_295, &[], &[]), true),
-        (Row::Delete(1, &[]), true),
-        (Row::Add(0, &[1], &[1]), false),
-        (Row::Add(1, &[1, 0], &[1]), false),
-        (Row::Add(1, &[i32::MIN], &[1]), false),
-        (Row::Add(1, &[1], &[1, 0]), false),
-        (Row::Add(1, &[1], &[4_294_967_296]), false),
-        (Row::Add(1, &[1], &[-4_294_967_296]), false),
-        (Row::Delete(0, &[1]), false),
-        (Row::Delete(1, &[1, 0]), false),
-    ];
-    let mut taken = Proof::new(rt.alloc());
-    for (i, (row, is_line)) in rows.iter().enumerate() {
-        let answer = taken.push(line(rt.alloc(), *row)?);
-        if *is_line {
-            assert_eq!(rt; answer, Ok(()), "at {i}");
-        } else {
-            let refusal = LratError::Number { place: 0 };
-            assert_eq!(rt; answer, Err(refusal), "at {i}");
-            assert_eq!(rt; (refusal.number(), refusal.place()), (3, 0));
+/// How many lines are taken, where each is taken or refused as it should be.
+fn taken(alloc: Global) -> Result<Option<usize>, Refused> {
+    let mut taken = Proof::new(alloc);
+    for (row, is_line) in &LINES {
+        let refused = Err(LratError::Number { place: 0 });
+        let wanted = if *is_line { Ok(()) } else { refused };
+        if pushed(alloc, &mut taken, *row)? != wanted {
+            return Ok(None);
         }
     }
-    assert_eq!(rt; taken.lines().len(), 3);
-    Ok(())
+    Ok(Some(taken.lines().len()))
+}
+
+#[test]
+fn takes_only_lines_without_zeros_and_in_the_limits(rt: HostRuntime) {
+    assert!(rt; taken(rt.alloc()) == Ok(Some(3)));
 }
 
 /// Begins anew with one unit, and feeds the lines.
@@ -161,76 +121,122 @@ fn section(alloc: Global, refuter: &mut Refuter, unit: i32, lines: &Proof) -> Re
     Ok(())
 }
 
+/// Whether each section over two variables is answered as it should be: the refusal of a section stays.
+fn are_answered(
+    alloc: Global,
+    refuter: &mut Refuter,
+    closing: &Proof,
+    deleting: &Proof,
+) -> Result<bool, Fault>
+    requires vars { refuter.old.base.vars ≡ 2 }
+    requires few { refuter.old.base.top + 1 < 2 ^ 32 }
+{
+    section(alloc, refuter, 1, closing)?;
+    let first = refuter.finish();
+    section(alloc, refuter, 1, deleting)?;
+    section(alloc, refuter, 1, closing)?;
+    let second = refuter.finish();
+    let other = section(alloc, refuter, -1, closing);
+    let again = section(alloc, refuter, 1, closing);
+    let refused = Err(Fault::NotFalse);
+    Ok(
+        (first, second) == (Ok(()), Ok(()))
+            && (other, again, refuter.finish()) == (refused, refused, refused),
+    )
+}
+
+/// The same, begun with a formula of two clauses.
+fn are_answered_of(
+    alloc: Global,
+    shared: &Formula,
+    closing: &Proof,
+    deleting: &Proof,
+) -> Result<bool, Fault>
+    requires is_formula { IsFormula shared.now }
+    requires vars { shared.now.vars ≡ 2 }
+    requires count { length shared.now.clauses ≡ 2 }
+{
+    let mut refuter = Refuter::new(alloc, shared)?;
+    are_answered(alloc, &mut refuter, closing, deleting)
+}
+
+/// The same, with a section that closes and one that deletes.
+fn sections_are_answered(alloc: Global, shared: &Formula) -> Result<bool, Fail>
+    requires is_formula { IsFormula shared.now }
+    requires vars { shared.now.vars ≡ 2 }
+    requires count { length shared.now.clauses ≡ 2 }
+{
+    let closing = proof(alloc, &[Row::Add(4, &[], &[2, 3])])?;
+    let deleting = proof(alloc, &[Row::Delete(3, &[2, 3])])?;
+    Ok(are_answered_of(alloc, shared, &closing, &deleting)?)
+}
+
 /// Many refutations over two shared clauses, and the refusal that stays.
 #[test]
 fn begins_anew_over_shared_clauses(rt: HostRuntime) -> Result<(), Fail> {
     let shared = formula(rt.alloc(), 2, &[&[2], &[-1]])?;
-    let closing = proof(rt.alloc(), &[Row::Add(4, &[], &[2, 3])])?;
-    let deleting = proof(rt.alloc(), &[Row::Delete(3, &[2, 3])])?;
-    let mut refuter = Refuter::new(rt.alloc(), &shared)?;
-    section(rt.alloc(), &mut refuter, 1, &closing)?;
-    assert_eq!(rt; refuter.finish(), Ok(()));
-    section(rt.alloc(), &mut refuter, 1, &deleting)?;
-    section(rt.alloc(), &mut refuter, 1, &closing)?;
-    assert_eq!(rt; refuter.finish(), Ok(()));
-    let answer = section(rt.alloc(), &mut refuter, -1, &closing);
-    assert_eq!(rt; answer, Err(Fault::NotFalse));
-    let answer = section(rt.alloc(), &mut refuter, 1, &closing);
-    assert_eq!(rt; answer, Err(Fault::NotFalse));
-    assert_eq!(rt; refuter.finish(), Err(Fault::NotFalse));
+    assert!(rt; sections_are_answered(rt.alloc(), &shared)?);
     Ok(())
 }
 
-#[test]
-fn derives_a_clause(rt: HostRuntime) -> Result<(), Fail> {
-    let mut clauses = Clauses::new(rt.alloc(), 3);
-    clauses.add(rt.alloc(), 7, &[1, 2])?;
-    clauses.add(rt.alloc(), 9, &[1, -2, 3])?;
-    assert_eq!(rt; derive(rt.alloc(), &clauses, &[3, 1], &[7, 9]), Ok(()));
+/// Whether a clause is derived from two others and not from fewer literals, and one that was removed is not known.
+fn is_derived(alloc: Global) -> Result<bool, Fail> {
+    let mut clauses = Clauses::new(alloc, 3);
+    clauses.add(alloc, 7, &[1, 2])?;
+    clauses.add(alloc, 9, &[1, -2, 3])?;
+    let derived = derive(alloc, &clauses, &[3, 1], &[7, 9]);
+    let refused = derive(alloc, &clauses, &[1], &[7, 9]);
+    let mut trail = Trail::new(alloc, 3)?;
+    let with = derive_with(&mut trail, &clauses, &[1, 3], &[7, 9]);
+    let removed = (
+        clauses.remove(7),
+        clauses.remove(7),
+        clauses.get(7).is_none(),
+    );
+    let unknown = derive_with(&mut trail, &clauses, &[1, 3], &[7, 9]);
     let refusal = StepError {
         fault: Fault::NotFalse,
         line: 0,
     };
-    assert_eq!(rt; derive(rt.alloc(), &clauses, &[1], &[7, 9]), Err(refusal));
-    let mut trail = Trail::new(rt.alloc(), 3)?;
-    assert_eq!(rt; derive_with(&mut trail, &clauses, &[1, 3], &[7, 9]), Ok(()));
-    assert!(rt; clauses.remove(7));
-    assert!(rt; !clauses.remove(7));
-    assert!(rt; clauses.get(7).is_none());
-    let answer = derive_with(&mut trail, &clauses, &[1, 3], &[7, 9]);
-    assert_eq!(rt; answer, Err(Fault::UnknownId));
+    Ok(
+        (derived, refused, with) == (Ok(()), Err(refusal), Ok(()))
+            && removed == (true, false, true)
+            && unknown == Err(Fault::UnknownId),
+    )
+}
+
+#[test]
+fn derives_a_clause(rt: HostRuntime) -> Result<(), Fail> {
+    assert!(rt; is_derived(rt.alloc())?);
     Ok(())
+}
+
+/// Whether a trail has the literals that were set and denied, and after a cut those before it.
+fn is_set_back(alloc: Global) -> Result<bool, Fail> {
+    let mut trail = Trail::new(alloc, 3)?;
+    trail.set(1)?;
+    trail.deny(3)?;
+    trail.set(-2)?;
+    let literals = trail.literals() == [1, -3, -2].as_slice();
+    let set = (
+        trail.holds(-3),
+        trail.denies(3),
+        trail.denies(2),
+        trail.holds(3),
+    );
+    trail.truncate(1);
+    let cut = (trail.holds(1), trail.denies(3), trail.denies(2));
+    trail.clear();
+    Ok(
+        literals
+            && set == (true, true, true, false)
+            && cut == (true, false, false)
+            && trail.len() == 0,
+    )
 }
 
 #[test]
 fn a_trail_goes_back(rt: HostRuntime) -> Result<(), Fail> {
-    let mut trail = Trail::new(rt.alloc(), 3)?;
-    trail.set(1)?;
-    trail.deny(3)?;
-    trail.set(-2)?;
-    assert_eq!(rt; trail.literals(), [1, -3, -2].as_slice());
-    assert!(rt; trail.holds(-3) && trail.denies(3) && trail.denies(2) && !trail.holds(3));
-    trail.truncate(1);
-    assert!(rt; trail.holds(1) && !trail.denies(3) && !trail.denies(2));
-    trail.clear();
-    assert_eq!(rt; trail.len(), 0);
-    Ok(())
-}
-
-#[test]
-fn tells_refusals_in_words(rt: HostRuntime) -> Result<(), Fail> {
-    let e = StepError {
-        fault: Fault::SeveralLeft,
-        line: 12,
-    };
-    assert_eq!(rt;
-        format!(in rt.alloc(); "{e}")?.as_str(),
-        "line 12: a hint leaves several literals"
-    );
-    let e = LratError::Truncated { place: 5 };
-    assert_eq!(rt;
-        format!(in rt.alloc(); "{e}")?.as_str(),
-        "byte 5: the text ends too early"
-    );
+    assert!(rt; is_set_back(rt.alloc())?);
     Ok(())
 }

@@ -1,20 +1,45 @@
 //! What no clause says: which runs and invariants are believed, and that calls succeed where there is memory.
 
+use crate::questions::{HOLD, Question, asked};
 use base::{Refused, boxed, push};
 use checker::check;
 use engine::{Engine, EngineError, Finding, Reason};
-use graph::{Budget, Latch, Lit, Model, Parts, Property, Seq, ToVec};
+use graph::{Budget, Lit, Model, Property, Seq, ToVec};
 use std::alloc::Global;
 use std::test::Fail;
-use verdict::{Verdict, decide, show};
+use verdict::{DecideError, Verdict, decide, show};
 
-/// An engine that always finds the same run of one latch, whether it is one or not.
-#[derive(Drop)]
-struct Insists {
-    /// the first value of the latch
-    first: bool,
-    /// how many times the run has
-    times: u8,
+/// A latch that toggles, which is bad where it is set.
+static TOGGLE: &[u8] = b"aag 1 0 1 0 0 1\n2 3\n2\n";
+
+/// An engine that always finds the same, whether it is so or not.
+#[derive(Clone, Copy, Drop)]
+enum Insists {
+    /// a run of one latch, by the latch's first value and how many times it has
+    Run(bool, u8),
+    /// that one clause of one literal is an invariant
+    Invariant(u32),
+    /// nothing, for this reason
+    Unknown(Reason),
+}
+
+/// A run of one latch without inputs.
+fn run(alloc: Global, first: bool, times: u8) -> Result<Finding, Refused> {
+    let mut inputs = Seq::new(alloc);
+    for _ in 0..times {
+        inputs.push(Seq::new(alloc))?;
+    }
+    Ok(Finding::Run {
+        initial: Seq::from_slice(alloc, &[first])?,
+        inputs,
+    })
+}
+
+/// One clause of one literal.
+fn invariant(alloc: Global, literal: u32) -> Result<Finding, Refused> {
+    let mut clauses = Seq::new(alloc);
+    clauses.push(Seq::from_slice(alloc, &[Lit(literal)])?)?;
+    Ok(Finding::Invariant(clauses))
 }
 
 impl Engine for Insists {
@@ -26,127 +51,175 @@ impl Engine for Insists {
         _circuit: &Model,
         _budget: &mut Budget,
     ) -> Result<Finding, EngineError> {
-        let mut inputs = Seq::new(alloc);
-        for _ in 0..self.times {
-            inputs.push(Seq::new(alloc))?;
+        match *self {
+            Insists::Run(first, times) => Ok(run(alloc, first, times)?),
+            Insists::Invariant(literal) => Ok(invariant(alloc, literal)?),
+            Insists::Unknown(reason) => Ok(Finding::Unknown(reason)),
         }
-        Ok(Finding::Run {
-            initial: Seq::from_slice(alloc, &[self.first])?,
-            inputs,
-        })
     }
 }
 
-/// A latch that begins with 0, takes over the value of `next`, and is bad where it is set.
-fn latch(alloc: Global, next: u32) -> Result<Parts, Refused> {
-    let latch = Latch {
-        lit: Lit(2),
-        next: Lit(next),
-        reset: Lit(0),
-    };
-    Ok(Parts {
-        max_var: 1,
-        inputs: Seq::new(alloc),
-        latches: Seq::from_slice(alloc, &[latch])?,
-        outputs: Seq::new(alloc),
-        bad: Seq::from_slice(alloc, &[Lit(2)])?,
-        constraints: Seq::new(alloc),
-        justice: Seq::new(alloc),
-        fairness: Seq::new(alloc),
-        gates: Seq::new(alloc),
-    })
+/// What is decided of a property by engines that insist, and how much of the budget is spent.
+#[derive(Clone, Copy)]
+struct Asked {
+    property: Property,
+    engines: &'static [Insists],
+    steps: u64,
 }
 
-/// A latch by its next literal, the runs that engines insist on, and the text of the verdict with its
-/// status.
-static VERDICTS: [(u32, &[(bool, u8)], &[u8], u8); 5] = [
-    (2, &[], b"2\nb0\n.\n", 2),
-    (2, &[(true, 1)], b"2\nb0\n.\n", 2),
-    (3, &[(false, 2)], b"1\nb0\n0\n\n\n.\n", 1),
-    (3, &[(true, 1), (false, 4)], b"1\nb0\n0\n\n\n\n\n.\n", 1),
-    (3, &[(false, 3), (false, 0)], b"2\nb0\n.\n", 2),
+impl Question for Asked {
+    type Answer = (Result<Verdict, DecideError>, u64);
+
+    fn answer(
+        &self,
+        alloc: Global,
+        circuit: &Model,
+    ) -> Result<(Result<Verdict, DecideError>, u64), Fail> {
+        let mut engines: Vec<Box<dyn Engine>> = Vec::new(alloc);
+        for insists in self.engines {
+            let engine: Box<dyn Engine> = boxed(alloc, *insists)?;
+            push(&mut engines, engine)?;
+        }
+        let mut budget = Budget::new(self.steps);
+        let verdict = decide(
+            alloc,
+            circuit,
+            self.property,
+            engines.as_mut_slice(),
+            &mut budget,
+        );
+        Ok((verdict, budget.spent()))
+    }
+}
+
+/// What is decided of the first bad literal.
+fn decided(
+    alloc: Global,
+    circuit: &[u8],
+    engines: &'static [Insists],
+    steps: u64,
+) -> Result<(Result<Verdict, DecideError>, u64), Fail> {
+    let question = Asked {
+        property: Property::Bad(0),
+        engines,
+        steps,
+    };
+    asked(alloc, circuit, &question)
+}
+
+/// A circuit, the runs that engines insist on, and the text of the verdict with its status.
+static RUNS: [(&[u8], &[Insists], &[u8], u8); 5] = [
+    (b"aag 1 0 1 0 0 1\n2 2\n2\n", &[], b"2\nb0\n.\n", 2),
+    (
+        b"aag 1 0 1 0 0 1\n2 2\n2\n",
+        &[Insists::Run(true, 1)],
+        b"2\nb0\n.\n",
+        2,
+    ),
+    (
+        b"aag 1 0 1 0 0 1\n2 3\n2\n",
+        &[Insists::Run(false, 2)],
+        b"1\nb0\n0\n\n\n.\n",
+        1,
+    ),
+    (
+        b"aag 1 0 1 0 0 1\n2 3\n2\n",
+        &[Insists::Run(true, 1), Insists::Run(false, 4)],
+        b"1\nb0\n0\n\n\n\n\n.\n",
+        1,
+    ),
+    (
+        b"aag 1 0 1 0 0 1\n2 3\n2\n",
+        &[Insists::Run(false, 3), Insists::Run(false, 0)],
+        b"2\nb0\n.\n",
+        2,
+    ),
 ];
 
-/// The text of the verdict with its status, and what was spent.
-fn decided(alloc: Global, next: u32, runs: &[(bool, u8)]) -> Result<(ToVec, u8, u64), Fail> {
-    let model = Model::from_parts(alloc, latch(alloc, next)?)?;
-    let mut engines: Vec<Box<dyn Engine>> = Vec::new(alloc);
-    for (first, times) in runs {
-        let engine: Box<dyn Engine> = boxed(
-            alloc,
-            Insists {
-                first: *first,
-                times: *times,
-            },
-        )?;
-        push(&mut engines, engine)?;
-    }
-    let mut budget = Budget::new(7);
-    let property = Property::Bad(0);
-    let verdict = decide(alloc, &model, property, engines.as_mut_slice(), &mut budget)?;
+/// The status of a verdict, and whether it is told by this text.
+fn shown(alloc: Global, verdict: &Verdict, text: &[u8]) -> Result<(u8, bool), Fail> {
     let mut out = ToVec::new(alloc);
-    let status = show(property, &verdict, &mut out)?;
-    Ok((out, status, budget.spent()))
+    let status = show(Property::Bad(0), verdict, &mut out)?;
+    Ok((status, out.as_slice() == text))
+}
+
+/// The same where engines insist on these runs, with what is spent.
+fn run_shown(
+    alloc: Global,
+    circuit: &[u8],
+    engines: &'static [Insists],
+    text: &[u8],
+) -> Result<((u8, bool), u64), Fail> {
+    let (verdict, spent) = decided(alloc, circuit, engines, 7)?;
+    Ok((shown(alloc, &verdict?, text)?, spent))
 }
 
 #[test]
 fn runs_are_replayed(rt: HostRuntime) -> Result<(), Fail> {
-    for (next, runs, text, status) in &VERDICTS {
-        let (out, answer, spent) = decided(rt.alloc(), *next, runs)?;
-        assert_eq!(rt; out.as_slice(), *text);
-        assert_eq!(rt; (answer, spent), (*status, 0));
+    for (circuit, engines, text, status) in &RUNS {
+        let answer = run_shown(rt.alloc(), circuit, engines, text)?;
+        assert!(rt; answer == ((*status, true), 0), "{text:?}");
     }
     Ok(())
 }
 
-/// An engine that knows nothing, and says why.
-#[derive(Drop)]
-struct Tells {
-    reason: Reason,
-}
-
-impl Engine for Tells {
-    ghost honest = { λ _. ⊥ };
-
-    fn find(
-        &mut self,
-        _alloc: Global,
-        _circuit: &Model,
-        _budget: &mut Budget,
-    ) -> Result<Finding, EngineError> {
-        Ok(Finding::Unknown(self.reason))
-    }
-}
-
-/// The reasons that engines tell, and the one that is told in the end.
-static REASONS: [(&[Reason], Reason); 5] = [
-    (&[Reason::Depth(5), Reason::Depth(2)], Reason::Depth(5)),
-    (&[Reason::Depth(2), Reason::Depth(5)], Reason::Depth(5)),
-    (&[Reason::Budget, Reason::Depth(2)], Reason::Budget),
-    (&[Reason::Depth(2), Reason::Budget], Reason::Budget),
-    (&[Reason::Depth(2), Reason::NoEvidence], Reason::Depth(2)),
+/// Engines that tell reasons, and the reason that is told in the end.
+static REASONS: [(&[Insists], Reason); 5] = [
+    (
+        &[
+            Insists::Unknown(Reason::Depth(5)),
+            Insists::Unknown(Reason::Depth(2)),
+        ],
+        Reason::Depth(5),
+    ),
+    (
+        &[
+            Insists::Unknown(Reason::Depth(2)),
+            Insists::Unknown(Reason::Depth(5)),
+        ],
+        Reason::Depth(5),
+    ),
+    (
+        &[
+            Insists::Unknown(Reason::Budget),
+            Insists::Unknown(Reason::Depth(2)),
+        ],
+        Reason::Budget,
+    ),
+    (
+        &[
+            Insists::Unknown(Reason::Depth(2)),
+            Insists::Unknown(Reason::Budget),
+        ],
+        Reason::Budget,
+    ),
+    (
+        &[
+            Insists::Unknown(Reason::Depth(2)),
+            Insists::Unknown(Reason::NoEvidence),
+        ],
+        Reason::Depth(2),
+    ),
 ];
 
-/// The reason that is told where engines tell these.
-fn reason_told(alloc: Global, reasons: &[Reason]) -> Result<Option<Reason>, Fail> {
-    let model = Model::from_parts(alloc, latch(alloc, 2)?)?;
-    let mut engines: Vec<Box<dyn Engine>> = Vec::new(alloc);
-    for reason in reasons {
-        let engine: Box<dyn Engine> = boxed(alloc, Tells { reason: *reason })?;
-        push(&mut engines, engine)?;
+/// The reason of a verdict that is unknown.
+fn reason_of(verdict: &Verdict) -> Option<Reason> {
+    match verdict {
+        Verdict::Unknown(reason) => Some(*reason),
+        _ => None,
     }
-    let mut budget = Budget::new(7);
-    let property = Property::Bad(0);
-    match decide(alloc, &model, property, engines.as_mut_slice(), &mut budget)? {
-        Verdict::Unknown(reason) => Ok(Some(reason)),
-        _ => Ok(None),
-    }
+}
+
+/// The reason that is told where engines insist on these.
+fn reason_told(alloc: Global, engines: &'static [Insists]) -> Result<Option<Reason>, Fail> {
+    let (verdict, _) = decided(alloc, HOLD, engines, 7)?;
+    Ok(reason_of(&verdict?))
 }
 
 #[test]
 fn reasons_are_weighed(rt: HostRuntime) -> Result<(), Fail> {
-    for (reasons, told) in &REASONS {
-        assert_eq!(rt; reason_told(rt.alloc(), reasons)?, Some(*told));
+    for (engines, told) in &REASONS {
+        assert!(rt; reason_told(rt.alloc(), engines)? == Some(*told));
     }
     Ok(())
 }
@@ -160,80 +233,74 @@ static UNASKED: [(Property, (u8, u64)); 3] = [
 ];
 
 fn unasked(alloc: Global, property: Property) -> Result<(u8, u64), Fail> {
-    let model = Model::from_parts(alloc, latch(alloc, 2)?)?;
-    let mut engines: Vec<Box<dyn Engine>> = Vec::new(alloc);
-    let mut budget = Budget::new(7);
-    match decide(alloc, &model, property, engines.as_mut_slice(), &mut budget) {
-        Ok(Verdict::Unknown(Reason::NoEvidence)) => Ok((0, budget.spent())),
-        Ok(_) => Ok((255, 0)),
-        Err(e) => Ok((e.number(), e.place())),
+    let question = Asked {
+        property,
+        engines: &[],
+        steps: 7,
+    };
+    match asked(alloc, HOLD, &question)? {
+        (Ok(Verdict::Unknown(Reason::NoEvidence)), spent) => Ok((0, spent)),
+        (Ok(_), _) => Ok((255, 0)),
+        (Err(e), _) => Ok((e.number(), e.place())),
     }
 }
 
 #[test]
 fn without_engines(rt: HostRuntime) -> Result<(), Fail> {
     for (property, wanted) in &UNASKED {
-        assert_eq!(rt; unasked(rt.alloc(), *property)?, *wanted);
+        assert!(rt; unasked(rt.alloc(), *property)? == *wanted);
     }
     Ok(())
 }
 
-/// An engine that claims that one clause of one literal is an invariant.
-#[derive(Drop)]
-struct Claims {
-    literal: u32,
+/// Whether a verdict has a certificate that the checker accepts.
+#[derive(Clone, Copy)]
+struct Accepted<'a> {
+    verdict: &'a Verdict,
 }
 
-impl Engine for Claims {
-    ghost honest = { λ _. ⊥ };
+impl Question for Accepted<'_> {
+    type Answer = bool;
 
-    fn find(
-        &mut self,
-        alloc: Global,
-        _circuit: &Model,
-        _budget: &mut Budget,
-    ) -> Result<Finding, EngineError> {
-        let mut clauses = Seq::new(alloc);
-        clauses.push(Seq::from_slice(alloc, &[Lit(self.literal)])?)?;
-        Ok(Finding::Invariant(clauses))
+    fn answer(&self, alloc: Global, circuit: &Model) -> Result<bool, Fail> {
+        match self.verdict {
+            Verdict::Safe(certificate) => Ok(check(alloc, circuit, certificate).is_ok()),
+            _ => Ok(false),
+        }
     }
 }
 
-/// A latch by its next literal, the literal that is claimed to hold always, the budget, and what is
-/// answered: the status, and whether there is a certificate of that clause.
-static CLAIMS: [(u32, u32, u64, (u8, bool)); 5] = [
-    (2, 3, 1_000, (0, true)),
-    (2, 3, 0, (2, false)),
-    (3, 3, 1_000, (2, false)),
-    (2, 2, 1_000, (2, false)),
-    (2, 1, 1_000, (2, false)),
+/// Whether the latch toggles, the engine that claims an invariant, the budget, and what is answered: the status, and
+/// whether there is a certificate of that clause.
+static CLAIMS: [(bool, &[Insists], u64, (u8, bool)); 5] = [
+    (false, &[Insists::Invariant(3)], 1_000, (0, true)),
+    (false, &[Insists::Invariant(3)], 0, (2, false)),
+    (true, &[Insists::Invariant(3)], 1_000, (2, false)),
+    (false, &[Insists::Invariant(2)], 1_000, (2, false)),
+    (false, &[Insists::Invariant(1)], 1_000, (2, false)),
 ];
 
-/// Whether there is a certificate that the checker accepts.
-fn is_accepted(alloc: Global, model: &Model, verdict: &Verdict) -> bool {
-    match verdict {
-        Verdict::Safe(certificate) => check(alloc, model, certificate).is_ok(),
-        _ => false,
-    }
-}
-
 /// The verdict's status, and whether it has a certificate that the checker accepts.
-fn claimed(alloc: Global, next: u32, literal: u32, steps: u64) -> Result<(u8, bool), Fail> {
-    let model = Model::from_parts(alloc, latch(alloc, next)?)?;
-    let mut engines: Vec<Box<dyn Engine>> = Vec::new(alloc);
-    let engine: Box<dyn Engine> = boxed(alloc, Claims { literal })?;
-    push(&mut engines, engine)?;
-    let mut budget = Budget::new(steps);
-    let property = Property::Bad(0);
-    let verdict = decide(alloc, &model, property, engines.as_mut_slice(), &mut budget)?;
-    let status = show(property, &verdict, &mut ToVec::new(alloc))?;
-    Ok((status, is_accepted(alloc, &model, &verdict)))
+fn claimed(
+    alloc: Global,
+    toggles: bool,
+    engines: &'static [Insists],
+    steps: u64,
+) -> Result<(u8, bool), Fail> {
+    let circuit = if toggles { TOGGLE } else { HOLD };
+    let (verdict, _) = decided(alloc, circuit, engines, steps)?;
+    let verdict = verdict?;
+    let (status, _) = shown(alloc, &verdict, b"")?;
+    Ok((
+        status,
+        asked(alloc, circuit, &Accepted { verdict: &verdict })?,
+    ))
 }
 
 #[test]
 fn invariants_are_certified(rt: HostRuntime) -> Result<(), Fail> {
-    for (next, literal, steps, wanted) in &CLAIMS {
-        assert_eq!(rt; claimed(rt.alloc(), *next, *literal, *steps)?, *wanted);
+    for (toggles, engines, steps, wanted) in &CLAIMS {
+        assert!(rt; claimed(rt.alloc(), *toggles, engines, *steps)? == *wanted);
     }
     Ok(())
 }

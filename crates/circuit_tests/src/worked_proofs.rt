@@ -9,9 +9,9 @@ mod random;
 use crate::literals::are_literals;
 use base::{Refused, Seq, copied, extend};
 use lrat::{Clause, Formula, Line, LratError, read, refutes};
+use pigeons::{FIVE_PIGEONS, SIX_PIGEONS};
+use random::{RANDOM_10, RANDOM_20};
 use std::alloc::Global;
-use std::process::Abort;
-use std::test::Fail;
 
 /// Where a text is edited, how many bytes are cut there, what is put in their place, and the
 /// number and the line of the refusal.
@@ -58,21 +58,54 @@ fn edited(alloc: Global, text: &[u8], edit: Edit) -> Result<Vec<u8>, Refused> {
     Ok(whole)
 }
 
-/// Reads and checks the proof, which is to be accepted, and then each edited copy of it.
-fn compare(rt: &impl Abort, alloc: Global, worked: &Worked) -> Result<(), Fail> {
-    let formula = formula(alloc, worked.vars, worked.clauses)?;
-    let proof = read(alloc, worked.proof)?;
-    assert_eq!(rt; refutes(alloc, &formula, &proof), Ok(()));
-    for edit in worked.edits {
-        let changed = edited(alloc, worked.proof, *edit)?;
-        let proof = read(alloc, changed.as_slice())?;
-        let refusal = match refutes(alloc, &formula, &proof) {
-            Ok(()) => None,
-            Err(e) => Some((e.number(), e.place())),
-        };
-        assert_eq!(rt; refusal, Some(edit.3), "{edit:?}");
+/// The number and the line of a proof's refusal, where it is refused.
+fn refusal(alloc: Global, formula: &Formula, text: &[u8]) -> Result<Option<(u8, u64)>, LratError>
+    requires { IsFormula formula.now }
+{
+    let proof = read(alloc, text)?;
+    match refutes(alloc, formula, &proof) {
+        Ok(()) => Ok(None),
+        Err(e) => Ok(Some((e.number(), e.place()))),
     }
-    Ok(())
+}
+
+/// The same of a proof after an edit.
+fn edited_refusal(
+    alloc: Global,
+    formula: &Formula,
+    text: &[u8],
+    edit: Edit,
+) -> Result<Option<(u8, u64)>, LratError>
+    requires { IsFormula formula.now }
+{
+    let changed = edited(alloc, text, edit)?;
+    refusal(alloc, formula, changed.as_slice())
+}
+
+/// The first edit whose refusal is another than stands beside it.
+fn first_other(
+    alloc: Global,
+    formula: &Formula,
+    worked: &Worked,
+) -> Result<Option<usize>, LratError>
+    requires { IsFormula formula.now }
+{
+    for (i, edit) in worked.edits.iter().enumerate() {
+        if edited_refusal(alloc, formula, worked.proof, *edit)? != Some(edit.3) {
+            return Ok(Some(i));
+        }
+    }
+    Ok(None)
+}
+
+/// The proof's refusal, which is to be accepted, and the first edit whose refusal is another than stands beside it.
+fn answers(
+    alloc: Global,
+    worked: &Worked,
+) -> Result<(Option<(u8, u64)>, Option<usize>), LratError> {
+    let formula = formula(alloc, worked.vars, worked.clauses)?;
+    let accepted = refusal(alloc, &formula, worked.proof)?;
+    Ok((accepted, first_other(alloc, &formula, worked)?))
 }
 
 static EMPTY_CLAUSE: Worked<'static> = Worked {
@@ -85,11 +118,6 @@ static EMPTY_CLAUSE: Worked<'static> = Worked {
         (4, 0, b"-", (47, 0)),
     ],
 };
-
-#[test]
-fn an_empty_clause(rt: HostRuntime) -> Result<(), Fail> {
-    compare(&rt, rt.alloc(), &EMPTY_CLAUSE)
-}
 
 static FOUR_CLAUSES: Worked<'static> = Worked {
     vars: 2,
@@ -110,11 +138,6 @@ static FOUR_CLAUSES: Worked<'static> = Worked {
     ],
 };
 
-#[test]
-fn all_four_clauses_over_two_variables(rt: HostRuntime) -> Result<(), Fail> {
-    compare(&rt, rt.alloc(), &FOUR_CLAUSES)
-}
-
 static UNITS: Worked<'static> = Worked {
     vars: 3,
     clauses: b"1 1 0 0\n2 -1 2 0 0\n3 -2 3 0 0\n4 -3 0 0\n",
@@ -129,11 +152,6 @@ static UNITS: Worked<'static> = Worked {
         (4, 0, b"-", (47, 0)),
     ],
 };
-
-#[test]
-fn a_chain_of_units(rt: HostRuntime) -> Result<(), Fail> {
-    compare(&rt, rt.alloc(), &UNITS)
-}
 
 static THREE_PIGEONS: Worked<'static> = Worked {
     vars: 6,
@@ -162,11 +180,6 @@ static THREE_PIGEONS: Worked<'static> = Worked {
         (25, 0, b"-", (47, 1)),
     ],
 };
-
-#[test]
-fn three_pigeons_in_two_holes(rt: HostRuntime) -> Result<(), Fail> {
-    compare(&rt, rt.alloc(), &THREE_PIGEONS)
-}
 
 static FOUR_PIGEONS: Worked<'static> = Worked {
     vars: 12,
@@ -219,6 +232,19 @@ static FOUR_PIGEONS: Worked<'static> = Worked {
 };
 
 #[test]
-fn four_pigeons_in_three_holes(rt: HostRuntime) -> Result<(), Fail> {
-    compare(&rt, rt.alloc(), &FOUR_PIGEONS)
+fn proofs_and_edits_of_them(rt: HostRuntime) {
+    let short = [
+        &EMPTY_CLAUSE,
+        &FOUR_CLAUSES,
+        &UNITS,
+        &THREE_PIGEONS,
+        &FOUR_PIGEONS,
+    ];
+    for worked in short {
+        assert!(rt; answers(rt.alloc(), worked) == Ok((None, None)));
+    }
+    let long = [&FIVE_PIGEONS, &SIX_PIGEONS, &RANDOM_10, &RANDOM_20];
+    for worked in long {
+        assert!(rt; answers(rt.alloc(), worked) == Ok((None, None)));
+    }
 }

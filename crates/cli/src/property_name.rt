@@ -30,8 +30,8 @@ fn position(digits: &[u8]) -> Option<u32>
     }
 }
 
-/// The property that a word names: `b` for a bad literal or `j` for a justice property, and its
-/// position without needless zeros.
+/// The property that a word names: `b` for a bad literal, `j` for a justice property or `o` for an
+/// output, and its position without needless zeros.
 pub fn property_named(word: &str) -> Option<Property>
     ensures named { IfSome result (λ p. word.now ≡ property_text p) }
     ensures only { (p : AProperty) → word.now ≡ property_text p → position_of p < 2 ^ 32 → result ≡ Some p }
@@ -39,6 +39,7 @@ pub fn property_named(word: &str) -> Option<Property>
     match word.as_bytes() {
         [b'b', digits @ ..] => Some(Property::Bad(position(digits)?)),
         [b'j', digits @ ..] => Some(Property::Justice(position(digits)?)),
+        [b'o', digits @ ..] => Some(Property::Output(position(digits)?)),
         _ => None,
     }
 }

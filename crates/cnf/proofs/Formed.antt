@@ -9,7 +9,7 @@ use Rattle.graph.specs.declared.circuit.Latch.{Latch}
 use Rattle.graph.specs.declared.circuit.Gate.{Gate}
 use Rattle.graph.specs.declared.parts.Parts.{Parts}
 use Rattle.graph.specs.Valuation.{variable, defined}
-use Rattle.graph.specs.WellFormed.{IsWellFormed}
+use Rattle.graph.specs.WellFormed.{IsWellFormed, used}
 use Rattle.graph.proofs.Evaluation.{held, Contains-map, All-left, latches_in_range, lefts_in_range}
 use Rattle.graph.proofs.Gates.{left}
 use Rattle.graph.proofs.Shape.{All-flat_map}
@@ -18,7 +18,7 @@ use Rattle.lrat.specs.Limits.{IsFormula}
 use Rattle.lrat.specs.Literals.{IsLiteral}
 use Rattle.lrat.specs.Shared.{unit_clauses}
 use Rattle.cnf.specs.Clauses.{signed, is_negated, literal, denial, truth_clause, gate_clauses, reset_clauses, frame_at, time_clauses, frame_clauses, start_clauses, init_units, init_clauses, shared_clauses, along, next_of, step_units, step_clauses, bad_units, bad_clauses}
-use Rattle.cnf.specs.Formulas.{IsOverLatches, IsOfTimes, IsOver, IsClause, IsInvariant, formula_of, frame_formula, start_formula, init_formula, shared_formula, step_formula, bad_formula, bad_literal}
+use Rattle.cnf.specs.Formulas.{IsOverLatches, IsOfTimes, IsOver, IsClause, IsInvariant, formula_of, frame_formula, start_formula, init_formula, shared_formula, step_formula, bad_formula}
 use Rattle.cnf.proofs.CaseLaws.{nexts, step_units_are}
 
 -- a literal of an allowed variable
@@ -327,5 +327,5 @@ pub step_units_from : (m : Parts) (c : List Lit) → IsWellFormed m → IsOverLa
 step_units_from m c well over =
     subst (IsClauseFrom (λ u. u ≤ m.max_var + 1)) (step_units_are m c) (denials_from (λ u. u ≤ m.max_var + 1) m 0 (nexts m c) (allows_formula m well) (nexts_known m c well over))
 
-pub bad_unit_from : (m : Parts) (n : ℕ) → IsWellFormed m → n < length m.bad → IsLiteral (m.max_var + 1) (literal m.max_var 0 (bad_literal m n))
-bad_unit_from m n well n_in = literal_from (λ u. u ≤ m.max_var + 1) m 0 (bad_literal m n) (allows_formula m well) (bad_known m well n (record { 0 = 0 }) n_in)
+pub bad_unit_from : (m : Parts) (a : Lit) → IsWellFormed m → Contains (used m) a → IsLiteral (m.max_var + 1) (literal m.max_var 0 a)
+bad_unit_from m a well found = literal_from (λ u. u ≤ m.max_var + 1) m 0 a (allows_formula m well) (All-contains (IsKnown m) (used m) a well.used_defined found)

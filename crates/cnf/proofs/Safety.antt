@@ -1,17 +1,23 @@
 -- An inductive invariant makes the circuit safe.
-use Rattle.std.proofs.Common.{◌≡◌, ℕ, suc, zero, ◌+◌, ◌*◌, ◌≤◌, Bool, true, false, ◌⊎◌, inl, inr, List, [], ◌∷◌, get_or, All, Some, slice_get, sym, ◌∙◌, subst}
+use Rattle.std.proofs.Common.{◌≡◌, ℕ, ◌+◌, ◌*◌, ◌≤◌, Bool, true, false, ◌⊎◌, inl, inr, List, [], ◌∷◌, get_or, All, Contains, sym, ◌∙◌, subst}
 use Rattle.std.proofs.lemmas.Bool.{cases_Bool}
-use Rattle.std.proofs.lemmas.List.Elements.{All-nil, All-cons, All-head, All-tail}
+use Rattle.std.proofs.lemmas.List.Elements.{All-nil, All-cons, All-head, All-tail, All-contains_itself}
+use Rattle.std.proofs.lemmas.Option.{get_or_from_slice_get, slice_get_within}
 use Rattle.graph.specs.declared.circuit.Lit.{Lit}
+use Rattle.graph.specs.declared.circuit.Property.{Property}
+use Rattle.graph.specs.declared.circuit.Property.TheVariants.{Bad, Justice, Output}
 use Rattle.graph.specs.declared.parts.Parts.{Parts}
+use Rattle.graph.specs.Properties.{IsWatched}
 use Rattle.graph.specs.Valuation.{value_of, Agrees}
 use Rattle.graph.specs.Runs.{IsInitial, IsStep, Steps, IsRun, KeepsConstraints}
-use Rattle.graph.specs.WellFormed.{IsWellFormed}
+use Rattle.graph.specs.WellFormed.{IsWellFormed, used}
+use Rattle.graph.proofs.Alone.{watched_one}
+use Rattle.graph.proofs.Tabled.{holds_of_used}
 use Rattle.cnf.specs.Formulas.{IsOverLatches}
 use Rattle.cnf.specs.Meaning.{extension_of, HoldsClause, Denies, DeniesNext, KeepsNow, IsKept}
 use Rattle.cnf.specs.Invariants.{IsInductive, SafetyLaw}
 use Rattle.cnf.proofs.Listed.{one_or_all}
-use Rattle.cnf.proofs.CaseLaws.{init_law, step_law, bad_law, next_value, bad_in_range}
+use Rattle.cnf.proofs.CaseLaws.{init_law, step_law, bad_law, next_value}
 
 -- what is given of the invariant
 record IsGiven (m : Parts) (inv : List (List Lit)) (a : Lit) : Type 0 where
@@ -57,10 +63,16 @@ never_bad m inv a w (x ∷ r) given agrees keeps steps holds =
     All-cons (λ y. value_of y a ≡ false) w (x ∷ r) (not_bad m inv a w given kept)
     (never_bad m inv a x r given (All-tail (Agrees m) w (x ∷ r) agrees) (All-tail (KeepsNow m) w (x ∷ r) keeps) steps.1 (holds_next m inv a w x given kept steps.0))
 
-get_in_range : (P : Lit → Type 0) (xs : List Lit) (n : ℕ) (a : Lit) → All P xs → slice_get xs n ≡ Some a → P a
-get_in_range P [] n a all e = cc
-get_in_range P (x ∷ xs) zero a all e = let same : x ≡ a = cc in subst P same (All-head P x xs all)
-get_in_range P (x ∷ xs) (suc n) a all e = get_in_range P xs n a (All-tail P x xs all) e
+-- what holds of all literals that the circuit uses holds of the one that a property watches
+watched_holds : (P : Lit → Type 0) (m : Parts) (p : Property) (a : Lit) → All P (used m) → IsWatched m p a → P a
+watched_holds P m (Bad n) a all watched = subst P (get_or_from_slice_get m.bad n a a watched) ((holds_of_used P m all).bad n a (slice_get_within m.bad n a watched))
+watched_holds P m (Output n) a all watched =
+    subst P (get_or_from_slice_get m.outputs n a a watched.1) ((holds_of_used P m all).outputs n a (slice_get_within m.outputs n a watched.1))
+watched_holds P m (Justice n) a all watched = absurd watched
+
+-- it is one of these
+pub watched_used : (m : Parts) (p : Property) (a : Lit) → IsWatched m p a → Contains (used m) a
+watched_used m p a watched = watched_holds (Contains (used m)) m p a (All-contains_itself (used m)) watched
 
 run_safe : (m : Parts) (inv : List (List Lit)) (a : Lit) (r : List (List Bool)) → IsGiven m inv a → IsRun m r → KeepsConstraints m r → All (λ w. value_of w a ≡ false) r
 run_safe m inv a [] given run keeps = All-nil (λ w. value_of w a ≡ false)
@@ -68,8 +80,8 @@ run_safe m inv a (w ∷ r) given run keeps =
     never_bad m inv a w r given run.agrees keeps run.steps (holds_first m inv a w given (All-head (Agrees m) w r run.agrees) run.starts)
 
 pub safety_law : (m : Parts) (inv : List (List Lit)) → IsWellFormed m → All (IsOverLatches m) inv → SafetyLaw m inv
-safety_law m inv well overs n a named inductive_in r b run keeps named_too =
-    let same : a ≡ b = cc in
-    let range : a.0 ≤ 2 * m.max_var + 1 = get_in_range (λ x. x.0 ≤ 2 * m.max_var + 1) m.bad n a (bad_in_range m well) named in
+safety_law m inv well overs p a watched inductive_in r b run keeps watched_too =
+    let same : a ≡ b = watched_one m p a b watched watched_too in
+    let range : a.0 ≤ 2 * m.max_var + 1 = watched_holds (λ x. x.0 ≤ 2 * m.max_var + 1) m p a well.used_in_range watched in
     subst (λ (x : Lit). All (λ w. value_of w x ≡ false) r) same
     (run_safe m inv a r (record { well = well; overs = overs; bad = range; inductive_in = inductive_in }) run keeps)

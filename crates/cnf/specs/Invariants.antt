@@ -1,7 +1,9 @@
--- When lists of clauses over the latches exclude a bad literal.
-use Rattle.std.specs.Prelude.{◌≡◌, ℕ, Bool, List, All, ℤ, Some, slice_get}
+-- When lists of clauses over the latches exclude a literal.
+use Rattle.std.specs.Prelude.{ℕ, Bool, List, All, ℤ}
 use Rattle.graph.specs.declared.circuit.Lit.{Lit}
+use Rattle.graph.specs.declared.circuit.Property.{Property}
 use Rattle.graph.specs.declared.parts.Parts.{Parts}
+use Rattle.graph.specs.Properties.{IsWatched}
 use Rattle.graph.specs.Runs.{IsSafe}
 use Rattle.cnf.specs.Clauses.{init_clauses, step_clauses, bad_clauses}
 use Rattle.cnf.specs.Meaning.{AreSatisfied}
@@ -16,6 +18,6 @@ pub record IsInductive (m : Parts) (inv : List (List Lit)) (a : Lit) : Type 0 wh
   pub goes_on : All (λ c. AreContradictory (step_clauses m inv c)) inv
   pub excludes : AreContradictory (bad_clauses m inv a)
 
--- an inductive invariant makes the circuit safe
+-- an inductive invariant that excludes the literal which a property watches makes the circuit safe
 abbrev pub SafetyLaw : Parts → List (List Lit) → Type 0
-SafetyLaw m inv = (n : ℕ) (a : Lit) → slice_get m.bad n ≡ Some a → IsInductive m inv a → IsSafe m n
+SafetyLaw m inv = (p : Property) (a : Lit) → IsWatched m p a → IsInductive m inv a → IsSafe m p

@@ -1,8 +1,9 @@
 //! The cases of an invariant: each is to have no satisfying assignment.
 
-ghost use Rattle.std.specs.Prelude.{◌≡◌, ◌<◌, IfOk, length};
+ghost use Rattle.std.specs.Prelude.{◌≡◌, ◌<◌, Contains, IfOk, length};
+ghost use Rattle.graph.specs.WellFormed.{used};
 ghost use Rattle.lrat.specs.Limits.{IsFormula};
-ghost use Rattle.cnf.specs.Formulas.{init_formula, step_formula, bad_formula, bad_literal, clause_at, IsClause, IsInvariant, IsOver};
+ghost use Rattle.cnf.specs.Formulas.{init_formula, step_formula, bad_formula, clause_at, IsClause, IsInvariant, IsOver};
 ghost use Rattle.cnf.specs.Meaning.{InitLaw, StepLaw, BadLaw};
 
 use crate::bases::{formula, shared_clauses, start_clauses};
@@ -51,19 +52,19 @@ pub fn step_case(
     Ok(formula(model, clauses))
 }
 
-/// The case that a state of the invariant sets the bad literal at position `bad`.
+/// The case that a state of the invariant sets this one of the circuit's literals.
 pub fn bad_case(
     alloc: Global,
     model: &Model,
     invariant: &[Seq<Lit>],
-    bad: u32,
+    bad: Lit,
 ) -> Result<Formula, Refused>
     requires invariant { IsInvariant model.now invariant.now }
-    requires in_range { bad < length model.now.bad }
-    ensures formula { IfOk result (λ f. f ≡ bad_formula model.now invariant.now (bad_literal model.now bad)) }
+    requires used { Contains (used model.now) bad }
+    ensures formula { IfOk result (λ f. f ≡ bad_formula model.now invariant.now bad) }
     ensures is_formula { IfOk result (λ f. IsFormula f) }
     ensures variables { IfOk result (λ f. IsOver model.now 1 f.clauses) }
-    ensures meaning { IfOk result (λ _. BadLaw model.now invariant.now (bad_literal model.now bad)) }
+    ensures meaning { IfOk result (λ _. BadLaw model.now invariant.now bad) }
 {
     model.parts();
     let mut clauses = shared_clauses(alloc, model, invariant)?;

@@ -3,7 +3,7 @@
 //! - `frame` is satisfied exactly by the valuations that agree with the circuit's gates.
 //! - `init_case`, `step_case` and `bad_case` are the cases of an invariant, a list of clauses over
 //!   the latches. Where nothing satisfies any of them, the circuit is safe: no run that keeps the
-//!   constraints sets the bad literal.
+//!   constraints sets the literal that is asked about.
 //! - `start_base` and `shared_base` are what cases begin with, and `init_units`, `step_units` and
 //!   `bad_unit` the literals that follow, each as a clause of its own. So all cases can be checked
 //!   over two formulas.

@@ -1,9 +1,10 @@
 //! The units that make a case of what the cases share.
 
-ghost use Rattle.std.specs.Prelude.{◌≡◌, ◌+◌, ◌<◌, All, IfOk, length};
+ghost use Rattle.std.specs.Prelude.{◌≡◌, ◌+◌, All, Contains, IfOk};
+ghost use Rattle.graph.specs.WellFormed.{used};
 ghost use Rattle.lrat.specs.Literals.{IsLiteral};
 ghost use Rattle.cnf.specs.Clauses.{init_units as init_units_of, step_units as step_units_of, literal};
-ghost use Rattle.cnf.specs.Formulas.{IsOverLatches, bad_literal};
+ghost use Rattle.cnf.specs.Formulas.{IsOverLatches};
 ghost use Rattle.cnf.specs.Tables.{IsTableOf};
 
 use crate::next_table::NextTable;
@@ -47,12 +48,12 @@ pub fn step_units(
     Ok(units)
 }
 
-/// The unit of the bad case of the bad literal at a position.
-pub fn bad_unit(model: &Model, bad: u32) -> i32
-    requires { bad < length model.now.bad }
-    ensures unit { result ≡ literal model.now.max_var 0 (bad_literal model.now bad) }
+/// The unit of the bad case of one of the circuit's literals.
+pub fn bad_unit(model: &Model, bad: Lit) -> i32
+    requires { Contains (used model.now) bad }
+    ensures unit { result ≡ literal model.now.max_var 0 bad }
     ensures in_range { IsLiteral (model.now.max_var + 1) result }
 {
     model.parts();
-    Time::first(model).literal(model.bad()[bad as usize])
+    Time::first(model).literal(bad)
 }

@@ -36,7 +36,7 @@ pub record IsInvariant (m : Parts) (inv : List (List Lit)) : Type 0 where
 -- nothing is known: because the budget is exhausted, or beyond so many steps
 abbrev pub IsHonest : Parts → Steps → Reason → Type 0
 IsHonest m after Budget = after.left ≡ 0
-IsHonest m after (Depth steps) = IsClear m 0 steps
+IsHonest m after (Depth steps) = IsClear m (Bad 0) steps
 IsHonest m after NoEvidence = ⊥
 
 -- the run shows the bad literal, the clauses are an invariant, or the unknown is honest

@@ -43,7 +43,7 @@ static WORKED: [(&[u8], u8, usize); 7] = [
 ];
 
 /// The circuit of a text, with its first bad literal.
-fn circuit(alloc: Global, text: &[u8]) -> Result<Model, Fail>
+pub fn circuit(alloc: Global, text: &[u8]) -> Result<Model, Fail>
     ensures { IfOk result IsForBad }
 {
     let file = read(alloc, text)?;
@@ -68,13 +68,17 @@ fn times<S: Sat>(
     }
 }
 
+/// The same of the circuit of a text, by backtracking.
+fn times_of(alloc: Global, text: &[u8], depth: u8, steps: u64) -> Result<Option<usize>, Fail> {
+    let circuit = circuit(alloc, text)?;
+    Ok(times(Plain::new(alloc), alloc, &circuit, depth, steps)?)
+}
+
 #[test]
 fn by_backtracking(rt: HostRuntime) -> Result<(), Fail> {
-    let alloc = rt.alloc();
     for (text, depth, wanted) in &WORKED {
-        let circuit = circuit(alloc, text)?;
-        let found = times(Plain::new(alloc), alloc, &circuit, *depth, 10_000_000)?;
-        assert_eq!(rt; found, Some(*wanted));
+        let found = times_of(rt.alloc(), text, *depth, 10_000_000)?;
+        assert!(rt; found == Some(*wanted), "{text:?}");
     }
     Ok(())
 }
@@ -82,9 +86,6 @@ fn by_backtracking(rt: HostRuntime) -> Result<(), Fail> {
 /// The whole unrolling is not asked where the plan says enough: a budget that only the plan is within suffices.
 #[test]
 fn needs_the_plan_alone(rt: HostRuntime) -> Result<(), Fail> {
-    let alloc = rt.alloc();
-    let counter = circuit(alloc, WORKED[3].0)?;
-    let found = times(Plain::new(alloc), alloc, &counter, 3, 2262)?;
-    assert_eq!(rt; found, Some(4));
+    assert!(rt; times_of(rt.alloc(), WORKED[3].0, 3, 2262)? == Some(4));
     Ok(())
 }

@@ -1,10 +1,9 @@
 //! Worked circuits: IC3 by backtracking finds an invariant that is certified, or a run that shows the bad
 //! literal, and wastes no budget. `cases/texts.tsv` has the same by the solver of `aigmc`.
 
-ghost use Rattle.std.specs.Prelude.{IfOk};
 ghost use Rattle.engine.specs.Findings.{IsForBad};
 
-use aag::read;
+use crate::bounded::circuit;
 use certify::{Certified, certify};
 use checker::check;
 use engine::{Engine, Finding};
@@ -42,14 +41,6 @@ static WORKED: [(&[u8], bool); 7] = [
 /// How many steps of the budget a search may cost.
 const STEPS: u64 = 100_000;
 
-/// The circuit of a text, with its first bad literal.
-fn circuit(alloc: Global, text: &[u8]) -> Result<Model, Fail>
-    ensures { IfOk result IsForBad }
-{
-    let file = read(alloc, text)?;
-    Ok(file.model().for_bad(alloc, 0)?)
-}
-
 /// Whether the clauses get a certificate that the checker accepts.
 fn is_certified(alloc: Global, circuit: &Model, clauses: &[Seq<Lit>]) -> Result<bool, Fail> {
     let mut budget = Budget::new(STEPS);
@@ -82,11 +73,16 @@ fn found<S: Sat>(solver: S, alloc: Global, circuit: &Model, safe: bool) -> Resul
     }
 }
 
+/// The same of the circuit of a text, by backtracking.
+fn is_found(alloc: Global, text: &[u8], safe: bool) -> Result<bool, Fail> {
+    let circuit = circuit(alloc, text)?;
+    found(Plain::new(alloc), alloc, &circuit, safe)
+}
+
 #[test]
 fn by_backtracking(rt: HostRuntime) -> Result<(), Fail> {
     for (text, safe) in &WORKED {
-        let circuit = circuit(rt.alloc(), text)?;
-        assert!(rt; found(Plain::new(rt.alloc()), rt.alloc(), &circuit, *safe)?);
+        assert!(rt; is_found(rt.alloc(), text, *safe)?, "{text:?}");
     }
     Ok(())
 }

@@ -46,7 +46,7 @@ static DRAWN: [(u64, [[u64; 4]; 2]); 2] = [
 fn words_of_a_seed(rt: HostRuntime) {
     for (seed, [first, second]) in DRAWN {
         let mut generator = Lcg128Xsl64::seed_from_u64(seed);
-        assert_eq!(rt; draw(&mut generator), first);
-        assert_eq!(rt; draw(&mut generator), second);
+        assert!(rt; draw(&mut generator) == first);
+        assert!(rt; draw(&mut generator) == second);
     }
 }

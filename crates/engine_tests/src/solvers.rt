@@ -105,15 +105,36 @@ fn load<S: Sat>(solver: &mut S, alloc: Global, formula: &Formula) -> Result<(), 
     add(solver, alloc, formula)
 }
 
+/// Begins anew with a list of clauses.
+pub fn load_list<S: Sat>(
+    solver: &mut S,
+    alloc: Global,
+    vars: u16,
+    list: &[i32],
+) -> Result<(), SatError>
+    ensures { OnOk result (S.vars solver.new ≡ vars) }
+{
+    let formula = formula(alloc, vars, list)?;
+    load(solver, alloc, &formula)
+}
+
 /// The answer under assumptions, whose literals must be in range.
-fn ask<S: Sat>(solver: &mut S, alloc: Global, assume: &[i32]) -> Result<Answer, SatError>
+pub fn ask<S: Sat>(
+    solver: &mut S,
+    alloc: Global,
+    assume: &[i32],
+    budget: &mut Budget,
+) -> Result<Answer, SatError>
     ensures { S.vars solver.new ≡ S.vars solver.old }
 {
     if !are_literals(assume, solver.vars()) {
         return Err(SatError::Limit);
     }
-    solver.solve(alloc, assume, &mut Budget::new(100_000_000))
+    solver.solve(alloc, assume, budget)
 }
+
+/// How many steps a solver may take where nothing is said of them.
+const STEPS: u64 = 100_000_000;
 
 /// Whether a literal is true by its variable's place.
 fn is_true(values: &[bool], literal: i32) -> bool {
@@ -144,10 +165,14 @@ fn is_among(literals: &[i32], others: &[i32]) -> bool {
     true
 }
 
-/// Whether it is a model of the formula where no core is wanted, and else a core of such literals.
+/// Whether it is a model of the formula, with a value for each variable and for 0, where no core is wanted, and else a
+/// core of such literals.
 fn is_right(answer: &Answer, formula: &Formula, core: Option<&[i32]>) -> bool {
     match (answer, core) {
-        (Answer::Model(values), None) => satisfies(values.as_slice(), formula),
+        (Answer::Model(values), None) => {
+            values.len() as u64 == u64::from(formula.vars) + 1
+                && satisfies(values.as_slice(), formula)
+        }
         (Answer::Core(part), Some(among)) => is_among(part.as_slice(), among),
         _ => false,
     }
@@ -164,15 +189,26 @@ fn answers<S: Sat>(
 {
     let (assume, core) = question;
     load(solver, alloc, formula)?;
-    let answer = ask(solver, alloc, assume)?;
+    let answer = ask(solver, alloc, assume, &mut Budget::new(STEPS))?;
     Ok(is_right(&answer, formula, core))
+}
+
+/// Whether the solver answers the question about a list of clauses rightly.
+fn answers_list<S: Sat>(
+    solver: &mut S,
+    alloc: Global,
+    vars: u16,
+    list: &[i32],
+    question: Question,
+) -> Result<bool, SatError> {
+    let formula = formula(alloc, vars, list)?;
+    answers(solver, alloc, &formula, question)
 }
 
 /// Whether the solver answers all short formulas rightly, one after the other.
 fn answers_short<S: Sat>(solver: &mut S, alloc: Global) -> Result<bool, SatError> {
     for (vars, list, question) in &SHORT {
-        let formula = formula(alloc, *vars, list)?;
-        if !answers(solver, alloc, &formula, *question)? {
+        if !answers_list(solver, alloc, *vars, list, *question)? {
             return Ok(false);
         }
     }
@@ -180,28 +216,54 @@ fn answers_short<S: Sat>(solver: &mut S, alloc: Global) -> Result<bool, SatError
 }
 
 #[test]
-fn short_formulas(rt: HostRuntime) -> Result<(), Fail> {
-    assert!(rt; answers_short(&mut Cdcl::new(rt.alloc()), rt.alloc())?);
-    assert!(rt; answers_short(&mut Plain::new(rt.alloc()), rt.alloc())?);
-    Ok(())
+fn short_formulas(rt: HostRuntime) {
+    assert!(rt; answers_short(&mut Cdcl::new(rt.alloc()), rt.alloc()) == Ok(true));
+    assert!(rt; answers_short(&mut Plain::new(rt.alloc()), rt.alloc()) == Ok(true));
 }
 
-/// Whether the solver finds each of the worked formulas unsatisfiable.
-fn answers_worked<S: Sat>(solver: &mut S, alloc: Global) -> Result<bool, SatError> {
-    for (vars, list) in &UNSATISFIABLE {
-        let formula = formula(alloc, *vars, list)?;
-        if !answers(solver, alloc, &formula, (&[], Some(&[])))? {
-            return Ok(false);
+/// In how many steps the solver, begun anew with the clauses, finds them unsatisfiable, where it does.
+fn steps<S: Sat>(
+    solver: &mut S,
+    alloc: Global,
+    vars: u16,
+    list: &[i32],
+) -> Result<Option<u64>, SatError> {
+    let formula = formula(alloc, vars, list)?;
+    load(solver, alloc, &formula)?;
+    let mut budget = Budget::new(STEPS);
+    let answer = ask(solver, alloc, &[], &mut budget)?;
+    if !is_right(&answer, &formula, Some(&[])) {
+        return Ok(None);
+    }
+    Ok(Some(budget.spent()))
+}
+
+/// Whether the solver finds each of the worked formulas unsatisfiable, in at most so many steps and, where `least` is set,
+/// in no fewer than stand beside it.
+fn answers_worked<S: Sat>(
+    solver: &mut S,
+    alloc: Global,
+    least: bool,
+    most: u64,
+) -> Result<bool, SatError> {
+    for (vars, list, few) in &UNSATISFIABLE {
+        let few = if least { *few } else { 0 };
+        match steps(solver, alloc, *vars, list)? {
+            Some(spent) if few <= spent && spent <= most => {}
+            _ => return Ok(false),
         }
     }
     Ok(true)
 }
 
 #[test]
-fn worked_formulas(rt: HostRuntime) -> Result<(), Fail> {
-    assert!(rt; answers_worked(&mut Cdcl::new(rt.alloc()), rt.alloc())?);
-    assert!(rt; answers_worked(&mut Plain::new(rt.alloc()), rt.alloc())?);
-    Ok(())
+fn worked_formulas(rt: HostRuntime) {
+    let (cdcl, plain) = (
+        answers_worked(&mut Cdcl::new(rt.alloc()), rt.alloc(), false, STEPS),
+        answers_worked(&mut Plain::new(rt.alloc()), rt.alloc(), true, 1_000_000),
+    );
+    assert!(rt; cdcl == Ok(true));
+    assert!(rt; plain == Ok(true));
 }
 
 /// Whether each question is answered rightly as the clauses come.
@@ -211,7 +273,7 @@ fn grows<S: Sat>(solver: &mut S, alloc: Global) -> Result<bool, SatError> {
     for (list, (assume, core)) in &GROWING {
         let added = formula(alloc, 3, list)?;
         add(solver, alloc, &added)?;
-        let answer = ask(solver, alloc, assume)?;
+        let answer = ask(solver, alloc, assume, &mut Budget::new(STEPS))?;
         if !is_right(&answer, &added, *core) {
             return Ok(false);
         }
@@ -220,19 +282,36 @@ fn grows<S: Sat>(solver: &mut S, alloc: Global) -> Result<bool, SatError> {
 }
 
 #[test]
-fn clauses_may_come_between_the_calls(rt: HostRuntime) -> Result<(), Fail> {
-    assert!(rt; grows(&mut Cdcl::new(rt.alloc()), rt.alloc())?);
-    assert!(rt; grows(&mut Plain::new(rt.alloc()), rt.alloc())?);
-    Ok(())
+fn clauses_may_come_between_the_calls(rt: HostRuntime) {
+    assert!(rt; grows(&mut Cdcl::new(rt.alloc()), rt.alloc()) == Ok(true));
+    assert!(rt; grows(&mut Plain::new(rt.alloc()), rt.alloc()) == Ok(true));
+}
+
+/// How many steps are spent before the solver, begun anew with the clauses, answers that its budget of so many is.
+pub fn spent<S: Sat>(
+    solver: &mut S,
+    alloc: Global,
+    vars: u16,
+    list: &[i32],
+    steps: u64,
+) -> Result<Option<u64>, SatError> {
+    load_list(solver, alloc, vars, list)?;
+    let mut budget = Budget::new(steps);
+    match ask(solver, alloc, &[], &mut budget)? {
+        Answer::Spent => Ok(Some(budget.spent())),
+        _ => Ok(None),
+    }
 }
 
 #[test]
-fn an_empty_budget_is_spent_at_once(rt: HostRuntime) -> Result<(), Fail> {
-    let mut none = Budget::new(0);
-    let answer = Cdcl::new(rt.alloc()).solve(rt.alloc(), &[], &mut none)?;
-    assert!(rt; matches!(answer, Answer::Spent));
-    assert_eq!(rt; none.spent(), 0);
-    Ok(())
+fn an_empty_budget_is_spent_at_once(rt: HostRuntime) {
+    let cdcl = spent(&mut Cdcl::new(rt.alloc()), rt.alloc(), 0, &[], 0);
+    assert!(rt; cdcl == Ok(Some(0)));
+    let units: &[i32] = &[1, 0, -1, 0];
+    let plain = spent(&mut Plain::new(rt.alloc()), rt.alloc(), 1, units, 0);
+    assert!(rt; plain == Ok(Some(0)));
+    let plain = spent(&mut Plain::new(rt.alloc()), rt.alloc(), 1, units, 2);
+    assert!(rt; plain == Ok(Some(2)));
 }
 
 /// What a refutation of the formula comes to within so many steps of the budget: the lines of an
@@ -249,20 +328,25 @@ fn lines(alloc: Global, formula: &Formula, steps: u64) -> Result<Option<usize>, 
     }
 }
 
+/// The same of a list of clauses.
+fn lines_of(alloc: Global, vars: u16, list: &[i32], steps: u64) -> Result<Option<usize>, Fail> {
+    let formula = formula(alloc, vars, list)?;
+    lines(alloc, &formula, steps)
+}
+
 #[test]
 fn worked_refutations(rt: HostRuntime) -> Result<(), Fail> {
-    for (vars, list) in &UNSATISFIABLE {
-        let formula = formula(rt.alloc(), *vars, list)?;
-        assert!(rt; matches!(lines(rt.alloc(), &formula, 1_000_000)?, Some(1..)));
+    for (vars, list, _) in &UNSATISFIABLE {
+        assert!(rt; matches!(lines_of(rt.alloc(), *vars, list, 1_000_000)?, Some(1..)));
     }
     Ok(())
 }
 
 #[test]
 fn other_refutations(rt: HostRuntime) -> Result<(), Fail> {
-    let satisfiable = formula(rt.alloc(), 2, &[1, 2, 0, -1, 0])?;
-    assert_eq!(rt; lines(rt.alloc(), &satisfiable, 1_000)?, Some(0));
-    assert!(rt; lines(rt.alloc(), &satisfiable, 0)?.is_none());
+    let satisfiable: &[i32] = &[1, 2, 0, -1, 0];
+    assert!(rt; lines_of(rt.alloc(), 2, satisfiable, 1_000)? == Some(0));
+    assert!(rt; lines_of(rt.alloc(), 2, satisfiable, 0)?.is_none());
     Ok(())
 }
 
@@ -299,13 +383,18 @@ fn deletions(proof: &Proof) -> usize {
     deletions
 }
 
+/// How many lines of the proof that so many pigeons do not fit delete clauses.
+fn deletions_of(alloc: Global, list: &[i32]) -> Result<Option<usize>, Fail> {
+    let formula = formula(alloc, 56, list)?;
+    match refute(alloc, &formula, &mut Budget::new(STEPS))? {
+        Refuted::Proof(proof) => Ok(Some(deletions(&proof))),
+        _ => Ok(None),
+    }
+}
+
 #[test]
 fn forgets_clauses_and_goes_on(rt: HostRuntime) -> Result<(), Fail> {
     let list = pigeons(rt.alloc(), 8, 7)?;
-    let formula = formula(rt.alloc(), 56, list.as_slice())?;
-    match refute(rt.alloc(), &formula, &mut Budget::new(100_000_000))? {
-        Refuted::Proof(proof) => assert!(rt; deletions(&proof) > 0),
-        _ => assert!(rt; false),
-    }
+    assert!(rt; matches!(deletions_of(rt.alloc(), list.as_slice())?, Some(1..)));
     Ok(())
 }

@@ -1,24 +1,26 @@
 //! Texts with their values, with the number and the place of their refusal, and texts that are written.
 
-use base::{Sink, ToVec, ToWrite, push};
+use base::{Refused, Sink, ToVec, ToWrite, push};
 use certificate::{CertError, CertWriteError, Certificate, read, write};
 use graph::{Lit, Property, Seq};
 use lrat::{Line, Proof};
+use std::alloc::Global;
 use std::io::Cursor;
 use std::test::Fail;
 
 /// A certificate of one clause, with a line in each section.
 static TEXT: &[u8] = b"aigcert 1\nb0\n1\n1 3\ni\n4 0 2 3 0\n.\ns\n4 0 2 3 0\n.\nb\n4 0 2 3 0\n.\n";
 
-/// Other texts of certificates.
-static OTHERS: [&[u8]; 3] = [
+/// Texts of certificates.
+static SPELLED: [&[u8]; 4] = [
+    b"aigcert 1\nb0\n1\n1 3\ni\n4 0 2 3 0\n.\ns\n4 0 2 3 0\n.\nb\n4 0 2 3 0\n.\n",
     b"aigcert 1\nj4294967295\n0\nb\n.\n",
     b"aigcert 1\nb12\n1\n0\ni\n.\ns\n3 d 1 2 0\n.\nb\n1 0 0\n.\n",
     b"aigcert 1\nj0\n2\n2 4294967295 0\n1 7\ni\n.\ni\n.\ns\n5 -1 2 0 -4 3 0\n.\ns\n.\nb\n.\n",
 ];
 
-/// Texts with the number and the place of their refusal, before the sections.
-static REFUSED_HEADS: [(&[u8], (u8, u64)); 29] = [
+/// Texts with the number and the place of their refusal.
+static REFUSED: [(&[u8], (u8, u64)); 42] = [
     (b"", (6, 0)),
     (b"x", (70, 0)),
     (b"aigcert 2\n", (70, 8)),
@@ -48,10 +50,7 @@ static REFUSED_HEADS: [(&[u8], (u8, u64)); 29] = [
     (b"aigcert 1\nb0\n1\n1 4294967296\n", (3, 17)),
     (b"aigcert 1\nb0\n1\n1 3 5\n", (5, 18)),
     (b"aigcert 1\nb0\n1\n2 3\n", (5, 18)),
-];
-
-/// Texts with the number and the place of their refusal, in the sections and behind them.
-static REFUSED_SECTIONS: [(&[u8], (u8, u64)); 13] = [
+    // in the sections and behind them
     (b"aigcert 1\nb0\n0\nx\n", (72, 15)),
     (b"aigcert 1\nb0\n0\ni\n.\n", (72, 15)),
     (b"aigcert 1\nb0\n0\nb \n", (5, 16)),
@@ -77,38 +76,52 @@ fn only_line(proof: &Proof) -> Option<(u32, &[i64])> {
     }
 }
 
-#[test]
-fn reads_a_certificate(rt: HostRuntime) -> Result<(), CertError> {
-    let certificate = read(rt.alloc(), TEXT)?;
-    assert_eq!(rt; certificate.property, Property::Bad(0));
-    let clauses = certificate.invariant.as_slice();
-    assert_eq!(rt; clauses.len(), 1);
-    for clause in clauses {
-        assert_eq!(rt; clause.as_slice(), [Lit(3)].as_slice());
-    }
-    let sections = certificate.sections.as_slice();
-    assert_eq!(rt; sections.len(), 3);
-    for proof in sections {
-        assert_eq!(rt; only_line(proof), Some((4, [2, 3].as_slice())));
-    }
-    Ok(())
-}
-
-#[test]
-fn refuses_heads(rt: HostRuntime) {
-    for (text, refusal) in &REFUSED_HEADS {
-        let answer = read(rt.alloc(), text).err();
-        let found = answer.map(|e| (e.number(), e.place()));
-        assert_eq!(rt; found, Some(*refusal), "{text:?}");
+/// Whether the only clause has the literal 3 alone.
+fn is_invariant(clauses: &[Seq<Lit>]) -> bool {
+    match clauses {
+        [clause] => clause.as_slice() == [Lit(3)].as_slice(),
+        _ => false,
     }
 }
 
+/// Whether each of three sections has the line of `TEXT`.
+fn are_sections(sections: &[Proof]) -> bool {
+    sections.len() == 3
+        && sections
+            .iter()
+            .all(|proof| only_line(proof) == Some((4, [2, 3].as_slice())))
+}
+
+/// Whether what is read of `TEXT` is what it says.
+fn is_read(alloc: Global) -> Result<bool, CertError> {
+    let certificate = read(alloc, TEXT)?;
+    Ok(
+        certificate.property == Property::Bad(0)
+            && is_invariant(certificate.invariant.as_slice())
+            && are_sections(certificate.sections.as_slice()),
+    )
+}
+
 #[test]
-fn refuses_sections(rt: HostRuntime) {
-    for (text, refusal) in &REFUSED_SECTIONS {
-        let answer = read(rt.alloc(), text).err();
-        let found = answer.map(|e| (e.number(), e.place()));
-        assert_eq!(rt; found, Some(*refusal), "{text:?}");
+fn reads_a_certificate(rt: HostRuntime) {
+    assert!(rt; is_read(rt.alloc()) == Ok(true));
+}
+
+/// Why a text is refused, where it is.
+fn refusal(alloc: Global, text: &[u8]) -> Option<CertError> {
+    read(alloc, text).err()
+}
+
+/// The number and the place of a refusal.
+fn told(refusal: Option<CertError>) -> Option<(u8, u64)> {
+    let e = refusal?;
+    Some((e.number(), e.place()))
+}
+
+#[test]
+fn refuses_texts(rt: HostRuntime) {
+    for (text, wanted) in &REFUSED {
+        assert_eq!(rt; told(refusal(rt.alloc(), text)), Some(*wanted), "{text:?}");
     }
 }
 
@@ -116,74 +129,88 @@ fn refuses_sections(rt: HostRuntime) {
 fn refuses_a_text_that_is_cut(rt: HostRuntime) {
     for length in 0..TEXT.len() {
         let place = length as u64;
-        let answer = read(rt.alloc(), &TEXT[..length]).err();
+        let answer = refusal(rt.alloc(), &TEXT[..length]);
         assert_eq!(rt; answer, Some(CertError::Truncated { place }));
     }
 }
 
-#[test]
-fn writes_what_was_read(rt: HostRuntime) -> Result<(), Fail> {
-    let certificate = read(rt.alloc(), TEXT)?;
-    let mut out = ToVec::new(rt.alloc());
-    write(&certificate, &mut out)?;
-    assert_eq!(rt; out.as_slice(), TEXT);
-    Ok(())
+/// Whether a certificate is written as this text.
+fn is_written(
+    alloc: Global,
+    certificate: &Certificate,
+    text: &[u8],
+) -> Result<bool, CertWriteError> {
+    let mut out = ToVec::new(alloc);
+    write(certificate, &mut out)?;
+    Ok(out.as_slice() == text)
+}
+
+/// Whether the certificate that a text spells is written as that text.
+fn is_rewritten(alloc: Global, text: &[u8]) -> Result<bool, Fail> {
+    let certificate = read(alloc, text)?;
+    Ok(is_written(alloc, &certificate, text)?)
 }
 
 #[test]
-fn writes_others_as_they_were_read(rt: HostRuntime) -> Result<(), Fail> {
-    for text in &OTHERS {
-        let certificate = read(rt.alloc(), text)?;
-        let mut out = ToVec::new(rt.alloc());
-        write(&certificate, &mut out)?;
-        assert_eq!(rt; out.as_slice(), *text);
+fn writes_what_was_read(rt: HostRuntime) -> Result<(), Fail> {
+    for text in &SPELLED {
+        assert!(rt; is_rewritten(rt.alloc(), text)?);
     }
     Ok(())
 }
 
-#[test]
-fn puts_nothing_without_the_sections(rt: HostRuntime) -> Result<(), Fail> {
-    let mut clauses = Vec::new(rt.alloc());
-    push(&mut clauses, Seq::new(rt.alloc()))?;
-    let mut sections = Vec::new(rt.alloc());
-    push(&mut sections, Proof::new(rt.alloc()))?;
-    push(&mut sections, Proof::new(rt.alloc()))?;
-    let certificate = Certificate {
+/// A certificate with one clause and two sections, which no text spells.
+fn without_a_section(alloc: Global) -> Result<Certificate, Refused> {
+    let mut clauses = Vec::new(alloc);
+    push(&mut clauses, Seq::new(alloc))?;
+    let mut sections = Vec::new(alloc);
+    push(&mut sections, Proof::new(alloc))?;
+    push(&mut sections, Proof::new(alloc))?;
+    Ok(Certificate {
         property: Property::Bad(0),
         invariant: Seq::from_vec(clauses),
         sections: Seq::from_vec(sections),
-    };
-    let mut out = ToVec::new(rt.alloc());
-    let e = CertWriteError::Sections { found: 2 };
-    assert_eq!(rt; write(&certificate, &mut out), Err(e));
-    assert_eq!(rt; (e.number(), e.place()), (34, 2));
-    assert_eq!(rt; out.as_slice().len(), 0);
-    Ok(())
+    })
+}
+
+/// The answer where it is put to a list, and how many bytes the list then has.
+fn put(alloc: Global) -> Result<(Result<(), CertWriteError>, usize), Refused> {
+    let certificate = without_a_section(alloc)?;
+    let mut out = ToVec::new(alloc);
+    let answer = write(&certificate, &mut out);
+    Ok((answer, out.as_slice().len()))
 }
 
 #[test]
-fn tells_that_the_sink_failed(rt: HostRuntime) -> Result<(), Fail> {
-    let certificate = read(rt.alloc(), b"aigcert 1\nb0\n0\nb\n.\n")?;
+fn puts_nothing_without_the_sections(rt: HostRuntime) {
+    let e = CertWriteError::Sections { found: 2 };
+    assert!(rt; put(rt.alloc()) == Ok((Err(e), 0)));
+    assert!(rt; (e.number(), e.place()) == (34, 2));
+}
+
+/// What becomes of a certificate in a sink that takes 18 bytes: the answer, how often the sink failed, and whether what
+/// it took begins the text.
+fn sunk(certificate: &Certificate, text: &[u8]) -> (Result<(), CertWriteError>, u64, bool) {
     let mut out = ToWrite::new(Cursor::new([0u8; 18]));
-    let e = CertWriteError::Device;
-    assert_eq!(rt; write(&certificate, &mut out), Err(e));
-    assert_eq!(rt; (e.number(), e.place()), (21, 0));
-    assert_eq!(rt; out.failures(), 1);
-    assert_eq!(rt; out.into_inner().into_inner(), *b"aigcert 1\nb0\n0\nb\n.");
-    Ok(())
+    let answer = write(certificate, &mut out);
+    let failures = out.failures();
+    (
+        answer,
+        failures,
+        text.starts_with(out.into_inner().into_inner().as_slice()),
+    )
+}
+
+/// The same of the certificate of a text of 19 bytes.
+fn text_sunk(alloc: Global) -> Result<(Result<(), CertWriteError>, u64, bool), CertError> {
+    let text = b"aigcert 1\nb0\n0\nb\n.\n";
+    let certificate = read(alloc, text)?;
+    Ok(sunk(&certificate, text))
 }
 
 #[test]
-fn prints_refusals(rt: HostRuntime) -> Result<(), Fail> {
-    let e = CertError::Section { place: 19 };
-    assert_eq!(rt;
-        format!(in rt.alloc(); "{e}")?.as_str(),
-        "byte 19: not the section that is due"
-    );
-    let e = CertWriteError::Sections { found: 2 };
-    assert_eq!(rt;
-        format!(in rt.alloc(); "{e}")?.as_str(),
-        "2 sections are not those of the invariant"
-    );
-    Ok(())
+fn tells_that_the_sink_failed(rt: HostRuntime) {
+    let e = CertWriteError::Device;
+    assert!(rt; text_sunk(rt.alloc()) == Ok((Err(e), 1, true)));
+    assert!(rt; (e.number(), e.place()) == (21, 0));
 }

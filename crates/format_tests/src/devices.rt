@@ -1,15 +1,15 @@
 //! What no clause says: that calls succeed where there is memory, and what a device does that
 //! fails in mid-stream.
 
-ghost use Rattle.std.specs.Prelude.{◌≡◌, IfOk};
+ghost use Rattle.std.specs.Prelude.{◌≡◌, ◌-◌, ◌^◌, ◌<◌, IfOk};
 
 use base::{
-    Budget, FromBytes, FromRead, ReadAllError, Seq, Sink, Source, ToVec, ToWrite, filled, put_all,
-    read_all,
+    Budget, Failed, FromBytes, FromRead, ReadAllError, Refused, Seq, Sink, Source, ToVec, ToWrite,
+    filled, put_all, read_all,
 };
+use std::alloc::Global;
 use std::io;
 use std::io::{Read, Write};
-use std::test::Fail;
 
 /// A reader and writer that moves one byte a call and fails at one of its calls.
 #[derive(Drop)]
@@ -55,62 +55,82 @@ impl Write for Faulty {
     }
 }
 
+/// A text that is read, the limit, and what comes of it: that all of it was read, or why not.
+static READ: [(&[u8], usize, Result<bool, ReadAllError>); 5] = [
+    (b"aag 0 0 0 0 0\n", 14, Ok(true)),
+    (b"aag 0 0 0 0 0\n", 13, Err(ReadAllError::TooLong)),
+    (b"aag 0 0 0 0 0\n", 0, Err(ReadAllError::TooLong)),
+    (b"aag 0 0 0 0 0\n", usize::MAX, Ok(true)),
+    (b"", 0, Ok(true)),
+];
+
+/// Whether what is read of a source within a limit are these bytes.
+fn is_read<S: Source>(
+    alloc: Global,
+    source: &mut S,
+    limit: usize,
+    text: &[u8],
+) -> Result<bool, ReadAllError>
+    requires { S.failed source.old < 2 ^ 64 - 1 }
+{
+    let bytes = read_all(alloc, source, limit)?;
+    Ok(bytes.as_slice() == text)
+}
+
 #[test]
-fn reads_all_of_a_text(rt: HostRuntime) -> Result<(), Fail> {
-    let text = b"aag 0 0 0 0 0\n";
-    for (limit, fits) in [(14, true), (13, false), (0, false), (usize::MAX, true)] {
-        let mut source = FromBytes::new(text);
-        match read_all(rt.alloc(), &mut source, limit) {
-            Ok(bytes) => {
-                assert!(rt; fits, "limit {limit}");
-                assert_eq!(rt; bytes.as_slice(), text.as_slice());
-            }
-            Err(e) => {
-                assert!(rt; !fits, "limit {limit}");
-                assert_eq!(rt; e, ReadAllError::TooLong);
-            }
-        }
+fn reads_all_of_a_text(rt: HostRuntime) {
+    for (text, limit, wanted) in &READ {
+        let answer = is_read(rt.alloc(), &mut FromBytes::new(text), *limit, text);
+        assert!(rt; answer == *wanted, "limit {limit}");
     }
-    let mut nothing = FromBytes::new(&[]);
-    assert_eq!(rt; read_all(rt.alloc(), &mut nothing, 0)?.len(), 0);
-    Ok(())
+}
+
+/// Whether a text is read from a reader as it is, and how often the reader failed.
+fn is_read_from_a_reader(alloc: Global, text: &[u8]) -> (Result<bool, ReadAllError>, u64) {
+    let mut source = FromRead::new(text);
+    let answer = is_read(alloc, &mut source, text.len(), text);
+    (answer, source.failures())
 }
 
 #[test]
-fn reads_from_a_reader(rt: HostRuntime) -> Result<(), Fail> {
+fn reads_from_a_reader(rt: HostRuntime) -> Result<(), Refused> {
     let text = filled(rt.alloc(), b'7', 40_000)?;
-    let mut source = FromRead::new(text.as_slice());
-    let bytes = read_all(rt.alloc(), &mut source, 40_000)?;
-    assert_eq!(rt; bytes.as_slice(), text.as_slice());
-    assert_eq!(rt; source.failures(), 0);
+    assert!(rt; is_read_from_a_reader(rt.alloc(), text.as_slice()) == (Ok(true), 0));
     Ok(())
 }
 
 #[test]
-fn a_failing_reader_is_a_device_fault(rt: HostRuntime) -> Result<(), Fail> {
+fn a_failing_reader_is_a_device_fault(rt: HostRuntime) {
     let mut source = FromRead::new(Faulty {
         calls: 0,
         fails_at: 3,
     });
-    let answer = read_all(rt.alloc(), &mut source, 1000);
-    assert_eq!(rt; answer.err(), Some(ReadAllError::Device));
+    let answer = is_read(rt.alloc(), &mut source, 1000, b"");
+    assert_eq!(rt; answer, Err(ReadAllError::Device));
     assert_eq!(rt; source.failures(), 1);
-    Ok(())
+}
+
+/// Whether a sink that is a list has two texts one after the other.
+fn is_put(alloc: Global) -> Result<bool, Failed> {
+    let mut memory = ToVec::new(alloc);
+    put_all(&mut memory, b"yes safe ")?;
+    put_all(&mut memory, b"b0\n")?;
+    let whole = memory.failures() == 0 && memory.as_slice() == b"yes safe b0\n".as_slice();
+    Ok(whole && memory.into_vec().len() == 12)
+}
+
+/// Whether a sink that is a writer has a text.
+fn is_written(alloc: Global) -> Result<bool, Failed> {
+    let mut writer = ToWrite::new(Vec::new(alloc));
+    put_all(&mut writer, b"no 44\n")?;
+    let none = writer.failures() == 0;
+    Ok(none && writer.into_inner().as_slice() == b"no 44\n".as_slice())
 }
 
 #[test]
-fn puts_all_of_a_text(rt: HostRuntime) -> Result<(), Fail> {
-    let mut memory = ToVec::new(rt.alloc());
-    put_all(&mut memory, b"yes safe ")?;
-    put_all(&mut memory, b"b0\n")?;
-    assert_eq!(rt; memory.failures(), 0);
-    assert_eq!(rt; memory.as_slice(), b"yes safe b0\n".as_slice());
-    assert_eq!(rt; memory.into_vec().len(), 12);
-    let mut writer = ToWrite::new(Vec::new(rt.alloc()));
-    put_all(&mut writer, b"no 44\n")?;
-    assert_eq!(rt; writer.failures(), 0);
-    assert_eq!(rt; writer.into_inner().as_slice(), b"no 44\n".as_slice());
-    Ok(())
+fn puts_all_of_a_text(rt: HostRuntime) {
+    assert!(rt; is_put(rt.alloc()) == Ok(true));
+    assert!(rt; is_written(rt.alloc()) == Ok(true));
 }
 
 #[test]
@@ -127,24 +147,35 @@ fn a_failing_writer_is_counted_once(rt: HostRuntime) {
 #[test]
 fn a_budget_ends(rt: HostRuntime) {
     let mut budget = Budget::new(2);
-    assert!(rt; budget.tick());
-    assert!(rt; budget.tick());
-    assert!(rt; !budget.tick());
-    assert_eq!(rt; (budget.spent(), budget.left()), (2, 0));
+    assert!(rt; (budget.tick(), budget.tick(), budget.tick()) == (true, true, false));
+    assert!(rt; (budget.spent(), budget.left()) == (2, 0));
+}
+
+/// A list of two numbers.
+fn pushed(alloc: Global) -> Result<Seq<u32>, Refused> {
+    let mut list = Seq::new(alloc);
+    list.push(3u32)?;
+    list.push(5u32)?;
+    Ok(list)
+}
+
+/// Whether copies hold what the list holds.
+fn is_copied(alloc: Global, list: &Seq<u32>) -> Result<bool, Refused> {
+    let copy = Seq::from_slice(alloc, list.as_slice())?;
+    let vec = copy.copy(alloc)?.into_vec();
+    Ok(copy.len() == 2 && vec.as_slice() == [3, 5].as_slice())
+}
+
+/// Whether a list holds what was pushed, and so do its copies and what is made of its `Vec`.
+fn is_pushed(alloc: Global) -> Result<bool, Refused> {
+    let list = pushed(alloc)?;
+    let copied = is_copied(alloc, &list)?;
+    let whole = Seq::from_vec(list.into_vec());
+    Ok(copied && whole.as_slice() == [3, 5].as_slice())
 }
 
 #[test]
-fn lists_hold_what_was_pushed(rt: HostRuntime) -> Result<(), Fail> {
-    let mut list = Seq::new(rt.alloc());
-    assert!(rt; list.is_empty());
-    list.push(3u32)?;
-    list.push(5u32)?;
-    let copy = Seq::from_slice(rt.alloc(), list.as_slice())?;
-    assert_eq!(rt; copy.len(), 2);
-    assert_eq!(rt;
-        copy.copy(rt.alloc())?.into_vec().as_slice(),
-        [3, 5].as_slice()
-    );
-    assert_eq!(rt; Seq::from_vec(list.into_vec()).as_slice(), copy.as_slice());
-    Ok(())
+fn lists_hold_what_was_pushed(rt: HostRuntime) {
+    assert!(rt; Seq::<u32>::new(rt.alloc()).is_empty());
+    assert!(rt; is_pushed(rt.alloc()) == Ok(true));
 }

@@ -1,25 +1,22 @@
 //! Tests of what is read and written: devices, numbers, circuits, proofs, certificates and stimuli.
 //!
-//! They stand over the public calls alone, in a crate of their own, so that no library is proved twice.
+//! They stand over the public calls alone, in a crate of their own, so that no library is proved twice. A test
+//! asserts small answers, and one function (`questions::asked`) has each file: so the proof of each is short.
 #![tactic(auto)]
 
 #[cfg(test)]
-mod ascii_read;
-#[cfg(test)]
-mod ascii_write;
-#[cfg(test)]
-mod binary_read;
-#[cfg(test)]
-mod binary_write;
-#[cfg(test)]
 mod certificates;
 #[cfg(test)]
-mod devices;
+mod circuits;
 #[cfg(test)]
-mod layouts;
+mod devices;
 #[cfg(test)]
 mod numbers;
 #[cfg(test)]
 mod proof_lines;
 #[cfg(test)]
+mod questions;
+#[cfg(test)]
 mod stimuli;
+#[cfg(test)]
+mod words;

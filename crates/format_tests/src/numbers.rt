@@ -21,92 +21,265 @@ const KINDS: Kinds<Refusal> = Kinds {
     byte: Refusal::Byte,
 };
 
-fn refused<T>(kind: Refusal, left: usize) -> Result<T, Fault<Refusal>> {
-    Err(Fault::Text { kind, left })
-}
+/// What is answered, with what is left of the text.
+type Answer<T> = Result<(T, &'static [u8]), Fault<Refusal>>;
+
+/// What is left of the text where only that is answered.
+type Rest = Result<&'static [u8], Fault<Refusal>>;
+
+static NUMBERS: [(&[u8], Answer<u32>); 9] = [
+    (b"0", Ok((0, b""))),
+    (b"7 1", Ok((7, b" 1"))),
+    (b"2147483647\n", Ok((2_147_483_647, b"\n"))),
+    (
+        b"2147483648",
+        Err(Fault::Text {
+            kind: Refusal::Over,
+            left: 10,
+        }),
+    ),
+    (
+        b"99999999999999999999999 ",
+        Err(Fault::Text {
+            kind: Refusal::Over,
+            left: 24,
+        }),
+    ),
+    (
+        b"007",
+        Err(Fault::Text {
+            kind: Refusal::Number,
+            left: 3,
+        }),
+    ),
+    (
+        b"00",
+        Err(Fault::Text {
+            kind: Refusal::Number,
+            left: 2,
+        }),
+    ),
+    (
+        b"-1",
+        Err(Fault::Text {
+            kind: Refusal::Number,
+            left: 2,
+        }),
+    ),
+    (
+        b"",
+        Err(Fault::Text {
+            kind: Refusal::Truncated,
+            left: 0,
+        }),
+    ),
+];
 
 #[test]
 fn numbers_are_canonical(rt: HostRuntime) {
-    let cases = [
-        (b"0".as_slice(), Ok((0, b"".as_slice()))),
-        (b"7 1", Ok((7, b" 1"))),
-        (b"2147483647\n", Ok((2_147_483_647, b"\n"))),
-        (b"2147483648", refused(Refusal::Over, 10)),
-        (b"99999999999999999999999 ", refused(Refusal::Over, 24)),
-        (b"007", refused(Refusal::Number, 3)),
-        (b"00", refused(Refusal::Number, 2)),
-        (b"-1", refused(Refusal::Number, 2)),
-        (b"", refused(Refusal::Truncated, 0)),
-    ];
-    for (text, wanted) in cases {
-        assert_eq!(rt; number(text, 2_147_483_647, KINDS), wanted);
+    for (text, wanted) in &NUMBERS {
+        assert!(rt; number(text, 2_147_483_647, KINDS) == *wanted, "{text:?}");
     }
 }
+
+/// Texts that are to begin with a line end.
+static BYTES: [(&[u8], Rest); 3] = [
+    (b"\n2", Ok(b"2")),
+    (
+        b" 2",
+        Err(Fault::Text {
+            kind: Refusal::Byte,
+            left: 2,
+        }),
+    ),
+    (
+        b"",
+        Err(Fault::Text {
+            kind: Refusal::Truncated,
+            left: 0,
+        }),
+    ),
+];
+
+/// Texts that are to begin with `aag `.
+static TAGS: [(&[u8], Rest); 3] = [
+    (b"aag 1", Ok(b"1")),
+    (
+        b"aig 1",
+        Err(Fault::Text {
+            kind: Refusal::Byte,
+            left: 4,
+        }),
+    ),
+    (
+        b"aa",
+        Err(Fault::Text {
+            kind: Refusal::Truncated,
+            left: 0,
+        }),
+    ),
+];
 
 #[test]
 fn bytes_are_those_that_are_due(rt: HostRuntime) {
-    assert_eq!(rt; byte(b"\n2", b'\n', KINDS), Ok(b"2".as_slice()));
-    assert_eq!(rt; byte(b" 2", b'\n', KINDS), refused(Refusal::Byte, 2));
-    assert_eq!(rt; byte(b"", b'\n', KINDS), refused(Refusal::Truncated, 0));
-    assert_eq!(rt; tag(b"aag 1", b"aag ", KINDS), Ok(b"1".as_slice()));
-    assert_eq!(rt; tag(b"aig 1", b"aag ", KINDS), refused(Refusal::Byte, 4));
-    assert_eq!(rt; tag(b"aa", b"aag ", KINDS), refused(Refusal::Truncated, 0));
-    assert_eq!(rt; place(5, 4), 1);
+    for (text, wanted) in &BYTES {
+        assert!(rt; byte(text, b'\n', KINDS) == *wanted, "{text:?}");
+    }
+    for (text, wanted) in &TAGS {
+        assert!(rt; tag(text, b"aag ", KINDS) == *wanted, "{text:?}");
+    }
+    assert!(rt; place(5, 4) == 1);
 }
+
+/// Texts of a number of at most 12 with a space behind it.
+static FIELDS: [(&[u8], Answer<u32>); 4] = [
+    (b"12 3", Ok((12, b"3"))),
+    (
+        b"13 3",
+        Err(Fault::Text {
+            kind: Refusal::Over,
+            left: 4,
+        }),
+    ),
+    (
+        b"12\n3",
+        Err(Fault::Text {
+            kind: Refusal::Byte,
+            left: 2,
+        }),
+    ),
+    (
+        b"12",
+        Err(Fault::Text {
+            kind: Refusal::Truncated,
+            left: 0,
+        }),
+    ),
+];
 
 #[test]
 fn words_end_as_they_may(rt: HostRuntime) {
-    assert_eq!(rt; field(b"12 3", 12, b' ', KINDS), Ok((12, b"3".as_slice())));
-    assert_eq!(rt; field(b"13 3", 12, b' ', KINDS), refused(Refusal::Over, 4));
-    assert_eq!(rt; field(b"12\n3", 12, b' ', KINDS), refused(Refusal::Byte, 2));
-    assert_eq!(rt;
-        field(b"12", 12, b' ', KINDS),
-        refused(Refusal::Truncated, 0)
-    );
+    for (text, wanted) in &FIELDS {
+        assert!(rt; field(text, 12, b' ', KINDS) == *wanted, "{text:?}");
+    }
     let ends = (b' ', b'\n');
-    assert_eq!(rt;
-        word(b"4\n5", 9, ends, KINDS),
-        Ok((4, b'\n', b"5".as_slice()))
+    assert!(rt; word(b"4\n5", 9, ends, KINDS) == Ok((4, b'\n', b"5")));
+    assert!(rt;
+        word(b"4,5", 9, ends, KINDS)
+            == Err(Fault::Text {
+                kind: Refusal::Byte,
+                left: 2
+            })
     );
-    assert_eq!(rt; word(b"4,5", 9, ends, KINDS), refused(Refusal::Byte, 2));
 }
+
+static SIGNS: [(&[u8], Answer<Option<i64>>); 10] = [
+    (b"5 x", Ok((Some(5), b"x"))),
+    (b"-5 x", Ok((Some(-5), b"x"))),
+    (b"0\nx", Ok((None, b"x"))),
+    (
+        b"0 x",
+        Err(Fault::Text {
+            kind: Refusal::Byte,
+            left: 2,
+        }),
+    ),
+    (
+        b"-5\n",
+        Err(Fault::Text {
+            kind: Refusal::Byte,
+            left: 1,
+        }),
+    ),
+    (
+        b"-0 1",
+        Err(Fault::Text {
+            kind: Refusal::Number,
+            left: 4,
+        }),
+    ),
+    (
+        b"-x",
+        Err(Fault::Text {
+            kind: Refusal::Number,
+            left: 2,
+        }),
+    ),
+    (
+        b"-10 ",
+        Err(Fault::Text {
+            kind: Refusal::Over,
+            left: 4,
+        }),
+    ),
+    (
+        b"-",
+        Err(Fault::Text {
+            kind: Refusal::Truncated,
+            left: 0,
+        }),
+    ),
+    (
+        b"",
+        Err(Fault::Text {
+            kind: Refusal::Truncated,
+            left: 0,
+        }),
+    ),
+];
 
 #[test]
 fn signs_are_those_of_lrat(rt: HostRuntime) {
-    let cases = [
-        (b"5 x".as_slice(), Ok((Some(5), b"x".as_slice()))),
-        (b"-5 x", Ok((Some(-5), b"x"))),
-        (b"0\nx", Ok((None, b"x"))),
-        (b"0 x", refused(Refusal::Byte, 2)),
-        (b"-5\n", refused(Refusal::Byte, 1)),
-        (b"-0 1", refused(Refusal::Number, 4)),
-        (b"-x", refused(Refusal::Number, 2)),
-        (b"-10 ", refused(Refusal::Over, 4)),
-        (b"-", refused(Refusal::Truncated, 0)),
-        (b"", refused(Refusal::Truncated, 0)),
-    ];
-    for (text, wanted) in cases {
-        assert_eq!(rt; signed(text, 9, b'\n', KINDS), wanted);
+    for (text, wanted) in &SIGNS {
+        assert!(rt; signed(text, 9, b'\n', KINDS) == *wanted, "{text:?}");
     }
 }
 
+static COUNTS: [(&[u8], Answer<[u32; 8]>); 8] = [
+    (b"1 2 3 4\nx", Ok(([1, 2, 3, 4, 0, 0, 0, 0], b"x"))),
+    (b"1 2 3 4 0\n", Ok(([1, 2, 3, 4, 0, 0, 0, 0], b""))),
+    (b"1 2 3 4 5 6 7 8\n", Ok(([1, 2, 3, 4, 5, 6, 7, 8], b""))),
+    (
+        b"1 2 3\n",
+        Err(Fault::Text {
+            kind: Refusal::Byte,
+            left: 1,
+        }),
+    ),
+    (
+        b"1 2 3 4 5 6 7 8 9\n",
+        Err(Fault::Text {
+            kind: Refusal::Byte,
+            left: 3,
+        }),
+    ),
+    (
+        b"1 2 3 10\n",
+        Err(Fault::Text {
+            kind: Refusal::Over,
+            left: 3,
+        }),
+    ),
+    (
+        b"1 2 03 4\n",
+        Err(Fault::Text {
+            kind: Refusal::Number,
+            left: 5,
+        }),
+    ),
+    (
+        b"1 2 3 4",
+        Err(Fault::Text {
+            kind: Refusal::Truncated,
+            left: 0,
+        }),
+    ),
+];
+
 #[test]
 fn counts_may_leave_out_zeros(rt: HostRuntime) {
-    let cases = [
-        (
-            b"1 2 3 4\nx".as_slice(),
-            Ok(([1, 2, 3, 4, 0, 0, 0, 0], b"x".as_slice())),
-        ),
-        (b"1 2 3 4 0\n", Ok(([1, 2, 3, 4, 0, 0, 0, 0], b""))),
-        (b"1 2 3 4 5 6 7 8\n", Ok(([1, 2, 3, 4, 5, 6, 7, 8], b""))),
-        (b"1 2 3\n", refused(Refusal::Byte, 1)),
-        (b"1 2 3 4 5 6 7 8 9\n", refused(Refusal::Byte, 3)),
-        (b"1 2 3 10\n", refused(Refusal::Over, 3)),
-        (b"1 2 03 4\n", refused(Refusal::Number, 5)),
-        (b"1 2 3 4", refused(Refusal::Truncated, 0)),
-    ];
-    for (text, wanted) in cases {
-        assert_eq!(rt; counts(text, 9, KINDS), wanted);
+    for (text, wanted) in &COUNTS {
+        assert!(rt; counts(text, 9, KINDS) == *wanted, "{text:?}");
     }
 }
 
@@ -156,36 +329,49 @@ impl ItemKind for Entry {
     }
 }
 
-#[test]
-fn lists_come_with_ample_memory(rt: HostRuntime) -> Result<(), Fault<Refusal>> {
-    let alloc = rt.alloc();
+/// Whether lines of the numbers 1 and 2 are read, and the third line is left.
+fn are_lines_read(alloc: Global) -> Result<bool, Fault<Refusal>> {
     let (rows, rest) = lines::<Row>(alloc, 2, b"1\n2\n3\n", 9)?;
-    assert_eq!(rt; rows.as_slice(), [1, 2].as_slice());
-    assert_eq!(rt; rest, b"3\n".as_slice());
+    Ok(rows.as_slice() == [1, 2].as_slice() && rest == b"3\n".as_slice())
+}
+
+/// Whether the items 1 and -2 are read, and what stands behind the line end is left.
+fn are_items_read(alloc: Global) -> Result<bool, Fault<Refusal>> {
     let (entries, rest) = items::<Entry>(alloc, b"1 -2 0\n3", 9, Refusal::Truncated)?;
-    assert_eq!(rt; entries.as_slice(), [1, -2].as_slice());
-    assert_eq!(rt; rest, b"3".as_slice());
-    Ok(())
+    Ok(entries.as_slice() == [1, -2].as_slice() && rest == b"3".as_slice())
+}
+
+#[test]
+fn lists_come_with_ample_memory(rt: HostRuntime) {
+    assert!(rt; are_lines_read(rt.alloc()) == Ok(true));
+    assert!(rt; are_items_read(rt.alloc()) == Ok(true));
+}
+
+/// Texts that break off before so many lines.
+static BROKEN: [(&[u8], Refusal, usize); 3] = [
+    (b"1\n2", Refusal::Truncated, 0),
+    (b"1\n\n", Refusal::Number, 1),
+    (b"1\n10\n", Refusal::Over, 3),
+];
+
+/// Why 4,000,000,000 lines are not read.
+fn lines_fault(alloc: Global, text: &[u8]) -> Option<Fault<Refusal>> {
+    lines::<Row>(alloc, 4_000_000_000, text, 9).err()
+}
+
+/// Why items are not read.
+fn items_fault(alloc: Global, text: &[u8]) -> Option<Fault<Refusal>> {
+    items::<Entry>(alloc, text, 9, Refusal::Truncated).err()
 }
 
 #[test]
 fn lists_are_refused_where_they_break(rt: HostRuntime) {
-    let alloc = rt.alloc();
-    let cases = [
-        (b"1\n2".as_slice(), Refusal::Truncated, 0),
-        (b"1\n\n", Refusal::Number, 1),
-        (b"1\n10\n", Refusal::Over, 3),
-    ];
-    for (text, kind, left) in cases {
-        let fault = lines::<Row>(alloc, 4_000_000_000, text, 9).err();
-        assert_eq!(rt; fault, Some(Fault::Text { kind, left }));
+    for (text, kind, left) in &BROKEN {
+        let fault = lines_fault(rt.alloc(), text);
+        let (kind, left) = (*kind, *left);
+        assert!(rt; fault == Some(Fault::Text { kind, left }), "{text:?}");
     }
-    let fault = items::<Entry>(alloc, b"1 2 ", 9, Refusal::Truncated).err();
-    assert_eq!(rt;
-        fault,
-        Some(Fault::Text {
-            kind: Refusal::Truncated,
-            left: 0
-        })
-    );
+    let kind = Refusal::Truncated;
+    let fault = items_fault(rt.alloc(), b"1 2 ");
+    assert!(rt; fault == Some(Fault::Text { kind, left: 0 }));
 }

@@ -13,3 +13,4 @@ pub mod Tabled
 pub mod Limits
 pub mod Shape
 pub mod Marking
+pub mod Alone

@@ -1,5 +1,5 @@
 -- The counts and their limits.
-use Rattle.std.proofs.Common.{◌≡◌, ℕ, ◌-◌, ◌^◌, ◌<◌, ◌≤◌, List, [], ◌∷◌, ◌++◌, length, get_or, map, All, arith, sym, subst, ◌∙◌, length-append}
+use Rattle.std.proofs.Common.{◌≡◌, ℕ, ◌-◌, ◌^◌, ◌<◌, ◌≤◌, List, [], ◌∷◌, ◌++◌, length, All, arith, sym, subst, length-append}
 use Rattle.std.specs.Prelude.{sum_by, min}
 use Rattle.std.proofs.Math.ListN.{get_or-append}
 use Rattle.graph.specs.declared.parts.Parts.{Parts}

@@ -1,6 +1,6 @@
 -- Marks of positions, kind by kind, and the symbols that they are for.
-use Rattle.std.proofs.Common.{◌≡◌, ◌≢◌, ℕ, ◌+◌, ◌<◌, ◌≤◌, ◌⊎◌, Bool, true, false, List, [], ◌∷◌, ◌++◌, length, take, map, set, get_or, All, AllPairs, inl, inr, refl, arith, sym, ap, subst, ◌∙◌, length-append, get_or-set_other, get_or-set_same}
-use Rattle.std.specs.Prelude.{Any, slice_set, slice_index, Vec, replicate, ◌↔◌, IsTrue}
+use Rattle.std.proofs.Common.{◌≡◌, ◌≢◌, ℕ, ◌+◌, ◌<◌, Bool, true, false, List, [], ◌∷◌, ◌++◌, length, take, map, set, get_or, inl, inr, refl, arith, sym, ap, subst, ◌∙◌, length-append, get_or-set_other, get_or-set_same}
+use Rattle.std.specs.Prelude.{slice_set, slice_index, Vec, replicate}
 use Rattle.std.specs.declared.alloc.Global.{Global}
 use Rattle.std.specs.Vec.{with_item}
 use Rattle.std.proofs.Math.Seq.{map-set_same}
@@ -12,7 +12,7 @@ use Rattle.std.proofs.lemmas.List.Quantifiers.{all_pairs_push}
 use Rattle.graph.specs.declared.symbol.Symbol.{Symbol}
 use Rattle.graph.specs.declared.symbol.SymbolKind.{SymbolKind}
 use Rattle.graph.specs.declared.symbol.SymbolKind.TheVariants.{Input, Latch, Output, Bad, Constraint, Justice, Fairness}
-use Rattle.graph.specs.Symbols.{index_of, Labels, IsName, IsSymbol, AreSame, AreSymbols, IsFree, IsFirstWrong}
+use Rattle.graph.specs.Symbols.{index_of, IsName, IsSymbol, AreSame, AreSymbols, IsFree, IsFirstWrong}
 use Rattle.graph.specs.Taken.{IsAt, Tells, mark_at, rows_of, marked_at, IsUnmarked, AreTaken, labels_of}
 use Rattle.graph.proofs.Filled.{same_or_not}
 use Rattle.graph.proofs.Evaluation.{true_or_false}

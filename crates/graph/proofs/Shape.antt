@@ -1,8 +1,8 @@
 -- What fine literals say of the lists, and what is well formed.
-use Rattle.std.proofs.Common.{◌≡◌, ◌≢◌, ℕ, ◌+◌, ◌*◌, ◌%◌, ◌<◌, ◌≤◌, ◌⊎◌, List, [], ◌∷◌, ◌++◌, map, length, get_or, All, AllPairs, Contains, inl, inr, refl, sym, ◌∙◌, ap, subst, arith, length-append, Result, Ok, Err}
+use Rattle.std.proofs.Common.{◌≡◌, ◌≢◌, ℕ, ◌+◌, ◌*◌, ◌%◌, ◌≤◌, ◌⊎◌, List, [], ◌∷◌, ◌++◌, map, get_or, All, Contains, inl, inr, refl, sym, ◌∙◌, ap, subst, arith, Result, Ok, Err}
 use Rattle.std.specs.Prelude.{flat_map, slice_index, IsErrAnd, IfErr, MatchResult, slice_get, Some, unwrap_or}
 use Rattle.std.proofs.lemmas.Option.{slice_get_within, unwrap_or-slice_get}
-use Rattle.std.proofs.lemmas.List.{get_or-map, length-map, get_or-append-add, get_or_default}
+use Rattle.std.proofs.lemmas.List.{get_or-map, length-map, get_or_default}
 use Rattle.std.proofs.lemmas.List.Elements.{All-nil, All-cons, All-head, All-tail, All-append, All-map, All-contains, All-from_recursion, Contains-get_or}
 use Rattle.base.specs.Witness.{witness}
 use Rattle.graph.specs.declared.circuit.Lit.{Lit}
@@ -10,13 +10,16 @@ use Rattle.graph.specs.declared.circuit.Latch.{Latch}
 use Rattle.graph.specs.declared.circuit.Gate.{Gate}
 use Rattle.graph.specs.declared.circuit.Use.{Use}
 use Rattle.graph.specs.declared.circuit.Use.TheVariants.{Defines, Mentions, Resets}
+use Rattle.graph.specs.declared.circuit.Property.{Property}
+use Rattle.graph.specs.declared.circuit.Property.TheVariants.{Bad, Justice, Output}
 use Rattle.graph.specs.declared.parts.Parts.{Parts}
+use Rattle.graph.specs.Properties.{IsWatched}
 use Rattle.graph.specs.declared.error.ReadError.{ReadError}
 use Rattle.graph.specs.declared.error.ReadError.TheVariants.{TooLong, Header, Number, Limit, Byte, Truncated, LiteralRange, Defining, DefinedTwice, Undefined, Cyclic, Reset, Delta, Symbol, Counts, NoProperty, OutOfMemory}
 use Rattle.graph.specs.Valuation.{variable, defined}
-use Rattle.graph.specs.WellFormed.{IsWellFormed, IsInLimits, HasReset, HasNoCycle, defining, used, justice_literals, Leads, IsOrder, IsModel, only_bad}
+use Rattle.graph.specs.WellFormed.{IsWellFormed, IsInLimits, HasReset, HasNoCycle, defining, used, justice_literals, IsOrder, IsModel, only_bad}
 use Rattle.graph.specs.Uses.{uses_of, latch_uses, gate_uses, IsFine, IsFirst, IsOutOfRange, IsNotDefining, IsWrongReset}
-use Rattle.graph.specs.Faults.{HasCause, HasFineLiterals, HasDistinct, HasDefined, IsFirstFault, IsFirstOver, IsTwice, IsUndefined, IsLeast, LeadsIntoCycle, counts_of}
+use Rattle.graph.specs.Faults.{HasCause, HasFineLiterals, HasDefined, IsFirstFault, IsUndefined, IsLeast, LeadsIntoCycle, counts_of}
 use Rattle.graph.specs.declared.definitions.Times.{Times}
 use Rattle.graph.specs.declared.definitions.Times.TheVariants.{Never, Once, Again}
 use Rattle.graph.specs.Tables.{Stands, IsCounted}
@@ -303,10 +306,16 @@ get_or_at : (xs : List Lit) (n : ℕ) (a : Lit) → slice_get xs n ≡ Some a �
 get_or_at xs n a found = sym (unwrap_or-slice_get xs n a) ∙ ap (λ o. unwrap_or o a) found
 
 -- what holds of all used literals holds of them where one bad literal is alone
-only_bad_holds : (P : Lit → Type 0) (m : Parts) (n : ℕ) (a : Lit) → slice_get m.bad n ≡ Some a → All P (used m) → All P (used (only_bad m a))
-only_bad_holds P m n a found h =
+-- what holds of all literals that are used holds of the one that is watched
+watched_holds : (P : Lit → Type 0) (m : Parts) (p : Property) (a : Lit) → IsWatched m p a → HoldsOfUsed P m → P a
+watched_holds P m (Bad n) a watched u = subst P (get_or_at m.bad n a watched) (u.bad n a (slice_get_within m.bad n a watched))
+watched_holds P m (Justice n) a watched u = absurd watched
+watched_holds P m (Output n) a watched u = subst P (get_or_at m.outputs n a watched.1) (u.outputs n a (slice_get_within m.outputs n a watched.1))
+
+only_bad_holds : (P : Lit → Type 0) (m : Parts) (p : Property) (a : Lit) → IsWatched m p a → All P (used m) → All P (used (only_bad m a))
+only_bad_holds P m p a watched h =
     let u : HoldsOfUsed P m = holds_of_used P m h in
-    let bad : P a = subst P (get_or_at m.bad n a found) (u.bad n a (slice_get_within m.bad n a found)) in
+    let bad : P a = watched_holds P m p a watched u in
     All-append P _ (map (λ g. g.rhs1) m.gates)
     (All-append P _ (map (λ g. g.rhs0) m.gates)
     (All-append P _ []
@@ -322,8 +331,8 @@ only_bad_holds P m n a found h =
     (All-map P (λ g. g.rhs1) m.gates u.right)
 
 -- the same circuit with one bad literal alone
-pub only_bad_well_formed : (m : Parts) (n : ℕ) (a : Lit) → slice_get m.bad n ≡ Some a → IsWellFormed m → IsWellFormed (only_bad m a)
-only_bad_well_formed m n a found h =
+pub only_bad_well_formed : (m : Parts) (p : Property) (a : Lit) → IsWatched m p a → IsWellFormed m → IsWellFormed (only_bad m a)
+only_bad_well_formed m p a watched h =
     let R : Lit → Type 0 = λ b. b.0 ≤ 2 * m.max_var + 1 in
     let K : Lit → Type 0 = λ b. (variable b ≡ 0) ⊎ Contains (defined m) (variable b) in
     record {
@@ -341,14 +350,14 @@ only_bad_well_formed m n a found h =
       };
       defining_even = h.defining_even;
       defining_in_range = h.defining_in_range;
-      used_in_range = only_bad_holds R m n a found h.used_in_range;
+      used_in_range = only_bad_holds R m p a watched h.used_in_range;
       resets = h.resets;
       defined_once = h.defined_once;
-      used_defined = only_bad_holds K m n a found h.used_defined;
+      used_defined = only_bad_holds K m p a watched h.used_defined;
       no_cycle = h.no_cycle;
     }
 
-pub only_bad_model : (m whole : Parts) (order copied : List ℕ) (n : ℕ) (a : Lit) → slice_get m.bad n ≡ Some a → IsModel m order → whole ≡ only_bad m a → copied ≡ order → IsModel whole copied
-only_bad_model m whole order copied n a found h same same_order =
-    subst (λ p. IsModel p copied) (sym same) (subst (λ o. IsModel (only_bad m a) o) (sym same_order)
-    (record { well_formed = only_bad_well_formed m n a found h.well_formed; ordered = h.ordered }))
+pub only_bad_model : (m whole : Parts) (order copied : List ℕ) (p : Property) (a : Lit) → IsWatched m p a → IsModel m order → whole ≡ only_bad m a → copied ≡ order → IsModel whole copied
+only_bad_model m whole order copied p a watched h same same_order =
+    subst (λ q. IsModel q copied) (sym same) (subst (λ o. IsModel (only_bad m a) o) (sym same_order)
+    (record { well_formed = only_bad_well_formed m p a watched h.well_formed; ordered = h.ordered }))

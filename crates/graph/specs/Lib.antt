@@ -1,4 +1,5 @@
 pub mod Valuation
+pub mod Properties
 pub mod Runs
 pub mod Justice
 pub mod WellFormed
@@ -10,4 +11,3 @@ pub mod Search
 pub mod Symbols
 pub mod Taken
 pub mod File
-pub mod Properties

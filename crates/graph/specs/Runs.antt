@@ -1,8 +1,10 @@
--- Runs of a circuit, and when one of its bad literals is never set (AIGER 1.9, Biere, Heljanko, Wieringa 2011).
-use Rattle.std.specs.Prelude.{◌≡◌, ℕ, Bool, true, false, List, [], ◌∷◌, map, slice_get, Some, All}
+-- Runs of a circuit, and when the literal that a property watches is never set (AIGER 1.9, Biere, Heljanko, Wieringa 2011).
+use Rattle.std.specs.Prelude.{◌≡◌, Bool, true, false, List, [], ◌∷◌, map, All}
 use Rattle.graph.specs.declared.circuit.Lit.{Lit}
 use Rattle.graph.specs.declared.circuit.Latch.{Latch}
+use Rattle.graph.specs.declared.circuit.Property.{Property}
 use Rattle.graph.specs.declared.parts.Parts.{Parts}
+use Rattle.graph.specs.Properties.{IsWatched}
 use Rattle.graph.specs.Valuation.{Valuation, value_of, state_of, Agrees}
 
 -- a latch that is reset to 0 or to 1 has that value
@@ -43,7 +45,7 @@ pub record IsRun (m : Parts) (r : List Valuation) : Type 0 where
 abbrev pub KeepsConstraints : Parts → List Valuation → Type 0
 KeepsConstraints m r = All (λ w. All (λ a. value_of w a ≡ true) m.constraints) r
 
--- no run that keeps the constraints sets the n-th bad literal at any time
-abbrev pub IsSafe : Parts → ℕ → Type 0
-IsSafe m n = (r : List Valuation) (a : Lit) → IsRun m r → KeepsConstraints m r → slice_get m.bad n ≡ Some a →
+-- no run that keeps the constraints sets the literal that the property watches at any time
+abbrev pub IsSafe : Parts → Property → Type 0
+IsSafe m p = (r : List Valuation) (a : Lit) → IsRun m r → KeepsConstraints m r → IsWatched m p a →
     All (λ w. value_of w a ≡ false) r

@@ -1,5 +1,5 @@
 -- What the tables by variable say.
-use Rattle.std.specs.Prelude.{◌≡◌, ℕ, ◌++◌, List, length, Bool, true, slice_index_or, Contains, ◌↔◌, IsTrue, false}
+use Rattle.std.specs.Prelude.{◌≡◌, ℕ, ◌++◌, List, length, Bool, slice_index_or, Contains, ◌↔◌, IsTrue, false}
 use Rattle.graph.specs.declared.definitions.Times.{Times}
 use Rattle.graph.specs.declared.definitions.Times.TheVariants.{Never, Once, Again}
 use Rattle.graph.specs.Faults.{IsTwice}

@@ -47,6 +47,9 @@ pub enum Property {
     Bad(u32),
     /// A justice property: violated by an infinite run that sets each wanted literal infinitely often.
     Justice(u32),
+    /// An output of a circuit without bad literals, constraints, justice properties and fairness
+    /// literals, taken as a bad literal: violated where a run sets it.
+    Output(u32),
 }
 
 /// How a literal stands in a circuit's lists.

@@ -1,10 +1,12 @@
 //! Well-formed circuits.
 
-ghost use Rattle.std.specs.Prelude.{◌≡◌, ◌≢◌, ◌+◌, ◌≤◌, ◌⊎◌, ◌↔◌, ◌∷◌, [], List, Bool, length, slice_get, Some, IsTrue, IfOk, IfErr, IsErrOf};
+ghost use Rattle.std.specs.Prelude.{◌≡◌, ◌≢◌, ◌+◌, ◌≤◌, ◌⊎◌, ◌↔◌, ◌∷◌, [], List, Bool, length, slice_get, IsTrue, IfOk, IfErr, IsErrOf};
 ghost use Rattle.base.specs.Witness.{witness};
 ghost use Rattle.graph.specs.Faults.{HasCause};
+ghost use Rattle.graph.specs.Properties.{HasProperty, IsAlone};
 ghost use Rattle.graph.specs.Valuation.{Agrees, state_of, inputs_of};
-ghost use Rattle.graph.specs.WellFormed.{IsWellFormed, IsOrder, IsOrdered, only_bad};
+ghost use Rattle.graph.specs.WellFormed.{IsWellFormed, IsOrder, IsOrdered};
+ghost use Rattle.graph.specs.declared.circuit.Property.TheVariants.{Bad, Output};
 
 use crate::check::check;
 use crate::circuit::{Gate, Latch, Lit};
@@ -153,13 +155,30 @@ impl Model {
     /// The same circuit and constraints with the one bad literal at position `n`, and no outputs,
     /// justice or fairness.
     pub fn for_bad(&self, alloc: Global, n: u32) -> Result<Model, ReadError>
-        ensures found { IfOk result (λ m. (bad : Lit) × (slice_get self.now.bad n ≡ Some bad) × (m ≡ only_bad self.now bad)) }
-        ensures refused { IfErr result (λ e. (e ≡ ReadError.OutOfMemory witness) ⊎ ((e ≡ ReadError.NoProperty n) × (length self.now.bad ≤ n))) }
+        ensures found { IfOk result (IsAlone self.now (Bad n)) }
+        ensures refused { IfErr result (λ e. (e ≡ ReadError.OutOfMemory witness) ⊎ ((e ≡ ReadError.NoProperty n) × (HasProperty self.now (Bad n) → ⊥))) }
     {
         let Some(bad) = nth(self.parts.bad.as_slice(), n) else {
             return Err(ReadError::NoProperty(n));
         };
         let parts = self.parts.only_bad(alloc, bad)?;
+        let order = copied(alloc, &self.order)?;
+        Ok(Model { parts, order })
+    }
+
+    /// The same circuit with the output at position `n` as its one bad literal, and no outputs. The
+    /// circuit has to have no bad literal, constraint, justice property or fairness literal.
+    pub fn for_output(&self, alloc: Global, n: u32) -> Result<Model, ReadError>
+        ensures found { IfOk result (IsAlone self.now (Output n)) }
+        ensures refused { IfErr result (λ e. (e ≡ ReadError.OutOfMemory witness) ⊎ ((e ≡ ReadError.NoProperty n) × (HasProperty self.now (Output n) → ⊥))) }
+    {
+        if !self.parts.are_outputs_bad() {
+            return Err(ReadError::NoProperty(n));
+        }
+        let Some(output) = nth(self.parts.outputs.as_slice(), n) else {
+            return Err(ReadError::NoProperty(n));
+        };
+        let parts = self.parts.only_bad(alloc, output)?;
         let order = copied(alloc, &self.order)?;
         Ok(Model { parts, order })
     }

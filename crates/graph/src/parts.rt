@@ -1,9 +1,10 @@
 //! Circuits as plain lists.
 
-ghost use Rattle.std.specs.Prelude.{◌≡◌, IfOk};
+ghost use Rattle.std.specs.Prelude.{◌≡◌, ◌↔◌, IfOk, IsTrue};
+ghost use Rattle.graph.specs.Properties.{AreOutputsBad, HasProperty};
 ghost use Rattle.graph.specs.WellFormed.{only_bad as only_bad_of};
 
-use crate::circuit::{Gate, Latch, Lit};
+use crate::circuit::{Gate, Latch, Lit, Property};
 use base::{Refused, Seq};
 use std::alloc::Global;
 
@@ -54,6 +55,28 @@ impl Parts {
             fairness: self.fairness.copy(alloc)?,
             gates: self.gates.copy(alloc)?,
         })
+    }
+
+    /// Whether the outputs are taken as bad literals: there is no bad literal, constraint, justice
+    /// property or fairness literal.
+    pub fn are_outputs_bad(&self) -> bool
+        ensures { IsTrue result ↔ AreOutputsBad self.now }
+    {
+        self.bad.is_empty()
+            && self.constraints.is_empty()
+            && self.justice.is_empty()
+            && self.fairness.is_empty()
+    }
+
+    /// Whether there is this property.
+    pub fn has_property(&self, property: Property) -> bool
+        ensures { IsTrue result ↔ HasProperty self.now property }
+    {
+        match property {
+            Property::Bad(n) => (n as usize) < self.bad.len(),
+            Property::Justice(n) => (n as usize) < self.justice.len(),
+            Property::Output(n) => self.are_outputs_bad() && (n as usize) < self.outputs.len(),
+        }
     }
 
     /// The same circuit and constraints with this one bad literal, and no outputs, justice or

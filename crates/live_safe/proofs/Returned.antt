@@ -38,19 +38,15 @@ old_lines : (m : Parts) (j : ℕ) (r : List (List Bool)) → map (take (length m
 old_lines m j [] = refl
 old_lines m j (x ∷ r) = ap₂ (λ p q. p ∷ q) (old_line m j x) (old_lines m j r)
 
-same_bad : (j k : ℕ) → Bad j ≡ Bad k → j ≡ k
-same_bad j k e = cc
-
-only_one : (a b : Lit) (k : ℕ) → k ≡ 0 → slice_get (a ∷ []) k ≡ Some b → a ≡ b
-only_one a b zero first e = cc
-only_one a b (suc k) first e = absurd (omega arith)
+only_one : (a b : Lit) → slice_get (a ∷ []) 0 ≡ Some b → a ≡ b
+only_one a b e = cc
 
 pub lasso_shown : (m : Parts) (j : ℕ) → FoundLaw m j → ShownLaw m j
 lasso_shown m j found initial lines h =
     let r : List (List Bool) = h.replay in
     let t : ℕ = length r - 1 in
     let some : 0 < length r = (Starts-at (shadow_of m j) r h.runs.starts).0 in
-    let is_bad : closing_literal m j ≡ h.bad = only_one (closing_literal m j) h.bad h.position (sym (same_bad 0 h.position h.names)) h.exists in
+    let is_bad : closing_literal m j ≡ h.bad = only_one (closing_literal m j) h.bad h.watched in
     let lasso : ShowsLasso m (Violated (Justice j) (state_of m (at r 0)) (map (inputs_of m) (take t r))) =
     found r t h.runs h.keeps (omega (arith, some)) (ap (value_of (at r t)) is_bad ∙ h.sets) in
     let first : take (length m.latches) initial ≡ state_of m (at r 0) =

@@ -48,7 +48,7 @@ CarriedLaw m j = (initial : List Bool) (lines : List (List Bool)) → (h : Shows
 
 -- where the shadow circuit never sets its bad literal, the rounds of the property are bounded
 abbrev pub BoundedLaw : Parts → ℕ → Type 0
-BoundedLaw m j = IsSafe (shadow_of m j) 0 → IsBounded m j
+BoundedLaw m j = IsSafe (shadow_of m j) (Bad 0) → IsBounded m j
 
 -- a stimulus that violates the shadow circuit's bad literal gives one that shows a lasso
 abbrev pub ShownLaw : Parts → ℕ → Type 0

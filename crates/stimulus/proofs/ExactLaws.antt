@@ -1,12 +1,10 @@
 -- Where a cause stands, nothing is shown.
 use Rattle.base.specs.Witness.{witness}
 use Rattle.std.proofs.Common.{◌≡◌, ℕ, ◌+◌, ◌<◌, ◌≢◌, Bool, true, false, List, [], ◌∷◌, length, get_or, refl, sym, ap, ◌∙◌, arith, subst, inl, inr, Result, Ok, Err, IfErr}
-use Rattle.std.specs.Prelude.{slice_get}
 use Rattle.std.proofs.lemmas.List.{get_or-map, length-map, get_or-take}
-use Rattle.std.proofs.lemmas.Option.{same_Some, slice_get_within}
 use Rattle.graph.specs.declared.circuit.Lit.{Lit}
 use Rattle.graph.specs.declared.circuit.Property.{Property}
-use Rattle.graph.specs.declared.circuit.Property.TheVariants.{Bad, Justice}
+use Rattle.graph.specs.declared.circuit.Property.TheVariants.{Justice}
 use Rattle.graph.specs.declared.parts.Parts.{Parts}
 use Rattle.graph.specs.Valuation.{Valuation, value_of, inputs_of}
 use Rattle.graph.specs.Runs.{IsRun, KeepsConstraints}
@@ -14,9 +12,10 @@ use Rattle.graph.specs.Justice.{at, wanted_of}
 use Rattle.stimulus.specs.declared.value.Stimulus.TheVariants.{Violated}
 use Rattle.stimulus.specs.declared.judge_error.JudgeError.{JudgeError}
 use Rattle.stimulus.specs.declared.judge_error.JudgeError.TheVariants.{NotViolated, NoProperty, LineLength, NoInputLine, InitialReset, ConstraintBroken, BadNotSet, NoLasso, OutOfMemory}
-use Rattle.graph.specs.Properties.{position_of}
+use Rattle.graph.specs.Properties.{position_of, HasProperty, IsWatched}
+use Rattle.graph.proofs.Alone.{watched_one, watched_there}
 use Rattle.stimulus.specs.Shown.{Begins, IsReplay, Shows, ClosesLasso, last_of, closing_state}
-use Rattle.stimulus.specs.Causes.{HasProperty, HasCauseIn, KeepsAt, BreaksAt, LeavesBad, LeavesLasso}
+use Rattle.stimulus.specs.Causes.{HasCauseIn, KeepsAt, BreaksAt, LeavesBad, LeavesLasso}
 use Rattle.stimulus.proofs.CourseLaws.{starts_of}
 
 -- what shows a violation has a run of the lines
@@ -29,7 +28,7 @@ record Evidence (m : Parts) (p : Property) (initial : List Bool) (inputs : List 
 
 evidence_of : (m : Parts) (p : Property) (initial : List Bool) (inputs : List (List Bool)) → Shows m (Violated p initial inputs) → Evidence m p initial inputs
 evidence_of m p initial inputs (inl b) = record {
-  exists = subst (HasProperty m) (sym b.names) (slice_get_within m.bad b.position b.bad b.exists);
+  exists = watched_there m p b.bad b.watched;
   replay = b.replay;
   replays = b.replays;
   runs = b.runs;
@@ -61,23 +60,23 @@ begins_some : (m : Parts) (initial : List Bool) (r : List Valuation) → Begins 
 begins_some m initial [] begins = absurd begins
 begins_some m initial (w ∷ r) begins = omega arith
 
-apart : (a b : ℕ) → Bad a ≡ Justice b → ⊥
-apart a b e = absurd cc
+-- a justice property watches no literal
+unwatched : (m : Parts) (p : Property) (j : ℕ) (a : Lit) → p ≡ Justice j → IsWatched m p a → ⊥
+unwatched m p j a is watched = subst (λ (q : Property). IsWatched m q a) is watched
 
 -- the bad literal is set or not
 bad_both : (m : Parts) (p : Property) (initial : List Bool) (inputs : List (List Bool)) → LeavesBad m p initial inputs → Shows m (Violated p initial inputs) → ⊥
 bad_both m p initial inputs c (inl b) =
     let same : c.replay ≡ b.replay = sym (c.runs.only b.replay b.replays) in
-    let position : c.position ≡ b.position = ap position_of (sym c.names ∙ b.names) in
-    let bad : c.bad ≡ b.bad = same_Some c.bad b.bad (sym c.exists ∙ ap (λ (n : ℕ). slice_get m.bad n) position ∙ b.exists) in
+    let bad : c.bad ≡ b.bad = watched_one m p c.bad b.bad c.watched b.watched in
     let values : value_of (last_of c.replay) c.bad ≡ value_of (last_of b.replay) b.bad = ap (λ (r : List Valuation). value_of (last_of r) c.bad) same ∙ ap (λ (a : Lit). value_of (last_of b.replay) a) bad in
     let no : false ≡ true = sym c.not_set ∙ values ∙ b.sets in
     absurd cc
-bad_both m p initial inputs c (inr l) = apart c.position l.position (sym c.names ∙ l.names)
+bad_both m p initial inputs c (inr l) = unwatched m p l.position c.bad l.names c.watched
 
 -- there is a lasso or not
 lasso_both : (m : Parts) (p : Property) (initial : List Bool) (inputs : List (List Bool)) → LeavesLasso m p initial inputs → Shows m (Violated p initial inputs) → ⊥
-lasso_both m p initial inputs c (inl b) = apart b.position c.position (sym b.names ∙ c.names)
+lasso_both m p initial inputs c (inl b) = unwatched m p c.position b.bad c.names b.watched
 lasso_both m p initial inputs c (inr l) =
     let same : l.replay ≡ c.replay = c.runs.only l.replay l.replays in
     let position : l.position ≡ c.position = ap position_of (sym l.names ∙ c.names) in

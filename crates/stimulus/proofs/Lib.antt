@@ -8,4 +8,5 @@ pub mod PlaySteps
 pub mod ExactLaws
 pub mod LassoLaws
 pub mod Ranges
+pub mod Watching
 pub mod RowLaws

@@ -9,12 +9,12 @@ use Rattle.scan.proofs.Toolbox.{Reads, NeverBegins, reads_as, reads_nothing, rea
 use Rattle.scan.proofs.WordLaws.{field_reads}
 use Rattle.scan.proofs.ListLaws.{TakesSome, items_reads}
 use Rattle.graph.specs.declared.circuit.Property.{Property}
-use Rattle.graph.specs.declared.circuit.Property.TheVariants.{Bad, Justice}
+use Rattle.graph.specs.declared.circuit.Property.TheVariants.{Bad, Justice, Output}
 use Rattle.graph.specs.Properties.{position_of}
 use Rattle.stimulus.specs.declared.value.Stimulus.{Stimulus}
 use Rattle.stimulus.specs.declared.value.Stimulus.TheVariants.{Holds, Violated, Unknown}
 use Rattle.stimulus.specs.Texts.{property_line, value_text, line_text, SpellsStimulus}
-use Rattle.stimulus.specs.Reading.{bad_at, justice_at, property_at, heading_at, concluded_at, value_at, line_at, violated_at, holds_at, unknown_at, stimulus_at}
+use Rattle.stimulus.specs.Reading.{bad_at, justice_at, output_at, property_at, heading_at, concluded_at, value_at, line_at, violated_at, holds_at, unknown_at, stimulus_at}
 use Rattle.stimulus.proofs.Pieces.{Never, Either, never_reads, never_begins, after_begins, either_begins, each_flat, flat_each, five}
 
 -- ---- properties
@@ -23,8 +23,15 @@ use Rattle.stimulus.proofs.Pieces.{Never, Either, never_reads, never_begins, aft
 abbrev OfPosition : (ℕ → Property) → List ℕ → Property → Type 0
 OfPosition kind = Then (IsField 4294967295 any 10) (λ n. Nothing {A = Property} (kind n))
 
+-- no bad literal, and no justice property either
+abbrev OfLastKind : List ℕ → Property → Type 0
+OfLastKind = Either (After (111 ∷ []) (OfPosition Output)) Never
+
+abbrev OfOther : List ℕ → Property → Type 0
+OfOther = Either (After (106 ∷ []) (OfPosition Justice)) OfLastKind
+
 abbrev OfProperty : List ℕ → Property → Type 0
-OfProperty = Either (After (98 ∷ []) (OfPosition Bad)) (Either (After (106 ∷ []) (OfPosition Justice)) Never)
+OfProperty = Either (After (98 ∷ []) (OfPosition Bad)) OfOther
 
 -- a property's line, its number in its limit
 abbrev IsPropertyLine : List ℕ → Property → Type 0
@@ -38,12 +45,18 @@ justice_reads : Reads justice_at (OfPosition Justice)
 unfolding justice_at
 justice_reads = reads_then (field_reads 4294967295 any 10 (omega arith) refl) (λ n. reads_nothing {A = Property} (Justice n))
 
+output_reads : Reads output_at (OfPosition Output)
+unfolding output_at
+output_reads = reads_then (field_reads 4294967295 any 10 (omega arith) refl) (λ n. reads_nothing {A = Property} (Output n))
+
 property_to : (t : List ℕ) (p : Property) → OfProperty t p → IsPropertyLine t p
 property_to t p (inl (b, (n, c, d, field, last, parts), whole)) =
     rw last.1 (rw (whole, parts, field.spells, last.0) (simp (append_assoc, append-nil)), omega (arith, field.within))
 property_to t p (inr (inl (b, (n, c, d, field, last, parts), whole))) =
     rw last.1 (rw (whole, parts, field.spells, last.0) (simp (append_assoc, append-nil)), omega (arith, field.within))
-property_to t p (inr (inr r)) = absurd r
+property_to t p (inr (inr (inl (b, (n, c, d, field, last, parts), whole)))) =
+    rw last.1 (rw (whole, parts, field.spells, last.0) (simp (append_assoc, append-nil)), omega (arith, field.within))
+property_to t p (inr (inr (inr r))) = absurd r
 
 position_from : (kind : ℕ → Property) (n : ℕ) → n < 2 ^ 32 → OfPosition kind (decimal n ++ 10 ∷ []) (kind n)
 position_from kind n small =
@@ -52,13 +65,18 @@ position_from kind n small =
 property_from : (t : List ℕ) (p : Property) → IsPropertyLine t p → OfProperty t p
 property_from t (Bad n) e = inl (decimal n ++ 10 ∷ [], position_from Bad n e.1, e.0)
 property_from t (Justice n) e = inr (inl (decimal n ++ 10 ∷ [], position_from Justice n e.1, e.0))
+property_from t (Output n) e = inr (inr (inl (decimal n ++ 10 ∷ [], position_from Output n e.1, e.0)))
+
+last_kind_begins : (k : ℕ) → ◌≡◌ {A = Bool} (eqb 111 k) false → NeverBegins k OfLastKind
+last_kind_begins k apart = either_begins (After (111 ∷ []) (OfPosition Output)) Never k (after_begins (OfPosition Output) k 111 apart) (never_begins k)
 
 property_reads : Reads property_at IsPropertyLine
 unfolding property_at
 property_reads =
     reads_as IsPropertyLine
-    (reads_choice 98 bad_reads (reads_choice 106 justice_reads never_reads (never_begins 106))
-    (either_begins (After (106 ∷ []) (OfPosition Justice)) Never 98 (after_begins (OfPosition Justice) 98 106 refl) (never_begins 98)))
+    (reads_choice 98 bad_reads
+    (reads_choice 106 justice_reads (reads_choice 111 output_reads never_reads (never_begins 111)) (last_kind_begins 106 refl))
+    (either_begins (After (106 ∷ []) (OfPosition Justice)) OfLastKind 98 (after_begins (OfPosition Justice) 98 106 refl) (last_kind_begins 98 refl)))
     property_to property_from
 
 -- the line end behind the status, and a property's line

@@ -1,25 +1,20 @@
 -- Why a stimulus shows nothing: the first cause, in the order no violation, no such property, a line's length, no input
 -- line, a latch against its reset, a constraint broken, and then the bad literal not set or no lasso.
-use Rattle.std.specs.Prelude.{◌≡◌, ℕ, ◌+◌, ◌<◌, ◌≢◌, ◌⊎◌, Bool, true, false, List, [], length, slice_get, slice_index_or, take, Some, All}
+use Rattle.std.specs.Prelude.{◌≡◌, ℕ, ◌+◌, ◌<◌, ◌≢◌, ◌⊎◌, Bool, true, false, List, [], length, slice_index_or, take, All}
 use Rattle.graph.specs.declared.circuit.Lit.{Lit}
 use Rattle.graph.specs.declared.circuit.Property.{Property}
-use Rattle.graph.specs.declared.circuit.Property.TheVariants.{Bad, Justice}
+use Rattle.graph.specs.declared.circuit.Property.TheVariants.{Justice}
 use Rattle.graph.specs.declared.parts.Parts.{Parts}
 use Rattle.graph.specs.Valuation.{Valuation, value_of}
 use Rattle.graph.specs.Runs.{IsRun, KeepsConstraints}
 use Rattle.graph.specs.Justice.{wanted_of, at}
-use Rattle.graph.specs.Properties.{position_of}
+use Rattle.graph.specs.Properties.{position_of, HasProperty, IsWatched}
 use Rattle.simulate.specs.Starts.{Starts, IsFirstAgainst}
 use Rattle.stimulus.specs.declared.value.Stimulus.{Stimulus}
 use Rattle.stimulus.specs.declared.value.Stimulus.TheVariants.{Holds, Violated, Unknown}
 use Rattle.stimulus.specs.declared.judge_error.JudgeError.{JudgeError}
 use Rattle.stimulus.specs.declared.judge_error.JudgeError.TheVariants.{NotViolated, NoProperty, LineLength, NoInputLine, InitialReset, ConstraintBroken, BadNotSet, NoLasso, OutOfMemory}
 use Rattle.stimulus.specs.Shown.{IsReplay, last_of, closing_state, ClosesLasso}
-
--- the circuit has this property
-abbrev pub HasProperty : Parts → Property → Type 0
-HasProperty m (Bad n) = n < length m.bad
-HasProperty m (Justice n) = n < length m.justice
 
 -- the line at t has another length, and none before it
 pub record IsFirstWrong (lines : List (List Bool)) (long t : ℕ) : Type 0 where
@@ -68,13 +63,11 @@ pub record IsTheRun (m : Parts) (initial : List Bool) (inputs : List (List Bool)
   pub runs : IsRun m r
   pub keeps : KeepsConstraints m r
 
--- the one replay does not set the bad literal at its last time
+-- the one replay does not set the literal that the property watches at its last time
 pub record LeavesBad (m : Parts) (p : Property) (initial : List Bool) (inputs : List (List Bool)) : Type 0 where
-  pub position : ℕ
   pub bad : Lit
   pub replay : List Valuation
-  pub names : p ≡ Bad position
-  pub exists : slice_get m.bad position ≡ Some bad
+  pub watched : IsWatched m p bad
   pub runs : IsTheRun m initial inputs replay
   pub not_set : value_of (last_of replay) bad ≡ false
 

@@ -5,7 +5,7 @@ use Rattle.scan.specs.Bytes.{byte_at, choice_at, tag_at}
 use Rattle.scan.specs.Lists.{items_at}
 use Rattle.scan.specs.Words.{any, field_at}
 use Rattle.graph.specs.declared.circuit.Property.{Property}
-use Rattle.graph.specs.declared.circuit.Property.TheVariants.{Bad, Justice}
+use Rattle.graph.specs.declared.circuit.Property.TheVariants.{Bad, Justice, Output}
 use Rattle.stimulus.specs.declared.value.Stimulus.{Stimulus}
 use Rattle.stimulus.specs.declared.value.Stimulus.TheVariants.{Holds, Violated, Unknown}
 
@@ -20,9 +20,12 @@ bad_at bytes = field_at 4294967295 any 10 bytes >>= λ n. Some (Bad n.0, n.1)
 unfoldable pub justice_at : List ℕ → Read Property
 justice_at bytes = field_at 4294967295 any 10 bytes >>= λ n. Some (Justice n.0, n.1)
 
+unfoldable pub output_at : List ℕ → Read Property
+output_at bytes = field_at 4294967295 any 10 bytes >>= λ n. Some (Output n.0, n.1)
+
 -- a property's line
 unfoldable pub property_at : List ℕ → Read Property
-property_at bytes = choice_at 98 bad_at (choice_at 106 justice_at never_at) bytes
+property_at bytes = choice_at 98 bad_at (choice_at 106 justice_at (choice_at 111 output_at never_at)) bytes
 
 -- the line end behind the status, and the property's line
 unfoldable pub heading_at : List ℕ → Read Property

@@ -1,8 +1,9 @@
 -- Replays of stimuli, and the violations that they show (AIGER 1.9, Biere, Heljanko, Wieringa 2011; HWMCC's stimuli).
-use Rattle.std.specs.Prelude.{◌≡◌, ℕ, ◌-◌, ◌<◌, ◌⊎◌, Bool, true, List, [], ◌∷◌, map, length, slice_get, Some, All}
+use Rattle.std.specs.Prelude.{◌≡◌, ℕ, ◌-◌, ◌<◌, ◌⊎◌, Bool, true, List, [], ◌∷◌, map, length, All}
 use Rattle.graph.specs.declared.circuit.Lit.{Lit}
-use Rattle.graph.specs.declared.circuit.Property.TheVariants.{Bad, Justice}
+use Rattle.graph.specs.declared.circuit.Property.TheVariants.{Justice}
 use Rattle.graph.specs.declared.parts.Parts.{Parts}
+use Rattle.graph.specs.Properties.{IsWatched}
 use Rattle.graph.specs.Valuation.{Valuation, value_of, Agrees, state_of, inputs_of}
 use Rattle.graph.specs.Runs.{next_state, Steps, IsRun, KeepsConstraints}
 use Rattle.graph.specs.Justice.{wanted_of, at, IsSetWithin}
@@ -37,13 +38,11 @@ last_of r = at r (length r - 1)
 abbrev pub closing_state : Parts → List Valuation → List Bool
 closing_state m r = next_state m (last_of r)
 
--- the property is a bad literal that there is; the replay is a run that keeps the constraints, and sets it at its last time
+-- the property watches a literal; the replay is a run that keeps the constraints, and sets it at its last time
 pub record ShowsBad (m : Parts) (s : Stimulus) : Type 0 where
-  pub position : ℕ
   pub bad : Lit
   pub replay : List Valuation
-  pub names : property_of s ≡ Bad position
-  pub exists : slice_get m.bad position ≡ Some bad
+  pub watched : IsWatched m (property_of s) bad
   pub replays : Replays m s replay
   pub runs : IsRun m replay
   pub keeps : KeepsConstraints m replay

@@ -1,8 +1,11 @@
 //! Judging stimuli.
 
-ghost use Rattle.std.specs.Prelude.{◌≡◌, ◌≢◌, IfErr, OnOk};
+ghost use Rattle.std.specs.Prelude.{◌≡◌, ◌≢◌, ◌≤◌, IfErr, OnOk};
 ghost use Rattle.base.specs.Witness.{witness};
-ghost use Rattle.graph.specs.declared.circuit.Property.TheVariants.{Bad, Justice};
+ghost use Rattle.graph.specs.declared.circuit.Property.{Property as AProperty};
+ghost use Rattle.graph.specs.declared.circuit.Property.TheVariants.{Justice};
+ghost use Rattle.graph.specs.Properties.{IsWatched};
+ghost use Rattle.graph.specs.Valuation.{variable};
 ghost use Rattle.stimulus.specs.Causes.{HasCause, HasCauseIn, IsFit};
 ghost use Rattle.stimulus.specs.Courses.{HasRun};
 ghost use Rattle.stimulus.specs.Shown.{Shows};
@@ -13,24 +16,24 @@ use crate::lasso::{has_lasso, wanted};
 use crate::lines::check_fit;
 use crate::playing::run;
 use crate::value::Stimulus;
-use graph::{Model, Property, Seq};
+use graph::{Lit, Model, Property, Seq};
 use simulate::Replay;
 use std::alloc::Global;
 
-/// Whether the run sets the bad literal at its last time.
+/// Whether the run sets the literal at its last time. What is said holds of each property that watches
+/// the literal.
 fn judge_bad(
     model: &Model,
     replay: &Replay<'_>,
-    n: u32,
+    bad: Lit,
     initial: &[bool],
     inputs: &[Seq<bool>],
 ) -> Result<(), JudgeError>
-    requires fit { IsFit model.now (Bad n) initial.now inputs.now }
+    requires in_range { variable bad ≤ model.now.max_var }
     requires runs { HasRun model.now initial.now inputs.now replay.now }
-    ensures shown { OnOk result (Shows model.now (Violated (Bad n) initial.now inputs.now)) }
-    ensures refused { IfErr result (HasCauseIn model.now (Bad n) initial.now inputs.now) }
+    ensures shown { (p : AProperty) → IsWatched model.now p bad → OnOk result (Shows model.now (Violated p initial.now inputs.now)) }
+    ensures refused { (p : AProperty) → IsWatched model.now p bad → IfErr result (HasCauseIn model.now p initial.now inputs.now) }
 {
-    let bad = model.parts().bad.as_slice()[n as usize];
     if replay.value(bad) {
         Ok(())
     } else {
@@ -74,8 +77,15 @@ fn judge_violated(
     check_fit(model.parts(), property, initial, inputs)?;
     let replay = run(alloc, model, initial, inputs)?;
     match property {
-        Property::Bad(n) => judge_bad(model, &replay, n, initial, inputs),
+        Property::Bad(n) => judge_bad(model, &replay, model.bad()[n as usize], initial, inputs),
         Property::Justice(j) => judge_justice(alloc, model, &replay, j, initial, inputs),
+        Property::Output(n) => judge_bad(
+            model,
+            &replay,
+            model.outputs()[n as usize],
+            initial,
+            inputs,
+        ),
     }
 }
 

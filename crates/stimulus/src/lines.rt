@@ -1,21 +1,11 @@
 //! Whether lines fit a circuit.
 
-ghost use Rattle.std.specs.Prelude.{◌≡◌, ◌≢◌, IsTrue, ◌↔◌, All, length, IfOk, IfErr, OnOk, MatchOption};
+ghost use Rattle.std.specs.Prelude.{◌≡◌, ◌≢◌, All, length, IfOk, IfErr, OnOk, MatchOption};
 ghost use Rattle.base.specs.Witness.{witness};
-ghost use Rattle.stimulus.specs.Causes.{HasCauseIn, HasFitLines, HasProperty, IsFirstWrong, IsFit, IsWrongLine};
+ghost use Rattle.stimulus.specs.Causes.{HasCauseIn, HasFitLines, IsFirstWrong, IsFit, IsWrongLine};
 
 use crate::judge_error::JudgeError;
 use graph::{Parts, Property, Seq};
-
-/// Whether the circuit has this property.
-fn has_property(parts: &Parts, property: Property) -> bool
-    ensures { IsTrue result ↔ HasProperty parts.now property }
-{
-    match property {
-        Property::Bad(n) => (n as usize) < parts.bad.len(),
-        Property::Justice(n) => (n as usize) < parts.justice.len(),
-    }
-}
 
 /// The position of the first line of another length.
 fn first_wrong(lines: &[Seq<bool>], long: usize) -> Option<usize>
@@ -54,8 +44,8 @@ pub fn check_fit(
     ensures refused { IfErr result (HasCauseIn parts.now property initial.now inputs.now) }
     ensures no_memory { IfErr result (λ e. e ≢ JudgeError.OutOfMemory witness) }
 {
-    if !has_property(parts, property) {
-        let (Property::Bad(n) | Property::Justice(n)) = property;
+    if !parts.has_property(property) {
+        let (Property::Bad(n) | Property::Justice(n) | Property::Output(n)) = property;
         return Err(JudgeError::NoProperty(n));
     }
     if let Some(line) = wrong_line(parts, initial, inputs) {

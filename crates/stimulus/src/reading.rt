@@ -67,7 +67,7 @@ fn begins_otherwise(text: &[u8], kind: Refusal) -> Fault<Refusal> {
 }
 
 /// The property of a line, and what follows that.
-#[tactic(auto, unfolding(crate::specs::Reading::property_at, crate::specs::Reading::bad_at, crate::specs::Reading::justice_at))]
+#[tactic(auto, unfolding(crate::specs::Reading::property_at, crate::specs::Reading::bad_at, crate::specs::Reading::justice_at, crate::specs::Reading::output_at))]
 fn property(text: &[u8]) -> Result<(Property, &[u8]), Fault<Refusal>>
     ensures { Gives (λ x. (x.0, x.1.now)) result (property_at text.now) }
 {
@@ -79,6 +79,10 @@ fn property(text: &[u8]) -> Result<(Property, &[u8]), Fault<Refusal>>
         [b'j', position @ ..] => {
             let (n, rest) = field(position, u32::MAX, b'\n', IN_PROPERTY)?;
             Ok((Property::Justice(n), rest))
+        }
+        [b'o', position @ ..] => {
+            let (n, rest) = field(position, u32::MAX, b'\n', IN_PROPERTY)?;
+            Ok((Property::Output(n), rest))
         }
         _ => Err(begins_otherwise(text, Refusal::PropertyLine)),
     }

@@ -19,6 +19,7 @@ fn name_of(property: Property) -> (&'static [u8], u32)
     match property {
         Property::Bad(n) => (b"b", n),
         Property::Justice(n) => (b"j", n),
+        Property::Output(n) => (b"o", n),
     }
 }
 

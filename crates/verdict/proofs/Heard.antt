@@ -2,23 +2,24 @@
 use Rattle.std.proofs.Common.{◌≡◌, ℕ, zero, suc, ◌+◌, ◌<◌, ◌⊎◌, Bool, false, List, [], length, Result, Ok, Err, IfOk, All, arith, refl, inl, inr, sym, ap, ◌∙◌, subst}
 use Rattle.std.specs.Prelude.{max}
 use Rattle.std.proofs.lemmas.Bool.{cases_lt, false≢true}
-use Rattle.std.proofs.lemmas.Option.{slice_get_within}
+use Rattle.std.proofs.lemmas.Option.{get_or_from_slice_get}
 use Rattle.base.specs.Budget.{Spends, Steps}
 use Rattle.graph.specs.declared.circuit.Lit.{Lit}
 use Rattle.graph.specs.declared.circuit.Property.{Property}
-use Rattle.graph.specs.declared.circuit.Property.TheVariants.{Bad, Justice}
+use Rattle.graph.specs.declared.circuit.Property.TheVariants.{Bad, Justice, Output}
 use Rattle.graph.specs.declared.parts.Parts.{Parts}
 use Rattle.graph.specs.Valuation.{Valuation, value_of}
 use Rattle.graph.specs.Justice.{at}
+use Rattle.graph.specs.Properties.{HasProperty, IsAlone}
 use Rattle.graph.specs.WellFormed.{IsWellFormed}
+use Rattle.graph.proofs.Alone.{watched_there}
 use Rattle.stimulus.specs.Shown.{ShowsBad}
 use Rattle.stimulus.specs.declared.value.Stimulus.TheVariants.{Violated}
-use Rattle.cnf.specs.Formulas.{bad_literal}
 use Rattle.cnf.specs.Invariants.{IsInductive}
 use Rattle.live_safe.specs.Shadow.{closing_literal, shadow_of}
 use Rattle.live_safe.specs.Laws.{Carries}
 use Rattle.live_safe.proofs.Carried.{lasso_carried}
-use Rattle.checker.specs.Accepted.{HasProperty, IsGood, bad_of, circuit_of}
+use Rattle.checker.specs.Accepted.{IsGood, bad_of, circuit_of}
 use Rattle.checker.specs.declared.invariant.ClauseFault.TheVariants as fault
 use Rattle.checker.proofs.Accepted.{first_fault_refuses}
 use Rattle.certify.specs.Causes.{HasCause as IsUncertified}
@@ -44,10 +45,12 @@ use Rattle.verdict.proofs.OnlyBad.{shows_named, clear_named, good_named, inducti
 
 pub asked_for_bad : (m one : Parts) (p : Property) → IsAsked m p one → IsForBad one
 asked_for_bad m one (Bad n) asked = subst IsForBad (sym asked.only) (record { bad = asked.bad; one = refl; no_justice = refl })
+asked_for_bad m one (Output n) asked = subst IsForBad (sym asked.only) (record { bad = asked.bad; one = refl; no_justice = refl })
 asked_for_bad m one (Justice n) asked = subst IsForBad (sym asked.is) (record { bad = closing_literal m n; one = refl; no_justice = refl })
 
 pub asked_there : (m one : Parts) (p : Property) → IsAsked m p one → HasProperty m p
-asked_there m one (Bad n) asked = slice_get_within m.bad n asked.bad asked.named
+asked_there m one (Bad n) asked = watched_there m (Bad n) asked.bad asked.watched
+asked_there m one (Output n) asked = watched_there m (Output n) asked.bad asked.watched
 asked_there m one (Justice n) asked = asked.showable.exists
 
 pub engine_refused : (m : Parts) (p : Property) (e : EngineError) → HasProperty m p → HasCause m p (of_engine e)
@@ -56,10 +59,15 @@ engine_refused m p (engine.OutOfMemory refused) there = there
 
 -- ---- runs
 
+shown_alone : (m one : Parts) (p : Property) (initial : List Bool) (inputs : List (List Bool)) → IsAlone m p one → ShowsBad one (Violated (Bad 0) initial inputs) →
+    ShowsBad m (Violated p initial inputs)
+shown_alone m one p initial inputs alone shows =
+    shows_named m p alone.bad initial inputs alone.watched (subst (λ (q : Parts). ShowsBad q (Violated (Bad 0) initial inputs)) alone.only shows)
+
 violates : (m one : Parts) (p : Property) (initial : List Bool) (inputs : List (List Bool)) → IsAsked m p one → ShowsBad one (Violated (Bad 0) initial inputs) →
     IsViolation m p initial inputs
-violates m one (Bad n) initial inputs asked shows =
-    inl (shows_named m n asked.bad initial inputs asked.named (subst (λ (q : Parts). ShowsBad q (Violated (Bad 0) initial inputs)) asked.only shows))
+violates m one (Bad n) initial inputs asked shows = inl (shown_alone m one (Bad n) initial inputs asked shows)
+violates m one (Output n) initial inputs asked shows = inl (shown_alone m one (Output n) initial inputs asked shows)
 violates m one (Justice n) initial inputs asked shows = subst (λ (q : Parts). ShowsBad q (Violated (Bad 0) initial inputs)) asked.is shows
 
 unsafe_meant : (m : Parts) (p : Property) (after : Steps) (r : Result Verdict DecideError) → IfOk r IsUnsafe → IfOk r (IsMeant m p after)
@@ -79,10 +87,17 @@ good_of m inv h k d k_in = let proper = h.clauses k d k_in in record { over = pr
 
 good_asked : (m one : Parts) (p : Property) (inv : List (List Lit)) → IsAsked m p one → IsInvariant one inv → All (IsGood (circuit_of m p)) inv
 good_asked m one (Bad n) inv asked h = good_named m asked.bad inv (subst (λ (q : Parts). IsInvariant q inv) asked.only h)
+good_asked m one (Output n) inv asked h = good_named m asked.bad inv (subst (λ (q : Parts). IsInvariant q inv) asked.only h)
 good_asked m one (Justice n) inv asked h = good_of (shadow_of m n) inv (subst (λ (q : Parts). IsInvariant q inv) asked.is h)
 
-inductive_asked : (m one : Parts) (p : Property) (inv : List (List Lit)) → IsAsked m p one → IsInvariant one inv → IsInductive (circuit_of m p) inv (bad_literal (circuit_of m p) (bad_of p))
-inductive_asked m one (Bad n) inv asked h = inductive_named m n asked.bad inv asked.named (subst (λ (q : Parts). IsInvariant q inv) asked.only h)
+inductive_alone : (m one : Parts) (p : Property) (inv : List (List Lit)) → (alone : IsAlone m p one) → IsInvariant one inv → IsInductive m inv alone.bad
+inductive_alone m one p inv alone h = inductive_named m alone.bad inv (subst (λ (q : Parts). IsInvariant q inv) alone.only h)
+
+inductive_asked : (m one : Parts) (p : Property) (inv : List (List Lit)) → IsAsked m p one → IsInvariant one inv → IsInductive (circuit_of m p) inv (bad_of m p)
+inductive_asked m one (Bad n) inv asked h =
+    subst (IsInductive m inv) (sym (get_or_from_slice_get m.bad n asked.bad (record { 0 = 0 }) asked.watched)) (inductive_alone m one (Bad n) inv asked h)
+inductive_asked m one (Output n) inv asked h =
+    subst (IsInductive m inv) (sym (get_or_from_slice_get m.outputs n asked.bad (record { 0 = 0 }) asked.watched.1)) (inductive_alone m one (Output n) inv asked h)
 inductive_asked m one (Justice n) inv asked h =
     let shadow : IsInvariant (shadow_of m n) inv = subst (λ (q : Parts). IsInvariant q inv) asked.is h in
     shadow.inductive
@@ -90,11 +105,11 @@ inductive_asked m one (Justice n) inv asked h =
 -- an invariant of an honest engine comes to what is said of clauses that are one
 pub invariant_meant : (m one : Parts) (p : Property) (before after : Steps) (f : Finding) (inv given : List (List Lit)) (r : Result Verdict DecideError) → IsAsked m p one →
     f ≡ Invariant inv → given ≡ inv → IsSo one before f →
-    (All (IsGood (circuit_of m p)) given → IsInductive (circuit_of m p) given (bad_literal (circuit_of m p) (bad_of p)) → IfOk r (IsMeant m p after)) → IfOk r (IsMeant m p after)
+    (All (IsGood (circuit_of m p)) given → IsInductive (circuit_of m p) given (bad_of m p) → IfOk r (IsMeant m p after)) → IfOk r (IsMeant m p after)
 invariant_meant m one p before after f inv given r asked is same so told =
     let h : IsInvariant one inv = subst (IsSo one before) is so in
     told (subst (All (IsGood (circuit_of m p))) (sym same) (good_asked m one p inv asked h))
-    (subst (λ (i : List (List Lit)). IsInductive (circuit_of m p) i (bad_literal (circuit_of m p) (bad_of p))) (sym same) (inductive_asked m one p inv asked h))
+    (subst (λ (i : List (List Lit)). IsInductive (circuit_of m p) i (bad_of m p)) (sym same) (inductive_asked m one p inv asked h))
 
 -- clauses that are good are refused for no fault of theirs
 refused_to : (m : Parts) (p : Property) (inv : List (List Lit)) (after : Steps) (e : CertifyError) → HasProperty m p → IsUncertified m p inv e →
@@ -112,7 +127,7 @@ refused_meant m p inv after e r is there cause good = subst (λ (q : Result Verd
 -- ---- reasons
 
 -- a lasso is followed by a run of the shadow circuit that is one time longer
-no_lasso : (m : Parts) (n steps : ℕ) → IsWellFormed m → IsClear (shadow_of m n) 0 steps → HasNoLasso m n steps
+no_lasso : (m : Parts) (n steps : ℕ) → IsWellFormed m → IsClear (shadow_of m n) (Bad 0) steps → HasNoLasso m n steps
 no_lasso m n steps well clear initial lines short lasso =
     let carried = lasso_carried m n well initial lines lasso in
     let r : List Valuation = carried.0 in
@@ -122,9 +137,13 @@ no_lasso m n steps well clear initial lines short lasso =
     let last : value_of (at r (length lines)) (closing_literal m n) ≡ false = unset (length lines) [] (omega (arith, long)) in
     false≢true (sym last ∙ c.sets)
 
-free_asked : (m one : Parts) (p : Property) (steps : ℕ) → IsWellFormed m → IsAsked m p one → IsClear one 0 steps → IsFreeOf m p steps
-free_asked m one (Bad n) steps well asked clear = clear_named m n asked.bad steps asked.named (subst (λ (q : Parts). IsClear q 0 steps) asked.only clear)
-free_asked m one (Justice n) steps well asked clear = no_lasso m n steps well (subst (λ (q : Parts). IsClear q 0 steps) asked.is clear)
+clear_alone : (m one : Parts) (p : Property) (steps : ℕ) → IsAlone m p one → IsClear one (Bad 0) steps → IsClear m p steps
+clear_alone m one p steps alone clear = clear_named m p alone.bad steps alone.watched (subst (λ (q : Parts). IsClear q (Bad 0) steps) alone.only clear)
+
+free_asked : (m one : Parts) (p : Property) (steps : ℕ) → IsWellFormed m → IsAsked m p one → IsClear one (Bad 0) steps → IsFreeOf m p steps
+free_asked m one (Bad n) steps well asked clear = clear_alone m one (Bad n) steps asked clear
+free_asked m one (Output n) steps well asked clear = clear_alone m one (Output n) steps asked clear
+free_asked m one (Justice n) steps well asked clear = no_lasso m n steps well (subst (λ (q : Parts). IsClear q (Bad 0) steps) asked.is clear)
 
 why_asked : (m one : Parts) (p : Property) (after : Steps) (reason : Reason) → IsWellFormed m → IsAsked m p one → IsHonest one after reason → IsWhy m p after reason
 why_asked m one p after Budget well asked h = h

@@ -1,10 +1,9 @@
 -- Why nothing is answered of a property.
 use Rattle.std.specs.Prelude.{◌≡◌, Result, Ok, Err}
 use Rattle.base.specs.Witness.{witness}
-use Rattle.checker.specs.Accepted.{HasProperty}
 use Rattle.graph.specs.declared.circuit.Property.{Property}
 use Rattle.graph.specs.declared.parts.Parts.{Parts}
-use Rattle.graph.specs.Properties.{position_of}
+use Rattle.graph.specs.Properties.{position_of, HasProperty}
 use Rattle.engine.specs.declared.finding.Reason.TheVariants.{NoEvidence}
 use Rattle.certify.specs.declared.certify_error.CertifyError.{CertifyError}
 use Rattle.certify.specs.declared.certify_error.CertifyError.TheVariants as certify

@@ -1,11 +1,10 @@
 -- What a verdict on a property says.
-use Rattle.std.specs.Prelude.{◌≡◌, ℕ, ◌≤◌, Bool, List, length, Some, slice_get}
+use Rattle.std.specs.Prelude.{◌≡◌, ℕ, ◌≤◌, Bool, List, length}
 use Rattle.base.specs.Budget.{Steps}
-use Rattle.graph.specs.declared.circuit.Lit.{Lit}
 use Rattle.graph.specs.declared.circuit.Property.{Property}
 use Rattle.graph.specs.declared.circuit.Property.TheVariants.{Bad, Justice}
 use Rattle.graph.specs.declared.parts.Parts.{Parts}
-use Rattle.graph.specs.WellFormed.{only_bad}
+use Rattle.graph.specs.Properties.{IsAlone}
 use Rattle.stimulus.specs.declared.value.Stimulus.{Stimulus}
 use Rattle.stimulus.specs.declared.value.Stimulus.TheVariants as stimulus
 use Rattle.stimulus.specs.Shown.{Shows, ShowsBad, ShowsLasso}
@@ -31,8 +30,8 @@ HasNoLasso m n most = (initial : List Bool) (lines : List (List Bool)) → lengt
 
 -- so far nothing violates the property: no run of so many steps, or no lasso of so many lines
 abbrev pub IsFreeOf : Parts → Property → ℕ → Type 0
-IsFreeOf m (Bad n) steps = IsClear m n steps
 IsFreeOf m (Justice n) steps = HasNoLasso m n steps
+IsFreeOf m safety steps = IsClear m safety steps
 
 -- why nothing is known of a property: the budget is exhausted, or nothing violates it so far; that there was no
 -- evidence is no reason
@@ -47,26 +46,21 @@ IsMeant m p after (Unknown reason) = IsWhy m p after reason
 IsMeant m p after (Safe c) = Unit {0}
 IsMeant m p after (Unsafe s) = Unit {0}
 
--- the second circuit is the first with its n-th bad literal alone
-pub record IsAlone (m : Parts) (n : ℕ) (one : Parts) : Type 0 where
-  pub bad : Lit
-  pub named : slice_get m.bad n ≡ Some bad
-  pub only : one ≡ only_bad m bad
-
--- it is the shadow circuit of the n-th justice property, within the limit
+-- the second circuit is the shadow circuit of the n-th justice property, within the limit
 pub record IsShadow (m : Parts) (n : ℕ) (one : Parts) : Type 0 where
   pub showable : IsShowable m (Justice n)
   pub is : one ≡ shadow_of m n
 
--- the circuit with one bad literal that engines are asked about
+-- the circuit with one bad literal that engines are asked about: the literal that the property watches, or the shadow
+-- circuit's
 abbrev pub IsAsked : Parts → Property → Parts → Type 0
-IsAsked m (Bad n) one = IsAlone m n one
 IsAsked m (Justice n) one = IsShadow m n one
+IsAsked m safety one = IsAlone m safety one
 
 -- what a run of that circuit shows where it is one: the violation, or that of the shadow circuit
 abbrev pub IsViolation : Parts → Property → List Bool → List (List Bool) → Type 0
-IsViolation m (Bad n) initial inputs = Shows m (stimulus.Violated (Bad n) initial inputs)
 IsViolation m (Justice n) initial inputs = ShowsBad (shadow_of m n) (stimulus.Violated (Bad 0) initial inputs)
+IsViolation m safety initial inputs = Shows m (stimulus.Violated safety initial inputs)
 
 -- a violation is answered
 abbrev pub IsUnsafe : Verdict → Type 0

@@ -2,12 +2,12 @@
 
 ghost use Rattle.std.specs.Prelude.{◌≡◌, IfOk, IfErr};
 ghost use Rattle.std.specs.List.{All};
-ghost use Rattle.checker.specs.Accepted.{HasProperty, IsAcceptedCertificate, IsGood, bad_of, circuit_of};
-ghost use Rattle.cnf.specs.Formulas.{bad_literal};
+ghost use Rattle.checker.specs.Accepted.{IsAcceptedCertificate, IsGood, bad_of, circuit_of};
 ghost use Rattle.cnf.specs.Invariants.{IsInductive};
 ghost use Rattle.base.specs.Budget.{Spends};
 ghost use Rattle.stimulus.specs.Shown.{Shows};
 ghost use Rattle.stimulus.specs.Texts.{property_of};
+ghost use Rattle.graph.specs.Properties.{HasProperty};
 ghost use Rattle.engine.specs.Findings.{IsForBad, IsSo};
 ghost use Rattle.verdict.specs.Causes.{HasCause, of_certify};
 ghost use Rattle.verdict.specs.Verdicts.{IsAsked, IsBacked, IsMeant, IsUnsafe, IsViolation};
@@ -74,7 +74,7 @@ fn ran(
     ensures refused { IfErr result (HasCause model.now property) }
 {
     match property {
-        Property::Bad(_) => {
+        Property::Bad(_) | Property::Output(_) => {
             let stimulus = Stimulus::Violated {
                 property,
                 initial,
@@ -125,7 +125,7 @@ fn certified(
     requires there { HasProperty model.now property }
     ensures spends { Spends budget.old budget.new }
     ensures backed { IfOk result (IsBacked model.now property) }
-    ensures meant { All (IsGood (circuit_of model.now property)) invariant.now → IsInductive (circuit_of model.now property) invariant.now (bad_literal (circuit_of model.now property) (bad_of property)) → IfOk result (IsMeant model.now property budget.new) }
+    ensures meant { All (IsGood (circuit_of model.now property)) invariant.now → IsInductive (circuit_of model.now property) invariant.now (bad_of model.now property) → IfOk result (IsMeant model.now property budget.new) }
     ensures refused { IfErr result (HasCause model.now property) }
 {
     match certify(alloc, model, property, invariant, budget) {

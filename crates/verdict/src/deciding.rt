@@ -3,7 +3,8 @@
 ghost use Rattle.std.specs.Prelude.{◌≡◌, ◌<◌, IfOk, IfErr, MatchResult, OnOk, length};
 ghost use Rattle.std.specs.List.{All};
 ghost use Rattle.base.specs.Budget.{Spends};
-ghost use Rattle.checker.specs.Accepted.{HasProperty, circuit_of};
+ghost use Rattle.checker.specs.Accepted.{circuit_of};
+ghost use Rattle.graph.specs.Properties.{HasProperty};
 ghost use Rattle.engine.specs.declared.finding.Reason.TheVariants.{NoEvidence};
 ghost use Rattle.verdict.specs.Causes.{HasCause};
 ghost use Rattle.verdict.specs.Verdicts.{IsAsked, IsBacked, IsMeant};
@@ -19,8 +20,8 @@ use graph::{Budget, Model, Property, ReadError};
 use live_safe::{LiveError, to_safety};
 use std::alloc::Global;
 
-/// The circuit that engines are asked about: with the bad literal alone, or the shadow circuit of the
-/// justice property.
+/// The circuit that engines are asked about: with the bad literal or the output as its one bad literal,
+/// or the shadow circuit of the justice property.
 fn circuit_for(alloc: Global, model: &Model, property: Property) -> Result<Model, DecideError>
     ensures asked { IfOk result (IsAsked model.now property) }
     ensures exists { OnOk result (HasProperty model.now property) }
@@ -33,6 +34,17 @@ fn circuit_for(alloc: Global, model: &Model, property: Property) -> Result<Model
                 return Err(DecideError::NoProperty(n));
             }
             match model.for_bad(alloc, n) {
+                Ok(circuit) => Ok(circuit),
+                Err(ReadError::OutOfMemory(refused)) => Err(DecideError::OutOfMemory(refused)),
+                // the circuit has the property
+                Err(_) => unreachable!(),
+            }
+        }
+        Property::Output(n) => {
+            if !model.parts().has_property(Property::Output(n)) {
+                return Err(DecideError::NoProperty(n));
+            }
+            match model.for_output(alloc, n) {
                 Ok(circuit) => Ok(circuit),
                 Err(ReadError::OutOfMemory(refused)) => Err(DecideError::OutOfMemory(refused)),
                 // the circuit has the property
@@ -74,12 +86,12 @@ fn hear_each(
     Ok(Verdict::Unknown(told))
 }
 
-/// Decides a property of a circuit by asking each engine once, in order: about its bad literal
-/// alone, or for a justice property about the bad literal of its shadow circuit. An engine is not
-/// believed: a run that it finds is answered only where the replay of its stimulus shows the violation,
-/// and an invariant only where a certificate is made of it that the checker accepts; what fails is
-/// dropped, and the next engine asked. A refusal of an engine ends the call. A shadow circuit with too
-/// many variables is refused.
+/// Decides a property of a circuit by asking each engine once, in order: about its bad literal or
+/// output alone, or for a justice property about the bad literal of its shadow circuit. An engine is
+/// not believed: a run that it finds is answered only where the replay of its stimulus shows the
+/// violation, and an invariant only where a certificate is made of it that the checker accepts; what
+/// fails is dropped, and the next engine asked. A refusal of an engine ends the call. A shadow
+/// circuit with too many variables is refused.
 ///
 /// Where no engine has evidence, the reason that is told is the budget's where an engine or the
 /// making of a certificate told that, else the greatest depth that one told, else that there was no

@@ -1,9 +1,8 @@
 //! Proofs that pigeons do not fit into one hole less.
 
-use super::{Worked, compare};
-use std::test::Fail;
+use super::Worked;
 
-static FIVE_PIGEONS: Worked<'static> = Worked {
+pub static FIVE_PIGEONS: Worked<'static> = Worked {
     vars: 20,
     clauses: b"\
         1 1 2 3 4 0 0\n\
@@ -94,12 +93,7 @@ static FIVE_PIGEONS: Worked<'static> = Worked {
     ],
 };
 
-#[test]
-fn five_pigeons_in_four_holes(rt: HostRuntime) -> Result<(), Fail> {
-    compare(&rt, rt.alloc(), &FIVE_PIGEONS)
-}
-
-static SIX_PIGEONS: Worked<'static> = Worked {
+pub static SIX_PIGEONS: Worked<'static> = Worked {
     vars: 30,
     clauses: b"\
         1 1 2 3 4 5 0 0\n\
@@ -352,8 +346,3 @@ static SIX_PIGEONS: Worked<'static> = Worked {
         (4010, 0, b"-", (47, 65)),
     ],
 };
-
-#[test]
-fn six_pigeons_in_five_holes(rt: HostRuntime) -> Result<(), Fail> {
-    compare(&rt, rt.alloc(), &SIX_PIGEONS)
-}

@@ -1,9 +1,8 @@
 //! Proofs that random formulas have no solution.
 
-use super::{Worked, compare};
-use std::test::Fail;
+use super::Worked;
 
-static RANDOM_10: Worked<'static> = Worked {
+pub static RANDOM_10: Worked<'static> = Worked {
     vars: 10,
     clauses: b"\
         1 3 -2 5 0 0\n\
@@ -89,12 +88,7 @@ static RANDOM_10: Worked<'static> = Worked {
     ],
 };
 
-#[test]
-fn a_random_formula_over_ten_variables(rt: HostRuntime) -> Result<(), Fail> {
-    compare(&rt, rt.alloc(), &RANDOM_10)
-}
-
-static RANDOM_20: Worked<'static> = Worked {
+pub static RANDOM_20: Worked<'static> = Worked {
     vars: 20,
     clauses: b"\
         1 2 3 -19 0 0\n\
@@ -232,8 +226,3 @@ static RANDOM_20: Worked<'static> = Worked {
         (32, 0, b"-", (47, 1)),
     ],
 };
-
-#[test]
-fn a_random_formula_over_twenty_variables(rt: HostRuntime) -> Result<(), Fail> {
-    compare(&rt, rt.alloc(), &RANDOM_20)
-}

@@ -1,13 +1,15 @@
 //! Formulas that nothing satisfies.
 
-/// The greatest variable, and the clauses, each of which ends with 0.
-pub static UNSATISFIABLE: [(u16, &[i32]); 9] = [
+/// The greatest variable, the clauses, each of which ends with 0, and how many steps backtracking takes at least.
+pub static UNSATISFIABLE: [(u16, &[i32], u64); 10] = [
     // one empty clause over no variables
-    (0, &[0]),
+    (0, &[0], 2),
     // all four clauses of two variables
-    (2, &[1, 2, 0, 1, -2, 0, -1, 2, 0, -1, -2, 0]),
+    (2, &[1, 2, 0, 1, -2, 0, -1, 2, 0, -1, -2, 0], 2),
     // implications between two opposed units
-    (3, &[1, 0, -1, 2, 0, -2, 3, 0, -3, 0]),
+    (3, &[1, 0, -1, 2, 0, -2, 3, 0, -3, 0], 2),
+    // most variables are in no clause
+    (60, &[59, 60, 0, 59, -60, 0, -59, 60, 0, -59, -60, 0], 2),
     // three pigeons do not fit into two holes
     (
         6,
@@ -15,6 +17,7 @@ pub static UNSATISFIABLE: [(u16, &[i32]); 9] = [
             1, 2, 0, 3, 4, 0, 5, 6, 0, -3, -1, 0, -5, -1, 0, -5, -3, 0, -4, -2, 0, -6, -2, 0, -6,
             -4, 0,
         ],
+        2,
     ),
     // four into three
     (
@@ -24,6 +27,7 @@ pub static UNSATISFIABLE: [(u16, &[i32]); 9] = [
             -10, -1, 0, -10, -4, 0, -10, -7, 0, -5, -2, 0, -8, -2, 0, -8, -5, 0, -11, -2, 0, -11,
             -5, 0, -11, -8, 0, -6, -3, 0, -9, -3, 0, -9, -6, 0, -12, -3, 0, -12, -6, 0, -12, -9, 0,
         ],
+        22,
     ),
     // five into four
     (
@@ -37,6 +41,7 @@ pub static UNSATISFIABLE: [(u16, &[i32]); 9] = [
             0, -19, -15, 0, -8, -4, 0, -12, -4, 0, -12, -8, 0, -16, -4, 0, -16, -8, 0, -16, -12, 0,
             -20, -4, 0, -20, -8, 0, -20, -12, 0, -20, -16, 0,
         ],
+        45,
     ),
     // six into five
     (
@@ -56,6 +61,7 @@ pub static UNSATISFIABLE: [(u16, &[i32]); 9] = [
             0, -25, -10, 0, -25, -15, 0, -25, -20, 0, -30, -5, 0, -30, -10, 0, -30, -15, 0, -30,
             -20, 0, -30, -25, 0,
         ],
+        81,
     ),
     // 60 random clauses of three literals
     (
@@ -72,6 +78,7 @@ pub static UNSATISFIABLE: [(u16, &[i32]); 9] = [
             -2, -9, 0, -2, -5, -4, 0, 8, 6, 5, 0, 6, -2, 5, 0, 10, 6, 4, 0, 6, -5, -4, 0, 10, -2,
             4, 0, -5, 9, 2, 0, -6, 8, -9, 0, 6, 2, 3, 0,
         ],
+        60,
     ),
     // 110 such clauses
     (
@@ -98,5 +105,6 @@ pub static UNSATISFIABLE: [(u16, &[i32]); 9] = [
             -4, 1, 0, -13, -19, -2, 0, -16, -18, 2, 0, -5, -11, 2, 0, -18, -6, 3, 0, -10, -7, 6, 0,
             17, 19, -3, 0,
         ],
+        110,
     ),
 ];

@@ -1,5 +1,6 @@
 use Rattle.std.proofs.Common.{◌≡◌, ◌+◌, ◌*◌, All}
 use Rattle.base.specs.Budget.{Spends}
+use Rattle.graph.specs.declared.circuit.Property.TheVariants.{Bad}
 use Rattle.engine.specs.Bounds.{IsUnsetFor}
 use Rattle.bmc.specs.Standing.{Holds, AreHeld}
 use Rattle.bmc.proofs.planned.search_planned.Given as goal
@@ -10,5 +11,5 @@ invariant-deepening g l = record {
   holds : All (Holds l.circuit (l.steps + 1)) (g.S.Sat.clauses l.solver);
   held : AreHeld l.circuit l.steps l.held.items;
   spends : Spends l.initial.budget l.budget;
-  unset : IsUnsetFor l.circuit 0 l.steps;
+  unset : IsUnsetFor l.circuit (Bad 0) l.steps;
 }

@@ -1,6 +1,5 @@
 use Rattle.std.proofs.Common.{rules, length, arith}
 use Rattle.lrat.proofs.Fit.{if_err}
-use Rattle.cnf.specs.Formulas.{bad_literal}
 use Rattle.checker.specs.Accepted.{cases, RefuteBelow, IsAcceptedFor}
 use Rattle.checker.specs.Causes.{HasCauseFor, IsSectionFault}
 use Rattle.checker.proofs.Good.{invariant_from}
@@ -16,14 +15,13 @@ returns-clause-accepted c =
     let m = c.args.circuit.now in
     let inv = c.as_slice-invariant.result.now in
     let ps = c.as_slice-sections.result.now in
-    let opened : IsOpened m c.args.certificate.now c.args.bad inv ps = record {
+    let opened : IsOpened c.args.certificate.now inv ps = record {
       is_inv = c.as_slice-invariant.ensures;
       is_ps = c.as_slice-sections.ensures;
-      exists = c.requires;
       few = let few = c.if-invariant-gt-MOST_CLAUSES.false in omega arith;
       count = search rules;
     } in
-    if_on_ok {P = RefuteBelow (cases m inv (bad_literal m c.args.bad)) ps (length ps)} {Q = IsAcceptedFor m c.args.bad c.args.certificate.now} _ c.check_sections.ensures.ok
+    if_on_ok {P = RefuteBelow (cases m inv c.args.bad) ps (length ps)} {Q = IsAcceptedFor m c.args.bad c.args.certificate.now} _ c.check_sections.ensures.ok
     (λ refute. accepted_from m c.args.certificate.now c.args.bad inv ps opened c.in_ok-check_clauses.ensures.good refute)
 
 pub returns-clause-refused : goal.returns-clause-refused
@@ -31,12 +29,11 @@ returns-clause-refused c =
     let m = c.args.circuit.now in
     let inv = c.as_slice-invariant.result.now in
     let ps = c.as_slice-sections.result.now in
-    let opened : IsOpened m c.args.certificate.now c.args.bad inv ps = record {
+    let opened : IsOpened c.args.certificate.now inv ps = record {
       is_inv = c.as_slice-invariant.ensures;
       is_ps = c.as_slice-sections.ensures;
-      exists = c.requires;
       few = let few = c.if-invariant-gt-MOST_CLAUSES.false in omega arith;
       count = search rules;
     } in
-    if_err (IsSectionFault (cases m inv (bad_literal m c.args.bad)) ps) (HasCauseFor m c.args.bad c.args.certificate.now) _
+    if_err (IsSectionFault (cases m inv c.args.bad) ps) (HasCauseFor m c.args.bad c.args.certificate.now) _
     (λ e fault. section_cause m c.args.certificate.now c.args.bad inv ps opened c.in_ok-check_clauses.ensures.good e fault) c.check_sections.ensures.err

@@ -1,16 +1,25 @@
-use Rattle.std.proofs.Common.{subst}
+use Rattle.std.proofs.Common.{◌∙◌, ap, subst, sym}
 use Rattle.graph.specs.declared.circuit.Property.TheVariants.{Justice}
-use Rattle.graph.specs.declared.parts.Parts.{Parts}
-use Rattle.lrat.proofs.Fit.{if_err}
-use Rattle.checker.specs.Accepted.{IsShowable}
-use Rattle.checker.specs.Causes.{HasCause, HasCauseFor}
-use Rattle.checker.proofs.Accepted.{property_cause}
+use Rattle.checker.specs.Accepted.{IsShowable, bad_of, circuit_of}
+use Rattle.checker.proofs.Accepted.{accepted_of, refused_of}
+use Rattle.checker.proofs.Watched.{closing_is, closing_used}
 use Rattle.checker.proofs.acceptance.examine_justice.Goals as goal
+
+pub examine-requires : goal.examine-requires
+examine-requires c = closing_used c.args.model.now c.in-Ok.shadow c.args.n c.bad.result.now c.in-Ok.ensures.shadow c.bad.ensures
+
+pub returns-in-Ok-clause-accepted : goal.returns-in-Ok-clause-accepted
+returns-in-Ok-clause-accepted c =
+    let m = c.args.model.now in
+    let n = c.args.n in
+    let showable : IsShowable m (Justice n) = record { exists = c.in-Ok.ensures.exists; within = c.in-Ok.ensures.within } in
+    accepted_of m c.in-Ok.shadow _ c.args.certificate.now _ (subst (IsShowable m) (sym c.requires) showable) (c.in-Ok.ensures.shadow ∙ ap (circuit_of m) (sym c.requires))
+    (closing_is m c.in-Ok.shadow n c.bad.result.now c.in-Ok.ensures.shadow c.bad.ensures ∙ ap (bad_of m) (sym c.requires)) c.examine.ensures.accepted
 
 pub returns-in-Ok-clause-refused : goal.returns-in-Ok-clause-refused
 returns-in-Ok-clause-refused c =
     let m = c.args.model.now in
-    let showable : IsShowable m (Justice c.args.n) = record { exists = c.in-Ok.ensures.exists; within = c.in-Ok.ensures.within } in
-    if_err (HasCauseFor c.in-Ok.shadow 0 c.args.certificate.now) (HasCause m c.args.certificate.now) _
-    (λ e cause. property_cause m c.args.certificate.now (Justice c.args.n) e c.requires showable
-    (subst (λ (s : Parts). HasCauseFor s 0 c.args.certificate.now e) c.in-Ok.ensures.shadow cause)) c.examine.ensures.refused
+    let n = c.args.n in
+    let showable : IsShowable m (Justice n) = record { exists = c.in-Ok.ensures.exists; within = c.in-Ok.ensures.within } in
+    refused_of m c.in-Ok.shadow _ c.args.certificate.now _ (subst (IsShowable m) (sym c.requires) showable) (c.in-Ok.ensures.shadow ∙ ap (circuit_of m) (sym c.requires))
+    (closing_is m c.in-Ok.shadow n c.bad.result.now c.in-Ok.ensures.shadow c.bad.ensures ∙ ap (bad_of m) (sym c.requires)) c.examine.ensures.refused

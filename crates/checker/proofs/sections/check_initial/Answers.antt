@@ -2,7 +2,7 @@ use Rattle.std.proofs.Common.{◌≡◌, ◌∙◌, [], get_or, ap, subst, sym, 
 use Rattle.graph.specs.declared.circuit.Lit.{Lit}
 use Rattle.lrat.specs.Proofs.{IsRefusedProof}
 use Rattle.cnf.specs.Clauses.{init_units}
-use Rattle.cnf.specs.Formulas.{IsOverLatches, bad_literal, init_formula, start_formula}
+use Rattle.cnf.specs.Formulas.{IsOverLatches, init_formula, start_formula}
 use Rattle.cnf.proofs.Formed.{init_formed}
 use Rattle.checker.specs.Accepted.{cases, with_units, IsProofOf}
 use Rattle.checker.proofs.InOrder.{case_init, clause_is, refute_more, refused_here, units_few}
@@ -27,7 +27,7 @@ pub returns-in-Err-clause-err : goal.returns-in-Err-clause-err
 returns-in-Err-clause-err c =
     let m = c.args.model.now in
     let inv = c.args.invariant.now in
-    let a : Lit = bad_literal m c.args.bad in
+    let a : Lit = c.args.bad in
     let is = clause_is inv c.loop-k.k c.index-invariant-k.result c.as_slice.result.now c.loop-k-test.true c.index-invariant-k.is c.as_slice.ensures in
     let units : c.as_slice-in-loop-k.result.now ≡ init_units m (get_or inv c.loop-k.k []) = c.as_slice-in-loop-k.ensures.value ∙ c.in_ok-units.ensures.units ∙ ap (init_units m) is in
     refused_here (cases m inv a) c.args.sections.now c.loop-k.k (init_formula m (get_or inv c.loop-k.k [])) c.index-sections-k.result c.in-Err.error c.section_error.result
@@ -39,7 +39,7 @@ pub loop-k-preserved : goal.loop-k-preserved
 loop-k-preserved c =
     let m = c.args.model.now in
     let inv = c.args.invariant.now in
-    let a : Lit = bad_literal m c.args.bad in
+    let a : Lit = c.args.bad in
     let is = clause_is inv c.loop-k.k c.index-invariant-k.result c.as_slice.result.now c.loop-k-test.true c.index-invariant-k.is c.as_slice.ensures in
     let units : c.as_slice-in-loop-k.result.now ≡ init_units m (get_or inv c.loop-k.k []) = c.as_slice-in-loop-k.ensures.value ∙ c.in_ok-units.ensures.units ∙ ap (init_units m) is in
     record {

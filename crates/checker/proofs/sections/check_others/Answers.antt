@@ -1,14 +1,15 @@
-use Rattle.std.proofs.Common.{rules, ◌≡◌, ◌∙◌, ◌<◌, ◌+◌, ◌≤◌, ◌*◌, ◌∷◌, [], ℕ, ℤ, List, length, get_or, ap, refl, subst, sym, arith}
+use Rattle.std.proofs.Common.{rules, ◌≡◌, ◌∙◌, ◌+◌, ◌≤◌, ◌*◌, ◌∷◌, [], ℕ, ℤ, List, length, get_or, Contains, ap, refl, subst, sym, arith}
+use Rattle.std.proofs.lemmas.List.Elements.{All-contains}
 use Rattle.graph.specs.declared.circuit.Lit.{Lit}
 use Rattle.graph.specs.declared.parts.Parts.{Parts}
-use Rattle.graph.specs.WellFormed.{IsWellFormed}
+use Rattle.graph.specs.WellFormed.{IsWellFormed, used}
 use Rattle.lrat.specs.declared.formula.Formula.{Formula}
 use Rattle.lrat.specs.Limits.{IsFormula}
 use Rattle.lrat.specs.Proofs.{IsRefusedProof}
 use Rattle.lrat.specs.declared.line.Line.{Line}
 use Rattle.cnf.specs.Clauses.{step_units, bad_units}
-use Rattle.cnf.specs.Formulas.{IsInvariant, IsOverLatches, bad_literal, bad_formula, step_formula, shared_formula}
-use Rattle.cnf.proofs.Formed.{step_formed, bad_formed, bad_known}
+use Rattle.cnf.specs.Formulas.{IsInvariant, IsOverLatches, bad_formula, step_formula, shared_formula}
+use Rattle.cnf.proofs.Formed.{IsKnown, step_formed, bad_formed}
 use Rattle.checker.specs.Accepted.{cases, with_units, IsProofOf, RefuteBelow}
 use Rattle.checker.proofs.InOrder.{case_step, case_bad, clause_is, refute_more, refused_here, units_few}
 use Rattle.checker.proofs.sections.check_others.Goals as goal
@@ -39,7 +40,7 @@ pub returns-in-Err-clause-err : goal.returns-in-Err-clause-err
 returns-in-Err-clause-err c =
     let m = c.args.model.now in
     let inv = c.args.invariant.now in
-    let a : Lit = bad_literal m c.args.bad in
+    let a : Lit = c.args.bad in
     let is = clause_is inv c.loop-k.k c.index-invariant-k.result c.as_slice.result.now c.loop-k-test.true c.index-invariant-k.is c.as_slice.ensures in
     let units : c.as_slice-in-loop-k.result.now ≡ step_units m (get_or inv c.loop-k.k []) = c.as_slice-in-loop-k.ensures.value ∙ c.in_ok-units.ensures.units ∙ ap (step_units m) is in
     refused_here (cases m inv a) c.args.sections.now (length inv + c.loop-k.k) (step_formula m inv (get_or inv c.loop-k.k [])) c.index-sections-count.result c.in-Err.error c.section_error.result
@@ -51,7 +52,7 @@ pub loop-k-preserved : goal.loop-k-preserved
 loop-k-preserved c =
     let m = c.args.model.now in
     let inv = c.args.invariant.now in
-    let a : Lit = bad_literal m c.args.bad in
+    let a : Lit = c.args.bad in
     let is = clause_is inv c.loop-k.k c.index-invariant-k.result c.as_slice.result.now c.loop-k-test.true c.index-invariant-k.is c.as_slice.ensures in
     let units : c.as_slice-in-loop-k.result.now ≡ step_units m (get_or inv c.loop-k.k []) = c.as_slice-in-loop-k.ensures.value ∙ c.in_ok-units.ensures.units ∙ ap (step_units m) is in
     let more : RefuteBelow (cases m inv a) c.args.sections.now (length inv + c.loop-k.k + 1) =
@@ -66,14 +67,14 @@ loop-k-preserved c =
     }
 
 -- the unit of the bad case
-bad_formed_here : (m : Parts) (inv : List (List Lit)) (n : ℕ) → IsWellFormed m → IsInvariant m inv → n < length m.bad → IsFormula (with_units (shared_formula m inv) (bad_units m (bad_literal m n)))
-bad_formed_here m inv n well is n_in = bad_formed m inv (bad_literal m n) well is (bad_known m well n (record { 0 = 0 }) n_in)
+bad_formed_here : (m : Parts) (inv : List (List Lit)) (a : Lit) → IsWellFormed m → IsInvariant m inv → Contains (used m) a → IsFormula (with_units (shared_formula m inv) (bad_units m a))
+bad_formed_here m inv a well is found = bad_formed m inv a well is (All-contains (IsKnown m) (used m) a well.used_defined found)
 
 pub refute-requires-2-clause-few : goal.refute-requires-2-clause-few
 refute-requires-2-clause-few c =
     let m = c.args.model.now in
     let inv = c.args.invariant.now in
-    let us : List ℤ = bad_units m (bad_literal m c.args.bad) in
+    let us : List ℤ = bad_units m c.args.bad in
     units_few (shared_formula m inv) us us c.loop-k.refuter.base (bad_formed_here m inv c.args.bad c.parts.ensures.well_formed c.requires.invariant c.requires.bad) c.loop-k.invariant.base refl
 
 -- all sections but the last are proofs
@@ -84,7 +85,7 @@ pub returns-in-Ok-refute-clause-ok : goal.returns-in-Ok-refute-clause-ok
 returns-in-Ok-refute-clause-ok c =
     let m = c.args.model.now in
     let inv = c.args.invariant.now in
-    let a : Lit = bad_literal m c.args.bad in
+    let a : Lit = c.args.bad in
     let count = c.requires.count in
     let more : RefuteBelow (cases m inv a) c.args.sections.now (2 * length inv + 1) =
     refute_more (cases m inv a) c.args.sections.now (2 * length inv) (bad_formula m inv a) c.index-sections-count-2.result
@@ -97,7 +98,7 @@ pub returns-clause-err : goal.returns-clause-err
 returns-clause-err c =
     let m = c.args.model.now in
     let inv = c.args.invariant.now in
-    let a : Lit = bad_literal m c.args.bad in
+    let a : Lit = c.args.bad in
     let count = c.requires.count in
     refused_here (cases m inv a) c.args.sections.now (2 * length inv) (bad_formula m inv a) c.index-sections-count-2.result c.in-Err-refute.error c.section_error-in-Err-refute.result
     (λ f. case_bad m inv a f) (omega arith) c.index-sections-count-2.is

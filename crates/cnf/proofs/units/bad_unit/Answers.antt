@@ -1,18 +1,20 @@
 use Rattle.std.proofs.Common.{rules, ◌≡◌, ◌+◌, ◌∙◌, SFits, w32, sym, subst}
+use Rattle.std.proofs.lemmas.List.Elements.{All-contains}
+use Rattle.graph.specs.WellFormed.{used}
 use Rattle.lrat.specs.Literals.{IsLiteral}
 use Rattle.lrat.proofs.Fit.{read32}
 use Rattle.cnf.specs.Clauses.{literal}
-use Rattle.cnf.specs.Formulas.{bad_literal}
-use Rattle.cnf.proofs.CaseLaws.{bad_in_range}
+use Rattle.cnf.specs.Formulas.{IsInRange}
 use Rattle.cnf.proofs.Formed.{bad_unit_from}
 use Rattle.cnf.proofs.units.bad_unit.Goals as goal
 
 pub literal-requires-clause-in_range : goal.literal-requires-clause-in_range
 literal-requires-clause-in_range c =
-    rw (c.first.ensures.max_var, c.bad.ensures) (bad_in_range c.args.model.now c.parts.ensures.well_formed c.args.bad (record { 0 = 0 }) c.requires)
+    let m = c.args.model.now in
+    rw c.first.ensures.max_var (All-contains (IsInRange m.max_var) (used m) c.args.bad c.parts.ensures.well_formed.used_in_range c.requires)
 
 pub returns-clause-in_range : goal.returns-clause-in_range
 returns-clause-in_range c =
     let f : SFits w32 c.literal.result = search rules in
-    let e : c.literal.result ≡ literal c.args.model.now.max_var 0 (bad_literal c.args.model.now c.args.bad) = search rules in
+    let e : c.literal.result ≡ literal c.args.model.now.max_var 0 c.args.bad = search rules in
     subst (λ l. IsLiteral (c.args.model.now.max_var + 1) l) (sym (read32 _ f ∙ e)) (bad_unit_from c.args.model.now c.args.bad c.parts.ensures.well_formed c.requires)

@@ -1,9 +1,9 @@
-use Rattle.std.proofs.Common.{◌++◌, [], map, refl, length, sym}
+use Rattle.std.proofs.Common.{◌++◌, [], map, refl}
 use Rattle.std.proofs.lemmas.List.Elements.{All-nil}
 use Rattle.graph.specs.Valuation.{variable, defined}
 use Rattle.graph.specs.WellFormed.{used}
 use Rattle.graph.specs.Uses.{IsFine}
-use Rattle.graph.specs.Faults.{HasDistinct, HasDefined}
+use Rattle.graph.specs.Faults.{HasDefined}
 use Rattle.graph.proofs.Evaluation.{held, once-right, IsOnce}
 use Rattle.graph.proofs.Gates.{left}
 use Rattle.graph.proofs.Shape.{defining_small, used_small, gates_small, fine_so_far, literal_cause, cause_told, all_defined, counted_decides, model_found, cycle_told}

@@ -1,4 +1,4 @@
-use Rattle.std.proofs.Common.{ℕ, ◌≡◌, ◌≤◌, ◌∷◌, [], List, All}
+use Rattle.std.proofs.Common.{ℕ, ◌≡◌, ◌∷◌, [], List}
 use Rattle.graph.proofs.Limits.{header_of, fine_as, over_min, under_min, header_over, sum_over, in_limits}
 use Rattle.graph.proofs.check.first_over.Goals as goal
 

@@ -1,7 +1,6 @@
 use Rattle.std.proofs.Common.{Ok, take, ◌∷◌, []}
 use Rattle.std.specs.List.{flat_map}
-use Rattle.graph.specs.declared.circuit.Use.TheVariants.{Defines, Mentions}
-use Rattle.graph.specs.Uses.{latch_uses, gate_uses}
+use Rattle.graph.specs.declared.circuit.Use.TheVariants.{Defines}
 use Rattle.graph.specs.Faults.{GoesOn}
 use Rattle.graph.proofs.literals.check_inputs.Given as goal
 

@@ -1,8 +1,8 @@
-use Rattle.std.proofs.Common.{arith, ◌^◌, ◌+◌, ◌<◌, [], length, map, sym, subst, List, Ok, Err}
+use Rattle.std.proofs.Common.{arith, ◌^◌, ◌+◌, ◌<◌, length, map, subst, List, Ok, Err}
 use Rattle.graph.specs.declared.circuit.Use.{Use}
 use Rattle.graph.specs.declared.circuit.Lit.{Lit}
 use Rattle.graph.specs.declared.circuit.Use.TheVariants.{Mentions}
-use Rattle.graph.proofs.Going.{GoesOn-told, GoesOn-more, GoesOn-stops, GoesOn-room, GoesOn-all, GoesOn-lists, map-flat_map}
+use Rattle.graph.proofs.Going.{GoesOn-told, GoesOn-stops, GoesOn-room, GoesOn-all, GoesOn-lists, map-flat_map}
 use Rattle.graph.proofs.literals.check_justice.Goals as goal
 
 pub check_mentions-requires-clause-few : goal.check_mentions-requires-clause-few

@@ -1,4 +1,4 @@
-use Rattle.std.proofs.Common.{arith, ◌^◌, ◌+◌, ◌<◌, ◌∷◌, [], ℕ}
+use Rattle.std.proofs.Common.{◌^◌}
 use Rattle.graph.specs.Uses.{latch_uses}
 use Rattle.graph.proofs.Blank.{blank_latch}
 use Rattle.graph.proofs.Going.{GoesOn-told, GoesOn-more, GoesOn-stops, GoesOn-room}

@@ -1,4 +1,4 @@
-use Rattle.std.proofs.Common.{arith, ◌^◌, ◌+◌, ◌<◌, ◌∷◌, [], ℕ, length, sym, subst, List, Ok, Err}
+use Rattle.std.proofs.Common.{arith, ◌^◌, ◌+◌, ◌<◌, ◌∷◌, [], length, sym, subst, List, Ok, Err}
 use Rattle.std.proofs.lemmas.List.Concat.{flat_map_single}
 use Rattle.graph.specs.declared.circuit.Use.{Use}
 use Rattle.graph.specs.declared.circuit.Lit.{Lit}

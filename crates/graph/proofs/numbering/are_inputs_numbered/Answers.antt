@@ -1,4 +1,4 @@
-use Rattle.std.proofs.Common.{arith, sym, ◌∙◌}
+use Rattle.std.proofs.Common.{sym, ◌∙◌}
 use Rattle.graph.proofs.Blank.{blank_lit}
 use Rattle.graph.proofs.Numbered.{IsNumberedTo-more}
 use Rattle.graph.proofs.numbering.are_inputs_numbered.Goals as goal

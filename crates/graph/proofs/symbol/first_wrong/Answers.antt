@@ -1,5 +1,5 @@
-use Rattle.std.proofs.Common.{◌≡◌, ◌<◌, ◌∙◌, length, take, arith, refl, subst, sym}
-use Rattle.graph.specs.Symbols.{index_of, AreSymbols, symbol_counts}
+use Rattle.std.proofs.Common.{◌≡◌, ◌<◌, ◌∙◌, length, take, arith, refl, subst}
+use Rattle.graph.specs.Symbols.{index_of, AreSymbols}
 use Rattle.graph.specs.Taken.{rows_of, marked_at, IsUnmarked}
 use Rattle.graph.proofs.Tabled.{take_whole}
 use Rattle.graph.proofs.Marking.{AreTaken-more, index_below, free_unmarked, marked_counts, with_next, wrong_name, wrong_place}

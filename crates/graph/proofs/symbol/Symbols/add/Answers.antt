@@ -1,8 +1,8 @@
-use Rattle.std.proofs.Common.{◌≡◌, ◌<◌, length, arith, sym, ◌∙◌, refl, true, ℕ}
+use Rattle.std.proofs.Common.{◌≡◌, ◌<◌, length, arith, refl}
 use Rattle.graph.specs.Symbols.{index_of}
 use Rattle.graph.specs.Taken.{rows_of, marked_at, IsUnmarked}
 use Rattle.graph.proofs.Tabled.{take_whole}
-use Rattle.graph.proofs.Marking.{AreTaken-more, index_below, labels-more, unmarked_free, free_unmarked}
+use Rattle.graph.proofs.Marking.{AreTaken-more, index_below, labels-more, unmarked_free}
 use Rattle.graph.proofs.symbol.Symbols.add.Goals as goal
 
 pub invariant_of-self-2 : goal.invariant_of-self-2

@@ -1,0 +1,56 @@
+//! Why there is no answer.
+
+use base::{Failed, Refused};
+use checker::RunError;
+use std::io;
+use std::process::ExitCode;
+
+/// The status where there is no answer.
+pub const FAULT: u8 = 3;
+
+/// Why there is no answer.
+#[derive(Clone, Copy, Debug)]
+pub enum NoAnswer {
+    /// There is no memory for the words, or for the system at a file.
+    Memory,
+    /// The call that was asked gave none.
+    Call(RunError),
+}
+
+impl From<RunError> for NoAnswer {
+    fn from(e: RunError) -> NoAnswer {
+        NoAnswer::Call(e)
+    }
+}
+
+impl From<Refused> for NoAnswer {
+    fn from(refused: Refused) -> NoAnswer {
+        NoAnswer::Call(RunError::OutOfMemory(refused))
+    }
+}
+
+impl From<Failed> for NoAnswer {
+    fn from(_e: Failed) -> NoAnswer {
+        NoAnswer::Call(RunError::Device)
+    }
+}
+
+/// What a call of the system gave, or the fault of one that failed.
+pub fn given<T>(got: io::Result<T>) -> Result<T, NoAnswer> {
+    match got {
+        Ok(value) => Ok(value),
+        Err(error) => Err(match error.kind() {
+            io::ErrorKind::OutOfMemory => NoAnswer::Memory,
+            _ => NoAnswer::Call(RunError::Device),
+        }),
+    }
+}
+
+/// Tells a fault, and the status of one.
+pub fn fault(rt: &HostRuntime, why: NoAnswer) -> ExitCode {
+    let _ = match why {
+        NoAnswer::Memory => eprintln!(rt; "aigcheck: out of memory"),
+        NoAnswer::Call(error) => eprintln!(rt; "aigcheck: {error}"),
+    };
+    ExitCode::from(FAULT)
+}
