@@ -1,0 +1,96 @@
+"""The cases of cases/cases.tsv with a small C library preloaded (bench/hostile), for `bench/refused` and `bench/devices`."""
+
+import contextlib
+import importlib.machinery
+import importlib.util
+import os
+import pathlib
+import subprocess
+
+TOP = pathlib.Path(__file__).resolve().parent.parent
+FOLDER = TOP / "cases"
+BEFORE = b"what was there before\n"
+MOST = 1000
+LIMIT_SECONDS = 120
+
+
+def the_cases():
+    """The functions of cases/run."""
+    loader = importlib.machinery.SourceFileLoader("cases_run", str(FOLDER / "run"))
+    module = importlib.util.module_from_spec(importlib.util.spec_from_loader("cases_run", loader))
+    loader.exec_module(module)
+    return module
+
+
+def due(cases, names):
+    """The cases that are due, or those of them that are named."""
+    return [case for case in cases.table() if cases.is_due(case) and (not names or case["name"] in names)]
+
+
+def built(folder, source):
+    """The library to preload."""
+    path = pathlib.Path(folder) / f"{source}.so"
+    command = ["cc", "-O2", "-fno-builtin", "-shared", "-fPIC", "-o", path, TOP / "bench" / "hostile" / f"{source}.c"]
+    subprocess.run(command, check=True)
+    return path
+
+
+def run(command, library, teller, settings, **how):
+    """What the command did under the library with these settings, and what the library told: the variable `teller` names the
+    descriptor to which it tells."""
+    told = os.memfd_create("told")
+    with contextlib.ExitStack() as end:
+        end.callback(os.close, told)
+        done = subprocess.run(
+            command,
+            cwd=FOLDER,
+            env={**os.environ, **settings, teller: str(told), "LD_PRELOAD": str(library)},
+            stdin=subprocess.DEVNULL,
+            stderr=subprocess.PIPE,
+            pass_fds=[told],
+            timeout=LIMIT_SECONDS,
+            check=False,
+            **{"stdout": subprocess.PIPE, **how},
+        )
+        return done, os.pread(told, os.fstat(told).st_size, 0)
+
+
+class Outs:
+    """The files that a command makes in a scratch folder."""
+
+    def __init__(self, command, scratch):
+        self.paths = [pathlib.Path(word) for word in command[1:] if word.startswith(str(scratch))]
+        self.is_old = False
+
+    def begin(self, is_old):
+        """None of them is there, or each is there with what was there before."""
+        self.is_old = is_old
+        for path in self.paths:
+            for beside in path.parent.iterdir():
+                beside.unlink()
+            if is_old:
+                path.write_bytes(BEFORE)
+
+    def texts(self):
+        """What each holds, or nothing where it is not there."""
+        return [path.read_bytes() if path.exists() else None for path in self.paths]
+
+    def changed(self):
+        """What is wrong where each has to be as it was at the beginning."""
+        was = BEFORE if self.is_old else None
+        return [f"{path.name} was {'changed' if self.is_old else 'made'}" for path, text in zip(self.paths, self.texts()) if text != was]
+
+    def left(self):
+        """What is wrong where a file was left beside one of them."""
+        found = [beside.name for path in self.paths for beside in path.parent.iterdir() if beside != path]
+        return [f"left: {' '.join(found)}"] if found else []
+
+
+def numbers(wanted):
+    """The ones that are tried of these numbers: where there are over MOST, the first half of MOST, and as many of the others at
+    equal distances."""
+    if len(wanted) <= MOST:
+        return wanted
+    half = MOST // 2
+    rest = len(wanted) - half
+    return [*wanted[:half], *(wanted[half + rest * i // half] for i in range(half))]
