@@ -12,7 +12,7 @@ use std::fs::File;
 use std::io::{ErrorKind, Read};
 use std::{fs, io};
 
-/// One byte more than the text of a circuit may have: a longer one is told as too long by that.
+/// One byte more than the text of a circuit may have: a longer one is refused as too long by that.
 const MOST: u64 = 67_108_865;
 
 /// A circuit's text, and the folder with evidence about its properties.

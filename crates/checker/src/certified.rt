@@ -58,7 +58,7 @@ fn safe_property<M: Source, C: Source>(
 ///
 /// A yes means that no run of the circuit that keeps the constraints sets that bad literal, or the
 /// output that is taken as one, at any time or, for a justice property, holds more rounds of it than
-/// the circuit has states. A fault of the first text is told without reading the second, and a fault
+/// the circuit has states. A fault of the first text is reported without reading the second, and a fault
 /// of the second, anywhere in it, before every fault of the certificate. Where memory is wanting or a
 /// source fails, nothing is put.
 ///
@@ -79,7 +79,7 @@ pub fn run_safe<M: Source, C: Source, W: Sink>(
     ensures no { (xs ys : List ℕ) → M.remaining circuit.old ≡ Some xs → C.remaining certificate.old ≡ Some ys → IfOk result (λ yes. yes ≡ false → (n : ℕ) × IsRefusal xs ys n × Appends (W.contents out.old) (W.contents out.new) (no_line n)) }
     // Whatever is accepted gets a yes, unless memory runs out or a device fails.
     ensures exact { (xs ys : List ℕ) (p : AProperty) → M.remaining circuit.old ≡ Some xs → C.remaining certificate.old ≡ Some ys → Accepts xs ys p → IfOk result (λ yes. IsTrue yes) }
-    // A circuit that is none is told without reading the second source.
+    // Where the text spells no circuit, the second source is not read.
     ensures unread { (xs : List ℕ) → M.remaining circuit.old ≡ Some xs → ((f : File) → SpellsFile xs f → ⊥) → certificate.new ≡ certificate.old }
     // A device's fault is answered exactly where one of them failed.
     ensures fails { FailsOne result Device (record { circuit = M.failed circuit.old; evidence = C.failed certificate.old; out = W.failed out.old }) (record { circuit = M.failed circuit.new; evidence = C.failed certificate.new; out = W.failed out.new }) }

@@ -57,7 +57,7 @@ fn violated_property<M: Source, C: Source>(
 ///
 /// A yes means that the one replay of the stimulus is a run that keeps the constraints, and sets the
 /// bad literal, or the output that is taken as one, at its last time, or closes a lasso in which each
-/// wanted literal is set. A fault of the first text is told without reading the second, and a fault
+/// wanted literal is set. A fault of the first text is reported without reading the second, and a fault
 /// of the second, anywhere in it, before what its replay shows. Where memory is wanting or a source
 /// fails, nothing is put.
 ///
@@ -78,7 +78,7 @@ pub fn run_stimulus<M: Source, C: Source, W: Sink>(
     ensures no { (xs ys : List ℕ) → M.remaining circuit.old ≡ Some xs → C.remaining stimulus.old ≡ Some ys → IfOk result (λ yes. yes ≡ false → (n : ℕ) × IsRunRefusal xs ys n × Appends (W.contents out.old) (W.contents out.new) (no_line n)) }
     // Whatever shows its violation gets a yes, unless memory runs out or a device fails.
     ensures exact { (xs ys : List ℕ) (p : AProperty) → M.remaining circuit.old ≡ Some xs → C.remaining stimulus.old ≡ Some ys → Confirms xs ys p → IfOk result (λ yes. IsTrue yes) }
-    // A circuit that is none is told without reading the second source.
+    // Where the text spells no circuit, the second source is not read.
     ensures unread { (xs : List ℕ) → M.remaining circuit.old ≡ Some xs → ((f : File) → SpellsFile xs f → ⊥) → stimulus.new ≡ stimulus.old }
     // A device's fault is answered exactly where one of them failed.
     ensures fails { FailsOne result Device (record { circuit = M.failed circuit.old; evidence = C.failed stimulus.old; out = W.failed out.old }) (record { circuit = M.failed circuit.new; evidence = C.failed stimulus.new; out = W.failed out.new }) }

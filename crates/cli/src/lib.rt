@@ -7,7 +7,7 @@
 //! - `put_file` writes a file in the layout that is asked for.
 //! - `property_named` is the property that a word names. `decide` asks engines about it, and `show` puts
 //!   their `Verdict` and answers its status; `put_certificate` puts the certificate of one that is safe.
-//! - `CliError` is what is told of a command that failed.
+//! - `CliError` is why a command failed.
 #![tactic(auto)]
 
 mod cli_error;

@@ -1,4 +1,4 @@
-//! A solver that is told of the frames, and asked about one step.
+//! A solver that has the clauses of the frames, and answers questions about one step.
 
 ghost use Rattle.std.specs.Prelude.{◌≡◌, ◌+◌, ◌<◌, ◌≤◌, ◌∷◌, [], Bool, List, All, IfOk, OnOk};
 ghost use Rattle.base.specs.Budget.{Spends};
@@ -28,8 +28,8 @@ const MOST: u32 = 1000;
 /// For how many variables of the circuit there is one more.
 const VARIABLES: u32 = 64;
 
-/// A solver that has a circuit and the clauses of its frames, each under a guard. What it is told
-/// is backed by the frames: `IsSound` says so, and every call keeps it.
+/// A solver that has a circuit and the clauses of its frames, each under a guard. Its clauses
+/// are those of the frames: `IsSound` says so, and every call keeps it.
 #[derive(Drop)]
 pub(crate) struct Asker<S: Sat> {
     pub transition: Transition<S>,
@@ -65,7 +65,7 @@ pub(crate) fn guards_from(alloc: Global, first: u32, end: u32) -> Result<Seq<u32
 }
 
 impl<S: Sat> Asker<S> {
-    /// A solver that is not told of any circuit yet.
+    /// A solver that has no circuit yet.
     pub(crate) fn new(solver: S) -> Asker<S> {
         Asker {
             transition: Transition::new(solver),

@@ -48,7 +48,7 @@ impl<S: Sat> Asker<S> {
     }
 
     /// Looks for an invariant that excludes the bad literal, or for a run that sets it, from frames
-    /// that the solver is told of.
+    /// whose clauses the solver has.
     fn search_from(
         &mut self,
         alloc: Global,

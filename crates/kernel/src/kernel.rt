@@ -114,14 +114,14 @@ impl Kernel {
         self.store.origin(id)
     }
 
-    /// Whether the literal is on the trail: no for what is no literal.
+    /// Whether the literal is on the trail: no where the number is not a literal.
     pub fn is_true(&self, literal: i32) -> bool
         ensures { IsTrue result ↔ Contains self.now.literals literal }
     {
         self.is_literal(literal) && self.trail.holds(literal)
     }
 
-    /// Whether the literal's negation is on the trail: no for what is no literal.
+    /// Whether the literal's negation is on the trail: no where the number is not a literal.
     pub fn is_false(&self, literal: i32) -> bool
         ensures { IsTrue result ↔ Contains self.now.literals (neg_ℤ literal) }
     {

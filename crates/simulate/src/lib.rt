@@ -1,7 +1,7 @@
 //! Replaying a circuit: its values, time after time, under given inputs.
 //!
 //! - `Replay::new` answers `Ok` exactly where the initial state gives each latch that is reset to 0
-//!   or to 1 that value; otherwise the first latch that is against its reset is told.
+//!   or to 1 that value; otherwise the first latch that is against its reset is reported.
 //! - After each `step` every `value` is that of the one valuation that agrees with the circuit, the
 //!   state and the inputs of that time, and `state` is the state of the next time.
 //!

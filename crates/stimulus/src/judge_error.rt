@@ -11,7 +11,7 @@ use thiserror::Error;
 #[derive(Clone, Copy, Debug, PartialEq, Eq, Error)]
 pub enum JudgeError {
     /// it does not tell of a violation
-    #[error("no violation is told of")]
+    #[error("the stimulus reports no violation")]
     NotViolated,
     /// the circuit has no property of this position
     #[error("there is no property {0}")]

@@ -4,7 +4,7 @@
 //!   one (`SpellsStimulus`); `write` puts that one text. No other text spells it.
 //! - `judge` answers `Ok` exactly where the replay of the stimulus shows the violation: it keeps
 //!   the constraints and sets the bad literal at its last time (`ShowsBad`), or closes a lasso in
-//!   which each wanted literal is set (`ShowsLasso`). Otherwise the first cause is told.
+//!   which each wanted literal is set (`ShowsLasso`). Otherwise the first cause is reported.
 //! - `put_table` puts the values at each time of the replay (`table_text`), row by row.
 //!
 //! Replaying costs the gates times the input lines, and for a lasso twice that. The memory is a state

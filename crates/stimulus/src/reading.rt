@@ -52,7 +52,7 @@ const IN_LINES: Kinds<Refusal> = Kinds {
     byte: Refusal::Character,
 };
 
-/// What is told of a text that begins with a byte that is not needed here.
+/// The fault of a text that begins with a byte that is not needed here.
 fn begins_otherwise(text: &[u8], kind: Refusal) -> Fault<Refusal> {
     if text.is_empty() {
         return Fault::Text {

@@ -12,7 +12,7 @@ use thiserror::Error;
 #[derive(Clone, Copy, Debug, PartialEq, Eq, Error)]
 pub enum SimError {
     /// it does not tell of a violation
-    #[error("no violation is told of")]
+    #[error("the stimulus reports no violation")]
     NotViolated,
     /// a line has not one value for each latch or each input: 0 for the latch line, the time and
     /// one more for an input line
