@@ -10,7 +10,7 @@ ghost use Rattle.cnf.specs.Formulas.{IsInRange};
 ghost use Rattle.bmc.specs.Standing.{Stands, AreHeld};
 
 use base::{Refused, filled};
-use cnf::Time;
+use cnf::TimeFrame;
 use graph::{Lit, Model};
 use std::alloc::Global;
 
@@ -42,7 +42,7 @@ pub fn literal_after(circuit: &Model, held: &[Option<i32>], steps: u32, lit: Lit
     ensures literal { IsLiteral ((steps + 1) * (circuit.now.max_var + 1)) result }
 {
     circuit.parts();
-    let time = Time::after(circuit, steps);
+    let time = TimeFrame::after(circuit, steps);
     match entry(held, lit.variable()) {
         Some(literal) => {
             if lit.is_negated() {

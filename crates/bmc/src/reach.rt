@@ -10,7 +10,7 @@ ghost use Rattle.engine.specs.Findings.{IsForBad};
 ghost use Rattle.bmc.specs.Depths.{clauses_before, IsOfSteps};
 
 use crate::reading::run_of;
-use cnf::{CnfError, Time, extension};
+use cnf::{CnfError, TimeFrame, extension};
 use engine::{EngineError, Finding, Reason};
 use graph::{Budget, Model};
 use lrat::Clause;
@@ -57,7 +57,7 @@ fn bad_after(circuit: &Model, steps: u32) -> i32
     ensures in_range { IsLiteral ((steps + 1) * (circuit.now.max_var + 1)) result }
 {
     circuit.parts();
-    Time::after(circuit, steps).literal(circuit.bad()[0])
+    TimeFrame::after(circuit, steps).literal(circuit.bad()[0])
 }
 
 /// Looks for a run of so many steps that sets the bad literal at its last time, where the solver

@@ -8,13 +8,13 @@ ghost use Rattle.bmc.specs.Depths.{EndsAt};
 ghost use Rattle.bmc.specs.Times.{value_at, state_at as state_of_values, inputs_at as inputs_of_values, lines_of, IsBadModel};
 
 use base::Refused;
-use cnf::Time;
+use cnf::TimeFrame;
 use engine::Finding;
 use graph::{Lit, Model, Seq};
 use std::alloc::Global;
 
 /// The value of a literal's variable at a time.
-fn value(values: &[bool], time: Time, lit: Lit) -> bool
+fn value(values: &[bool], time: TimeFrame, lit: Lit) -> bool
     requires fits { time.offset + time.max_var < length values.now }
     requires in_range { IsInRange time.max_var lit }
     ensures { result ≡ value_at values.now time.offset lit }
@@ -27,7 +27,7 @@ pub(crate) fn state_at(
     alloc: Global,
     circuit: &Model,
     values: &[bool],
-    time: Time,
+    time: TimeFrame,
 ) -> Result<Seq<bool>, Refused>
     requires max_var { time.max_var ≡ circuit.now.max_var }
     requires fits { time.offset + time.max_var < length values.now }
@@ -46,7 +46,7 @@ fn inputs_at(
     alloc: Global,
     circuit: &Model,
     values: &[bool],
-    time: Time,
+    time: TimeFrame,
 ) -> Result<Seq<bool>, Refused>
     requires max_var { time.max_var ≡ circuit.now.max_var }
     requires fits { time.offset + time.max_var < length values.now }
@@ -73,7 +73,7 @@ pub(crate) fn lines(
 {
     let mut lines = Seq::new(alloc);
     for steps in 0..times {
-        let time = Time::after(circuit, steps);
+        let time = TimeFrame::after(circuit, steps);
         lines.push(inputs_at(alloc, circuit, values, time)?)?;
     }
     Ok(lines)
@@ -92,7 +92,7 @@ pub(crate) fn run_of(
     ensures { (after : Steps) → IfOk result (EndsAt circuit.now steps after) }
 {
     circuit.parts();
-    let initial = state_at(alloc, circuit, values, Time::first(circuit))?;
+    let initial = state_at(alloc, circuit, values, TimeFrame::first(circuit))?;
     let inputs = lines(alloc, circuit, values, steps + 1)?;
     Ok(Finding::Run { initial, inputs })
 }

@@ -6,7 +6,7 @@ ghost use Rattle.engine.specs.Findings.{IsForBad};
 ghost use Rattle.bmc.specs.Depths.{EndsAt};
 
 use crate::reading::{lines, state_at};
-use cnf::Time;
+use cnf::TimeFrame;
 use engine::{EngineError, Finding, shown_run};
 use graph::Model;
 use std::alloc::Global;
@@ -25,7 +25,7 @@ pub fn run_shown(
     ensures { (after : Steps) → IfOk result (λ found. IfSome found (EndsAt circuit.now steps after)) }
 {
     circuit.parts();
-    let initial = state_at(alloc, circuit, values, Time::first(circuit))?;
+    let initial = state_at(alloc, circuit, values, TimeFrame::first(circuit))?;
     let inputs = lines(alloc, circuit, values, steps + 1)?;
     shown_run(alloc, circuit, initial, inputs)
 }

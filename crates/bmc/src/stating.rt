@@ -8,7 +8,7 @@ ghost use Rattle.bmc.specs.Statements.{IsStatement, IsSelection, conjunction_cla
 use crate::held::{literal_after, negated};
 use crate::multiplexer::Multiplexer;
 use crate::plan::Statement;
-use cnf::Time;
+use cnf::TimeFrame;
 use engine::EngineError;
 use graph::{Gate, Latch, Lit, Model};
 use solver::Sat;
@@ -319,7 +319,7 @@ pub fn state_time<S: Sat>(
     ensures vars { S.vars solver.new ≡ S.vars solver.old }
     ensures holds { OnOk result (All (Holds circuit.now (steps + 1)) (S.clauses solver.new)) }
 {
-    add_one(solver, alloc, Time::after(circuit, steps).truth())?;
+    add_one(solver, alloc, TimeFrame::after(circuit, steps).truth())?;
     state_constraints(solver, alloc, circuit, held, steps)?;
     state_each(solver, alloc, circuit, held, steps, statements)
 }

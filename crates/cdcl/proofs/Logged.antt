@@ -16,13 +16,13 @@ use Rattle.lrat.specs.Proofs.{numbered_from, first_stage, IsAcceptedProof}
 use Rattle.lrat.specs.declared.formula.Formula.{Formula}
 use Rattle.lrat.specs.declared.line.Line.{Line}
 use Rattle.lrat.specs.declared.line.Line.TheVariants.{Add, Delete}
-use Rattle.kernel.specs.Kept.{Kept, find_in, kept_in, live, gone, added, without}
-use Rattle.kernel.specs.Forgotten.{GoOut}
-use Rattle.kernel.specs.Known.{Known, with_clause, IsLearned, Learns}
+use Rattle.cdcl_kernel.specs.Kept.{Kept, find_in, kept_in, live, gone, added, without}
+use Rattle.cdcl_kernel.specs.Forgotten.{GoOut}
+use Rattle.cdcl_kernel.specs.Known.{Known, with_clause, IsLearned, Learns}
 use Rattle.std.proofs.lemmas.Bool.Decides.{nat_tests}
-use Rattle.kernel.specs.declared.origin.Origin.TheVariants.{Learned}
-use Rattle.kernel.proofs.Follow.{added_learned}
-use Rattle.kernel.proofs.Forgetting.{by_eq, kept_other}
+use Rattle.cdcl_kernel.specs.declared.origin.Origin.TheVariants.{Learned}
+use Rattle.cdcl_kernel.proofs.Follow.{added_learned}
+use Rattle.cdcl_kernel.proofs.Forgetting.{by_eq, kept_other}
 use Rattle.cdcl.specs.Logged.{LeadTo, formula_of, IsLog, as_added, is_wanted}
 use Rattle.cdcl.specs.declared.logging.Logging.{Logging}
 use Rattle.cdcl.specs.declared.logging.Logging.TheVariants.{Unwanted, Open, Closed}

@@ -6,8 +6,8 @@ use Rattle.lrat.specs.Stages.{Stage, GoAlong}
 use Rattle.lrat.specs.Proofs.{first_stage, IsAcceptedProof}
 use Rattle.lrat.specs.declared.formula.Formula.{Formula}
 use Rattle.lrat.specs.declared.line.Line.{Line}
-use Rattle.kernel.specs.Kept.{Kept, find_in, added}
-use Rattle.kernel.specs.declared.origin.Origin.TheVariants.{Added}
+use Rattle.cdcl_kernel.specs.Kept.{Kept, find_in, added}
+use Rattle.cdcl_kernel.specs.declared.origin.Origin.TheVariants.{Added}
 use Rattle.cdcl.specs.declared.logging.Logging.{Logging}
 use Rattle.cdcl.specs.declared.logging.Logging.TheVariants.{Unwanted, Open, Closed}
 

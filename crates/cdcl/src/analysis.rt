@@ -11,7 +11,7 @@
 use crate::guide::{Guide, Step};
 use crate::minimization::minimize;
 use base::{Refused, push};
-use kernel::Kernel;
+use cdcl_kernel::Kernel;
 
 /// The greatest level of the clause's literals.
 pub fn top_level(kernel: &Kernel, guide: &Guide, id: u32) -> usize {

@@ -7,7 +7,7 @@ use crate::levels::go_back;
 use crate::logged_kernel::LoggedKernel;
 use crate::units::imply;
 use base::push;
-use kernel::{Found, Kernel};
+use cdcl_kernel::{Found, Kernel};
 use solver::SatError;
 
 /// Watches the clauses that were added since the last call. For a clause with fewer than two literals that

@@ -15,7 +15,7 @@ use crate::analysis::{begin, finish, take_step};
 use crate::guide::Guide;
 use crate::logged_kernel::LoggedKernel;
 use base::{Refused, push};
-use kernel::Kernel;
+use cdcl_kernel::Kernel;
 use solver::SatError;
 
 /// The core where a clause is false at level 0, which has no assumption.

@@ -6,7 +6,7 @@
 //!
 //! `refute` gives a proof of a formula that nothing satisfies, which lrat's `refutes` accepts.
 //!
-//! All of that is `kernel`'s: it keeps the clauses and the trail, checks each clause before it is
+//! All of that is `cdcl_kernel`'s: it keeps the clauses and the trail, checks each clause before it is
 //! learned, looks through a model and derives a core before either is answered. The techniques
 //! here, one a file, only steer it, and no proof rests on them. What they get wrong costs time:
 //! a clause that the watches missed is found when a model is looked through, a clause that the

@@ -6,7 +6,7 @@ ghost use Rattle.lrat.specs.declared.line.Line.TheVariants.{Add};
 ghost use Rattle.solver.specs.declared.sat_error.SatError.TheVariants.{Limit};
 
 use base::{Refused, Seq, push};
-use kernel::Kernel;
+use cdcl_kernel::Kernel;
 use lrat::{Clause, Line, Proof};
 use solver::SatError;
 use std::alloc::Global;

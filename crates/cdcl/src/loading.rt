@@ -4,7 +4,7 @@ ghost use Rattle.std.specs.Prelude.{◌≡◌, IfOk, OnOk, map};
 ghost use Rattle.cdcl.specs.Logged.{as_added};
 ghost use Rattle.lrat.specs.Limits.{IsFormula};
 
-use kernel::Kernel;
+use cdcl_kernel::Kernel;
 use lrat::Formula;
 use solver::SatError;
 use std::alloc::Global;

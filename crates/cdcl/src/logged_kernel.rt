@@ -10,7 +10,7 @@ ghost use Rattle.cdcl.specs.Keeping.{Keeps};
 ghost use Rattle.cdcl.specs.Logged.{Logged, is_wanted};
 ghost use Rattle.cdcl.specs.Settled.{Ends};
 ghost use Rattle.cdcl.specs.declared.logging.Logging.TheVariants.{Unwanted, Open, Closed};
-ghost use Rattle.kernel.specs.Kept.{added};
+ghost use Rattle.cdcl_kernel.specs.Kept.{added};
 ghost use Rattle.lrat.specs.Limits.{IsFormula};
 ghost use Rattle.lrat.specs.Literals.{IsLiteral};
 ghost use Rattle.lrat.specs.Proofs.{IsAcceptedProof};
@@ -20,7 +20,7 @@ use crate::lines::{added_line, last_id, next_id, proof_of};
 use crate::loading::load;
 use crate::logging::Logging;
 use base::{Seq, push, reserve_one};
-use kernel::{Found, Kernel};
+use cdcl_kernel::{Found, Kernel};
 use lrat::{Formula, Line, Proof};
 use solver::SatError;
 use std::alloc::Global;
@@ -37,7 +37,7 @@ pub struct LoggedKernel {
 
 impl Model for LoggedKernel {
     ghost use Rattle.cdcl.specs.Logged.{Logged, IsLog};
-    ghost use Rattle.kernel.specs.Kept.{added};
+    ghost use Rattle.cdcl_kernel.specs.Kept.{added};
 
     ghost Value = { Logged };
 
@@ -250,12 +250,13 @@ impl LoggedKernel {
         Ok(Some(core))
     }
 
-    /// The proof that nothing satisfies the clauses, once the empty clause is logged.
+    /// The proof that nothing satisfies the clauses, once the empty clause is logged: what the
+    /// empty clause rests on of the log.
     pub fn into_proof(self, alloc: Global) -> Result<Proof, SatError>
         requires { self.log ≡ Closed }
         ensures { IfOk result (λ p. IsAcceptedProof (record { vars = self.vars; clauses = self.clauses }) p) }
     {
         let LoggedKernel { lines, .. } = self;
-        Ok(proof_of(alloc, lines)?)
+        Ok(proof_of(alloc, lines)?.trimmed(alloc)?)
     }
 }

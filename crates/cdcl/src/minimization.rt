@@ -8,7 +8,7 @@
 use crate::analysis::take_step;
 use crate::guide::Guide;
 use base::{Refused, push};
-use kernel::Kernel;
+use cdcl_kernel::Kernel;
 
 /// Leaves the literals out that the others imply, and notes the reasons that show it. The first
 /// literal stays.

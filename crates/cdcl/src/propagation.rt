@@ -14,7 +14,7 @@ use crate::logged_kernel::LoggedKernel;
 use crate::units::imply;
 use crate::watches::Watch;
 use base::Budget;
-use kernel::Found;
+use cdcl_kernel::Found;
 use solver::SatError;
 
 /// How a propagation ended.

@@ -8,7 +8,7 @@ ghost use Rattle.cdcl.specs.Keeping.{Keeps};
 
 use crate::guide::Guide;
 use crate::logged_kernel::LoggedKernel;
-use kernel::Kernel;
+use cdcl_kernel::Kernel;
 use solver::SatError;
 
 /// The conflicts from one reduction to the next.

@@ -19,7 +19,7 @@ use crate::reduction::{INTERVAL, reduce};
 use crate::trail_reuse::reuse_trail;
 use crate::units::imply;
 use base::Budget;
-use kernel::{Found, Kernel};
+use cdcl_kernel::{Found, Kernel};
 use solver::{Answer, SatError};
 
 /// What to do where nothing more follows.

@@ -9,7 +9,7 @@ use crate::guide::Guide;
 use crate::lines::last_id;
 use crate::logged_kernel::LoggedKernel;
 use base::{Refused, push};
-use kernel::Found;
+use cdcl_kernel::Found;
 use solver::SatError;
 
 /// Puts the literal that a clause leaves on the trail.

@@ -11,7 +11,7 @@
 
 use crate::table::Table;
 use base::{Refused, push};
-use kernel::Kernel;
+use cdcl_kernel::Kernel;
 use std::alloc::Global;
 use std::mem;
 

@@ -8,7 +8,7 @@ ghost use Rattle.cnf.specs.Invariants.{SafetyLaw};
 ghost use Rattle.cnf.specs.Meaning.{FrameLaw};
 
 use crate::push::{push, push_constraints, push_gates, push_invariant, push_resets};
-use crate::time::Time;
+use crate::time_frame::TimeFrame;
 use base::Refused;
 use graph::{Lit, Model, Seq};
 use lrat::{Clause, Formula};
@@ -31,7 +31,7 @@ fn truth(alloc: Global, model: &Model) -> Result<Seq<Clause>, Refused>
 {
     model.parts();
     let mut clauses = Seq::new(alloc);
-    push(alloc, &mut clauses, &[Time::first(model).truth()])?;
+    push(alloc, &mut clauses, &[TimeFrame::first(model).truth()])?;
     Ok(clauses)
 }
 
@@ -40,7 +40,7 @@ fn frame_clauses(alloc: Global, model: &Model) -> Result<Seq<Clause>, Refused>
 {
     model.parts();
     let mut clauses = truth(alloc, model)?;
-    push_gates(alloc, &mut clauses, Time::first(model), model.gates())?;
+    push_gates(alloc, &mut clauses, TimeFrame::first(model), model.gates())?;
     Ok(clauses)
 }
 
@@ -49,7 +49,12 @@ pub(crate) fn start_clauses(alloc: Global, model: &Model) -> Result<Seq<Clause>,
 {
     model.parts();
     let mut clauses = truth(alloc, model)?;
-    push_resets(alloc, &mut clauses, Time::first(model), model.latches())?;
+    push_resets(
+        alloc,
+        &mut clauses,
+        TimeFrame::first(model),
+        model.latches(),
+    )?;
     Ok(clauses)
 }
 
@@ -63,8 +68,13 @@ pub(crate) fn shared_clauses(
 {
     model.parts();
     let mut clauses = frame_clauses(alloc, model)?;
-    push_constraints(alloc, &mut clauses, Time::first(model), model.constraints())?;
-    push_invariant(alloc, &mut clauses, Time::first(model), invariant)?;
+    push_constraints(
+        alloc,
+        &mut clauses,
+        TimeFrame::first(model),
+        model.constraints(),
+    )?;
+    push_invariant(alloc, &mut clauses, TimeFrame::first(model), invariant)?;
     Ok(clauses)
 }
 

@@ -21,7 +21,7 @@ mod cases;
 mod error;
 mod next_table;
 mod push;
-mod time;
+mod time_frame;
 mod units;
 mod unrolling;
 
@@ -29,6 +29,6 @@ pub use bases::{frame, shared_base, start_base};
 pub use cases::{bad_case, init_case, step_case};
 pub use error::CnfError;
 pub use next_table::NextTable;
-pub use time::Time;
+pub use time_frame::TimeFrame;
 pub use units::{bad_unit, init_units, step_units};
 pub use unrolling::{extension, unroll};

@@ -5,7 +5,7 @@ ghost use Rattle.lrat.specs.Shared.{unit_clauses};
 ghost use Rattle.cnf.specs.Clauses.{literal, denial, gate_clauses, reset_clauses};
 ghost use Rattle.cnf.specs.Formulas.{IsGateIn, IsInRange};
 
-use crate::time::Time;
+use crate::time_frame::TimeFrame;
 use base::Refused;
 use graph::{Gate, Latch, Lit, Seq};
 use lrat::Clause;
@@ -30,7 +30,7 @@ pub fn push_units(alloc: Global, clauses: &mut Seq<Clause>, literals: &[i32]) ->
 }
 
 /// Adds the literals of clauses for literals of the circuit.
-pub fn push_literals(literals: &mut Vec<i32>, time: Time, lits: &[Lit]) -> Result<(), Refused>
+pub fn push_literals(literals: &mut Vec<i32>, time: TimeFrame, lits: &[Lit]) -> Result<(), Refused>
     requires fits { time.offset + time.max_var + 1 < 2 ^ 31 }
     requires in_range { All (IsInRange time.max_var) lits.now }
     ensures { OnOk result (literals.new.items ≡ literals.old.items ++ map (literal time.max_var time.offset) lits.now) }
@@ -42,7 +42,7 @@ pub fn push_literals(literals: &mut Vec<i32>, time: Time, lits: &[Lit]) -> Resul
 }
 
 /// Adds their negations.
-pub fn push_denials(literals: &mut Vec<i32>, time: Time, lits: &[Lit]) -> Result<(), Refused>
+pub fn push_denials(literals: &mut Vec<i32>, time: TimeFrame, lits: &[Lit]) -> Result<(), Refused>
     requires fits { time.offset + time.max_var + 1 < 2 ^ 31 }
     requires in_range { All (IsInRange time.max_var) lits.now }
     ensures { OnOk result (literals.new.items ≡ literals.old.items ++ map (denial time.max_var time.offset) lits.now) }
@@ -57,7 +57,7 @@ pub fn push_denials(literals: &mut Vec<i32>, time: Time, lits: &[Lit]) -> Result
 pub fn push_constraints(
     alloc: Global,
     clauses: &mut Seq<Clause>,
-    time: Time,
+    time: TimeFrame,
     lits: &[Lit],
 ) -> Result<(), Refused>
     requires fits { time.offset + time.max_var + 1 < 2 ^ 31 }
@@ -73,7 +73,7 @@ pub fn push_constraints(
 fn push_gate(
     alloc: Global,
     clauses: &mut Seq<Clause>,
-    time: Time,
+    time: TimeFrame,
     gate: Gate,
 ) -> Result<(), Refused>
     requires fits { time.offset + time.max_var + 1 < 2 ^ 31 }
@@ -96,7 +96,7 @@ fn push_gate(
 pub fn push_gates(
     alloc: Global,
     clauses: &mut Seq<Clause>,
-    time: Time,
+    time: TimeFrame,
     gates: &[Gate],
 ) -> Result<(), Refused>
     requires fits { time.offset + time.max_var + 1 < 2 ^ 31 }
@@ -112,7 +112,7 @@ pub fn push_gates(
 fn push_reset(
     alloc: Global,
     clauses: &mut Seq<Clause>,
-    time: Time,
+    time: TimeFrame,
     latch: Latch,
 ) -> Result<(), Refused>
     requires fits { time.offset + time.max_var + 1 < 2 ^ 31 }
@@ -130,7 +130,7 @@ fn push_reset(
 pub fn push_resets(
     alloc: Global,
     clauses: &mut Seq<Clause>,
-    time: Time,
+    time: TimeFrame,
     latches: &[Latch],
 ) -> Result<(), Refused>
     requires fits { time.offset + time.max_var + 1 < 2 ^ 31 }
@@ -147,7 +147,7 @@ pub fn push_resets(
 pub fn push_invariant(
     alloc: Global,
     clauses: &mut Seq<Clause>,
-    time: Time,
+    time: TimeFrame,
     invariant: &[Seq<Lit>],
 ) -> Result<(), Refused>
     requires fits { time.offset + time.max_var + 1 < 2 ^ 31 }

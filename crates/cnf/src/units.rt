@@ -9,7 +9,7 @@ ghost use Rattle.cnf.specs.Tables.{IsTableOf};
 
 use crate::next_table::NextTable;
 use crate::push::push_denials;
-use crate::time::Time;
+use crate::time_frame::TimeFrame;
 use base::{Refused, push};
 use graph::{Lit, Model};
 use std::alloc::Global;
@@ -22,7 +22,7 @@ pub fn init_units(alloc: Global, model: &Model, clause: &[Lit]) -> Result<Vec<i3
 {
     model.parts();
     let mut units = Vec::new(alloc);
-    push_denials(&mut units, Time::first(model), clause)?;
+    push_denials(&mut units, TimeFrame::first(model), clause)?;
     Ok(units)
 }
 
@@ -40,7 +40,7 @@ pub fn step_units(
     ensures in_range { IfOk result (λ v. All (IsLiteral (model.now.max_var + 1)) v.items) }
 {
     model.parts();
-    let time = Time::first(model);
+    let time = TimeFrame::first(model);
     let mut units = Vec::new(alloc);
     for lit in clause {
         push(&mut units, time.denial(table.next_of(*lit)))?;
@@ -55,5 +55,5 @@ pub fn bad_unit(model: &Model, bad: Lit) -> i32
     ensures in_range { IsLiteral (model.now.max_var + 1) result }
 {
     model.parts();
-    Time::first(model).literal(bad)
+    TimeFrame::first(model).literal(bad)
 }

@@ -12,7 +12,7 @@ ghost use Rattle.cnf.specs.declared.error.CnfError.TheVariants.{Limit, OutOfMemo
 
 use crate::error::CnfError;
 use crate::push::{push, push_constraints, push_gates, push_resets};
-use crate::time::Time;
+use crate::time_frame::TimeFrame;
 use base::Refused;
 use graph::{Latch, Model, Seq};
 use lrat::{Clause, Formula};
@@ -26,7 +26,7 @@ fn push_time(
     alloc: Global,
     clauses: &mut Seq<Clause>,
     model: &Model,
-    time: Time,
+    time: TimeFrame,
 ) -> Result<(), Refused>
     requires max_var { time.max_var ≡ model.now.max_var }
     requires fits { time.offset + time.max_var + 1 < 2 ^ 31 }
@@ -43,7 +43,7 @@ fn push_time(
 fn push_join(
     alloc: Global,
     clauses: &mut Seq<Clause>,
-    time: Time,
+    time: TimeFrame,
     latch: Latch,
 ) -> Result<(), Refused>
     requires fits { time.offset + 2 * (time.max_var + 1) < 2 ^ 31 }
@@ -69,7 +69,7 @@ fn push_join(
 fn push_joins(
     alloc: Global,
     clauses: &mut Seq<Clause>,
-    time: Time,
+    time: TimeFrame,
     latches: &[Latch],
 ) -> Result<(), Refused>
     requires fits { time.offset + 2 * (time.max_var + 1) < 2 ^ 31 }
@@ -94,7 +94,7 @@ fn push_times(
     ensures { OnOk result (clauses.new ≡ clauses.old ++ times_from model.now steps 0) }
 {
     model.parts();
-    let mut time = Time::first(model);
+    let mut time = TimeFrame::first(model);
     for _step in 0..steps {
         push_time(alloc, clauses, model, time)?;
         push_joins(alloc, clauses, time, model.latches())?;
@@ -110,7 +110,12 @@ fn unroll_clauses(alloc: Global, model: &Model, steps: u32) -> Result<Seq<Clause
 {
     model.parts();
     let mut clauses = Seq::new(alloc);
-    push_resets(alloc, &mut clauses, Time::first(model), model.latches())?;
+    push_resets(
+        alloc,
+        &mut clauses,
+        TimeFrame::first(model),
+        model.latches(),
+    )?;
     push_times(alloc, &mut clauses, model, steps)?;
     Ok(clauses)
 }
@@ -144,7 +149,7 @@ fn extension_clauses(alloc: Global, model: &Model, steps: u32) -> Result<Seq<Cla
         return unroll_clauses(alloc, model, 0);
     }
     model.parts();
-    let before = Time::after(model, steps - 1);
+    let before = TimeFrame::after(model, steps - 1);
     let mut clauses = Seq::new(alloc);
     push_joins(alloc, &mut clauses, before, model.latches())?;
     push_time(alloc, &mut clauses, model, before.next())?;

@@ -1,8 +1,8 @@
 //! Which words a seed gives. The runs that they make are in `cases/texts.tsv`.
 
+use engine_random::draw;
 use rand_core::SeedableRng;
 use rand_pcg::Lcg128Xsl64;
-use random::draw;
 
 /// The first two draws from the seeds 0 and 1.
 static DRAWN: [(u64, [[u64; 4]; 2]); 2] = [

@@ -372,29 +372,33 @@ fn pigeons(alloc: Global, pigeons: u8, holes: u8) -> Result<Vec<i32>, Refused> {
     Ok(list)
 }
 
-/// How many lines of the proof delete clauses.
-fn deletions(proof: &Proof) -> usize {
-    let mut deletions = 0usize;
-    for line in proof.lines() {
-        if matches!(line, Line::Delete { .. }) {
-            deletions = deletions.saturating_add(1);
-        }
-    }
-    deletions
-}
-
-/// How many lines of the proof that so many pigeons do not fit delete clauses.
-fn deletions_of(alloc: Global, list: &[i32]) -> Result<Option<usize>, Fail> {
+/// The id of the empty clause in an accepted proof that so many pigeons do not fit.
+fn last_id(alloc: Global, list: &[i32]) -> Result<Option<u32>, Fail> {
     let formula = formula(alloc, 56, list)?;
     match refute(alloc, &formula, &mut Budget::new(STEPS))? {
-        Refuted::Proof(proof) => Ok(Some(deletions(&proof))),
+        Refuted::Proof(proof) => Ok(id_of_last(alloc, &formula, &proof)),
         _ => Ok(None),
     }
 }
 
+/// The id of the last clause that an accepted proof of the formula adds.
+fn id_of_last(alloc: Global, formula: &Formula, proof: &Proof) -> Option<u32>
+    requires { IsFormula formula.now }
+{
+    if refutes(alloc, formula, proof).is_err() {
+        return None;
+    }
+    match proof.lines().last() {
+        Some(Line::Add { id, .. }) => Some(*id),
+        _ => None,
+    }
+}
+
+// The 204 clauses have the first ids. Clauses are forgotten at every 2,000th conflict, and each conflict
+// learns one.
 #[test]
 fn forgets_clauses_and_goes_on(rt: HostRuntime) -> Result<(), Fail> {
     let list = pigeons(rt.alloc(), 8, 7)?;
-    assert!(rt; matches!(deletions_of(rt.alloc(), list.as_slice())?, Some(1..)));
+    assert!(rt; matches!(last_id(rt.alloc(), list.as_slice())?, Some(2205..)));
     Ok(())
 }

@@ -1,41 +1,41 @@
--- What a solver is told, and what its answers say of the frames.
+-- What a solver is has, and what its answers say of the frames.
 use Rattle.std.proofs.Common.{◌≡◌, ℕ, ◌+◌, ◌<◌, ◌≤◌, ◌⊎◌, Bool, List, [], ◌∷◌, ◌++◌, length, get_or, All, Contains, refl, inl, inr, sym, subst, arith}
 use Rattle.std.proofs.lemmas.List.Elements.{All-contains, All-push, All-cons, All-nil}
 use Rattle.base.specs.Budget.{Steps}
 use Rattle.graph.specs.declared.parts.Parts.{Parts}
 use Rattle.graph.specs.Valuation.{state_of}
 use Rattle.graph.specs.Runs.{next_state}
-use Rattle.transition.specs.declared.state.StateLit.{StateLit}
-use Rattle.transition.specs.declared.step.Consecution.{Consecution}
-use Rattle.transition.specs.declared.step.Consecution.TheVariants.{Held, Broken, GaveUp}
-use Rattle.transition.specs.States.{Guarded, HoldsGuarded, Holds, IsPartOf}
-use Rattle.transition.specs.Contents.{Contents, IsLoaded, HasGuards}
-use Rattle.transition.specs.Steps.{IsConsecution}
-use Rattle.frames.specs.declared.frames.Entry.{Entry}
-use Rattle.frames.specs.Frames.{InFrame, AreWithin, Levels}
-use Rattle.ic3.specs.declared.asker.Asker.{Asker}
-use Rattle.ic3.specs.Told.{Backs, IsTold, IsSound}
+use Rattle.ic3_step.specs.declared.state.StateLit.{StateLit}
+use Rattle.ic3_step.specs.declared.step.Consecution.{Consecution}
+use Rattle.ic3_step.specs.declared.step.Consecution.TheVariants.{Held, Broken, Spent}
+use Rattle.ic3_step.specs.States.{Guarded, HoldsGuarded, Holds, IsPartOf}
+use Rattle.ic3_step.specs.Contents.{Contents, IsLoaded, HasGuards}
+use Rattle.ic3_step.specs.Steps.{IsConsecution}
+use Rattle.ic3_frames.specs.declared.frames.Entry.{Entry}
+use Rattle.ic3_frames.specs.Frames.{InFrame, AreWithin, Levels}
+use Rattle.ic3.specs.declared.frame_solver.FrameSolver.{FrameSolver}
+use Rattle.ic3.specs.Sound.{Backs, HasFrames, IsSound}
 use Rattle.ic3.specs.Answers.{IsAfter, IsRelative}
 
--- a question's guards: those of levels, and its own
+-- a query's guards: those of levels, and its own
 abbrev pub AreGuards : ℕ → ℕ → ℕ → List ℕ → Type 0
 AreGuards first end one guards = All (λ g. ((first ≤ g) × (g < end)) ⊎ (g ≡ one)) guards
 
 -- the guards below the room can be asked for
-pub told_guards : {S : Type 0} (m : Parts) (es : List Entry) (a : Asker S) (guards : List ℕ) → IsTold m es a → All (λ g. g < a.room) guards → HasGuards m guards a.transition
-told_guards m es a guards told below = record { room = a.room; added = told.added; loaded = told.loaded; below = below }
+pub has_guards : {S : Type 0} (m : Parts) (es : List Entry) (a : FrameSolver S) (guards : List ℕ) → HasFrames m es a → All (λ g. g < a.room) guards → HasGuards m guards a.transition
+has_guards m es a guards has below = record { room = a.room; added = has.added; loaded = has.loaded; below = below }
 
-pub told_guard : {S : Type 0} (m : Parts) (es : List Entry) (a : Asker S) (g : ℕ) → IsTold m es a → g < a.room → HasGuards m (g ∷ []) a.transition
-told_guard m es a g told below = told_guards m es a (g ∷ []) told (All-cons (λ x. x < a.room) g [] below (All-nil (λ x. x < a.room)))
+pub has_guard : {S : Type 0} (m : Parts) (es : List Entry) (a : FrameSolver S) (g : ℕ) → HasFrames m es a → g < a.room → HasGuards m (g ∷ []) a.transition
+has_guard m es a g has below = has_guards m es a (g ∷ []) has (All-cons (λ x. x < a.room) g [] below (All-nil (λ x. x < a.room)))
 
 -- an item of a list of which all have it
 pub item_has : {X : Type 0} (P : X → Type 0) (xs : List X) (i : ℕ) (x : X) → i < length xs → x ≡ get_or xs i x → All P xs → P x
 item_has P xs i x i_in is all = subst P (sym is) (all i x i_in)
 
 -- no clause yet
-pub told_none : {S : Type 0} (m : Parts) (es : List Entry) (t : Contents) (levels room : ℕ) → IsLoaded m room [] t → levels ≤ room → room ≤ 4294967295 →
-    IsTold {S = S} m es (record { transition = t; levels = levels; room = room; next = levels })
-told_none m es t levels room loaded fits small = record {
+pub has_none : {S : Type 0} (m : Parts) (es : List Entry) (t : Contents) (levels room : ℕ) → IsLoaded m room [] t → levels ≤ room → room ≤ 4294967295 →
+    HasFrames {S = S} m es (record { transition = t; levels = levels; room = room; next = levels })
+has_none m es t levels room loaded fits small = record {
   added = [];
   loaded = loaded;
   used = All-nil (λ (g : Guarded). g.guard < levels);
@@ -46,64 +46,64 @@ told_none m es t levels room loaded fits small = record {
 }
 
 -- one clause more
-pub told_more : {S : Type 0} (m : Parts) (es : List Entry) (a : Asker S) (t : Contents) (next : ℕ) (g : Guarded) (told : IsTold m es a) → IsLoaded m a.room (told.added ++ g ∷ []) t →
+pub has_more : {S : Type 0} (m : Parts) (es : List Entry) (a : FrameSolver S) (t : Contents) (next : ℕ) (g : Guarded) (has : HasFrames m es a) → IsLoaded m a.room (has.added ++ g ∷ []) t →
     a.next ≤ next → next ≤ a.room → g.guard < next → (g.guard < a.levels → (s : List Bool) → InFrame es g.guard s → Holds s g.clause) →
-    IsTold {S = S} m es (record { transition = t; levels = a.levels; room = a.room; next = next })
-told_more m es a t next g told loaded later fits used backed = record {
-  added = told.added ++ g ∷ [];
+    HasFrames {S = S} m es (record { transition = t; levels = a.levels; room = a.room; next = next })
+has_more m es a t next g has loaded later fits used backed = record {
+  added = has.added ++ g ∷ [];
   loaded = loaded;
-  used = All-push (λ (x : Guarded). x.guard < next) told.added g (λ k d k_in. let below = told.used k d k_in in omega (arith, below, later)) used;
-  backs = All-push (λ (x : Guarded). x.guard < a.levels → (s : List Bool) → InFrame es x.guard s → Holds s x.clause) told.added g told.backs backed;
-  order = let order = told.order in omega (arith, order, later);
+  used = All-push (λ (x : Guarded). x.guard < next) has.added g (λ k d k_in. let below = has.used k d k_in in omega (arith, below, later)) used;
+  backs = All-push (λ (x : Guarded). x.guard < a.levels → (s : List Bool) → InFrame es x.guard s → Holds s x.clause) has.added g has.backs backed;
+  order = let order = has.order in omega (arith, order, later);
   fits = fits;
-  small = told.small;
+  small = has.small;
 }
 
 -- a solver that has more of the circuit
-pub told_grown : {S : Type 0} (m : Parts) (es : List Entry) (a : Asker S) (t : Contents) (told : IsTold m es a) → IsLoaded m a.room told.added t →
-    IsTold {S = S} m es (record { transition = t; levels = a.levels; room = a.room; next = a.next })
-told_grown m es a t told loaded = record { added = told.added; loaded = loaded; used = told.used; backs = told.backs; order = told.order; fits = told.fits; small = told.small }
+pub has_grown : {S : Type 0} (m : Parts) (es : List Entry) (a : FrameSolver S) (t : Contents) (has : HasFrames m es a) → IsLoaded m a.room has.added t →
+    HasFrames {S = S} m es (record { transition = t; levels = a.levels; room = a.room; next = a.next })
+has_grown m es a t has loaded = record { added = has.added; loaded = loaded; used = has.used; backs = has.backs; order = has.order; fits = has.fits; small = has.small }
 
--- a solver that counts a question more
-pub told_counted : {S : Type 0} (m : Parts) (es : List Entry) (a : Asker S) (next : ℕ) → IsTold m es a → a.next ≤ next → next ≤ a.room →
-    IsTold {S = S} m es (record { transition = a.transition; levels = a.levels; room = a.room; next = next })
-told_counted m es a next told later fits = record {
-  added = told.added;
-  loaded = told.loaded;
-  used = λ k d k_in. let below = told.used k d k_in in omega (arith, below, later);
-  backs = told.backs;
-  order = let order = told.order in omega (arith, order, later);
+-- a solver that counts a query more
+pub has_counted : {S : Type 0} (m : Parts) (es : List Entry) (a : FrameSolver S) (next : ℕ) → HasFrames m es a → a.next ≤ next → next ≤ a.room →
+    HasFrames {S = S} m es (record { transition = a.transition; levels = a.levels; room = a.room; next = next })
+has_counted m es a next has later fits = record {
+  added = has.added;
+  loaded = has.loaded;
+  used = λ k d k_in. let below = has.used k d k_in in omega (arith, below, later);
+  backs = has.backs;
+  order = let order = has.order in omega (arith, order, later);
   fits = fits;
-  small = told.small;
+  small = has.small;
 }
 
-pub sound_grown : {S : Type 0} (m : Parts) (a : Asker S) (f : Levels) (t : Contents) (sound : IsSound m a f) → IsLoaded m a.room sound.told.added t →
+pub sound_grown : {S : Type 0} (m : Parts) (a : FrameSolver S) (f : Levels) (t : Contents) (sound : IsSound m a f) → IsLoaded m a.room sound.has.added t →
     IsSound {S = S} m (record { transition = t; levels = a.levels; room = a.room; next = a.next }) f
-sound_grown m a f t sound loaded = record { told = told_grown m f.entries a t sound.told loaded; laws = sound.laws; top = sound.top; below = sound.below }
+sound_grown m a f t sound loaded = record { has = has_grown m f.entries a t sound.has loaded; laws = sound.laws; top = sound.top; below = sound.below }
 
--- a question's clause, under the guard that is free
-pub told_asked : {S : Type 0} (m : Parts) (es : List Entry) (a : Asker S) (t : Contents) (c : List StateLit) (told : IsTold m es a) → a.next < a.room →
-    IsLoaded m a.room (told.added ++ record { guard = a.next; clause = c } ∷ []) t → IsTold {S = S} m es (record { transition = t; levels = a.levels; room = a.room; next = a.next + 1 })
-told_asked m es a t c told room loaded =
-    let order = told.order in
-    told_more m es a t (a.next + 1) (record { guard = a.next; clause = c }) told loaded (omega arith) (omega (arith, room)) (omega arith) (λ below. absurd (omega (arith, below, order)))
+-- a query's clause, under the guard that is free
+pub has_asked : {S : Type 0} (m : Parts) (es : List Entry) (a : FrameSolver S) (t : Contents) (c : List StateLit) (has : HasFrames m es a) → a.next < a.room →
+    IsLoaded m a.room (has.added ++ record { guard = a.next; clause = c } ∷ []) t → HasFrames {S = S} m es (record { transition = t; levels = a.levels; room = a.room; next = a.next + 1 })
+has_asked m es a t c has room loaded =
+    let order = has.order in
+    has_more m es a t (a.next + 1) (record { guard = a.next; clause = c }) has loaded (omega arith) (omega (arith, room)) (omega arith) (λ below. absurd (omega (arith, below, order)))
 
--- a clause under a guard that was a question's
-pub told_let_go : {S : Type 0} (m : Parts) (es : List Entry) (a : Asker S) (t : Contents) (guard : ℕ) (c : List StateLit) (told : IsTold m es a) → a.levels ≤ guard → guard < a.next →
-    IsLoaded m a.room (told.added ++ record { guard = guard; clause = c } ∷ []) t → IsTold {S = S} m es (record { transition = t; levels = a.levels; room = a.room; next = a.next })
-told_let_go m es a t guard c told above below loaded =
-    told_more m es a t a.next (record { guard = guard; clause = c }) told loaded (omega arith) told.fits below (λ level. absurd (omega (arith, level, above)))
+-- a clause under a guard that was a query's
+pub has_let_go : {S : Type 0} (m : Parts) (es : List Entry) (a : FrameSolver S) (t : Contents) (guard : ℕ) (c : List StateLit) (has : HasFrames m es a) → a.levels ≤ guard → guard < a.next →
+    IsLoaded m a.room (has.added ++ record { guard = guard; clause = c } ∷ []) t → HasFrames {S = S} m es (record { transition = t; levels = a.levels; room = a.room; next = a.next })
+has_let_go m es a t guard c has above below loaded =
+    has_more m es a t a.next (record { guard = guard; clause = c }) has loaded (omega arith) has.fits below (λ level. absurd (omega (arith, level, above)))
 
 -- smaller frames
-pub told_within : {S : Type 0} (m : Parts) (es fs : List Entry) (a : Asker S) → AreWithin fs es → IsTold m es a → IsTold m fs a
-told_within m es fs a within told = record {
-  added = told.added;
-  loaded = told.loaded;
-  used = told.used;
-  backs = λ k d k_in level s inside. told.backs k d k_in level s (within (get_or told.added k d).guard s inside);
-  order = told.order;
-  fits = told.fits;
-  small = told.small;
+pub has_within : {S : Type 0} (m : Parts) (es fs : List Entry) (a : FrameSolver S) → AreWithin fs es → HasFrames m es a → HasFrames m fs a
+has_within m es fs a within has = record {
+  added = has.added;
+  loaded = has.loaded;
+  used = has.used;
+  backs = λ k d k_in level s inside. has.backs k d k_in level s (within (get_or has.added k d).guard s inside);
+  order = has.order;
+  fits = has.fits;
+  small = has.small;
 }
 
 -- a frame lies in those above it
@@ -119,9 +119,9 @@ frame_guarded es levels k gs guards s backs are inside i d i_in found =
     backs i d i_in range.1 s (frame_up es k g.guard s range.0 inside)
 
 -- and with a clause that holds, under a guard of its own
-pub question_guarded : (es : List Entry) (levels k next : ℕ) (gs : List Guarded) (q : Guarded) (guards : List ℕ) (s : List Bool) → Backs es levels gs → All (λ g. g.guard < next) gs →
+pub query_guarded : (es : List Entry) (levels k next : ℕ) (gs : List Guarded) (q : Guarded) (guards : List ℕ) (s : List Bool) → Backs es levels gs → All (λ g. g.guard < next) gs →
     AreGuards k levels next guards → InFrame es k s → Holds s q.clause → HoldsGuarded (gs ++ q ∷ []) guards s
-question_guarded es levels k next gs q guards s backs used are inside holds =
+query_guarded es levels k next gs q guards s backs used are inside holds =
     All-push (λ (g : Guarded). Contains guards g.guard → Holds s g.clause) gs q
     (λ i d i_in found.
     let g : Guarded = get_or gs i d in
@@ -141,17 +141,17 @@ pub after_answer : (m : Parts) (es : List Entry) (levels k : ℕ) (gs : List Gua
 after_answer m es levels k gs guards c after (Held part) backs are law = λ w time inside.
     wider part c (next_state m w) law.0 (law.1 w time (frame_guarded es levels k gs guards (state_of m w) backs are inside))
 after_answer m es levels k gs guards c after (Broken t) backs are law = (law.0, law.1, law.3)
-after_answer m es levels k gs guards c after GaveUp backs are law = law
+after_answer m es levels k gs guards c after Spent backs are law = law
 
 -- an answer with the clause itself under a guard of its own
 pub relative_answer : (m : Parts) (es : List Entry) (levels k next : ℕ) (gs : List Guarded) (guards : List ℕ) (c : List StateLit) (after : Steps) (r : Consecution) → Backs es levels gs →
     All (λ g. g.guard < next) gs → AreGuards k levels next guards → IsConsecution m (gs ++ record { guard = next; clause = c } ∷ []) guards c after r → IsRelative m es k c after r
 relative_answer m es levels k next gs guards c after (Held part) backs used are law =
-    (law.0, λ w time inside holds. law.1 w time (question_guarded es levels k next gs (record { guard = next; clause = c }) guards (state_of m w) backs used are inside holds))
+    (law.0, λ w time inside holds. law.1 w time (query_guarded es levels k next gs (record { guard = next; clause = c }) guards (state_of m w) backs used are inside holds))
 relative_answer m es levels k next gs guards c after (Broken t) backs used are law = (law.0, law.1, law.3)
-relative_answer m es levels k next gs guards c after GaveUp backs used are law = law
+relative_answer m es levels k next gs guards c after Spent backs used are law = law
 
--- a question's guards: those of the levels and its own
+-- a query's guards: those of the levels and its own
 pub guards_more : (k end levels one : ℕ) (guards more : List ℕ) → end ≤ levels → All (λ g. (k ≤ g) × (g < end)) guards → more ≡ guards ++ one ∷ [] → AreGuards k levels one more
 guards_more k end levels one guards more fits are is = subst (AreGuards k levels one) (sym is)
     (All-push (λ g. ((k ≤ g) × (g < levels)) ⊎ (g ≡ one)) guards one (λ i d i_in. let range = are i d i_in in inl (range.0, omega (arith, range.1, fits))) (inr refl))

@@ -1,19 +1,20 @@
 -- Clauses that are inductive from a frame.
-use Rattle.std.proofs.Common.{◌≡◌, ℕ, Bool, true, false, List, Option, Some, None, IfSome, get_or, Contains, refl, ◌∙◌}
-use Rattle.std.specs.Option.{unwrap_or}
+use Rattle.std.proofs.Common.{◌≡◌, ℕ, Bool, true, false, List, Option, Some, None, IfSome, get_or, Contains, subst, refl, ◌∙◌}
+use Rattle.std.specs.Option.{unwrap_or, is_some}
+use Rattle.std.proofs.lemmas.Bool.{false≢true}
 use Rattle.std.proofs.lemmas.List.{get_or-map}
 use Rattle.base.specs.Budget.{Steps}
 use Rattle.graph.specs.declared.circuit.Latch.{Latch}
 use Rattle.graph.specs.declared.parts.Parts.{Parts}
 use Rattle.graph.specs.Valuation.{Valuation, value_of, state_of}
 use Rattle.graph.specs.Runs.{IsReset}
-use Rattle.transition.specs.declared.state.StateLit.{StateLit}
-use Rattle.transition.specs.declared.step.Consecution.TheVariants.{Held}
-use Rattle.transition.specs.States.{IsPartOf, latch_at}
-use Rattle.transition.proofs.Latched.{no_latch}
-use Rattle.frames.specs.declared.frames.Entry.{Entry}
-use Rattle.frames.specs.Clauses.{IsResetLit}
-use Rattle.frames.specs.Frames.{IsStateClause, HoldsInitially, HoldsToward, HoldsOnward}
+use Rattle.ic3_step.specs.declared.state.StateLit.{StateLit}
+use Rattle.ic3_step.specs.declared.step.Consecution.TheVariants.{Held}
+use Rattle.ic3_step.specs.States.{IsPartOf, latch_at}
+use Rattle.ic3_step.proofs.Latched.{no_latch}
+use Rattle.ic3_frames.specs.declared.frames.Entry.{Entry}
+use Rattle.ic3_frames.specs.Clauses.{IsResetLit}
+use Rattle.ic3_frames.specs.Frames.{IsStateClause, HoldsInitially, HoldsToward, HoldsOnward}
 use Rattle.ic3.specs.Answers.{IsPicked, IsInductiveFrom, IsRelative}
 use Rattle.ic3.proofs.Literals.{picked_part, picked_clause}
 
@@ -54,3 +55,10 @@ kept_inductive m es k part kept clause a after is law picked wide among reset = 
 -- the clause itself, where a part of it holds after
 pub onward_by : (m : Parts) (es : List Entry) (k : ℕ) (part clause : List StateLit) (after : Steps) → IsRelative m es k clause after (Held part) → HoldsOnward m es k clause
 onward_by m es k part clause after law = between m es k part clause clause law.1 law.0 (λ a found. found)
+
+-- a clause in which a reset literal was found holds at first
+pub first_by : (m : Parts) (c : List StateLit) (latches : List Latch) (lits : List StateLit) (o : Option StateLit) → latches ≡ m.latches → lits ≡ c →
+    IfSome o (λ a. Contains lits a × IsResetLit latches a) → is_some o ≡ true → HoldsInitially m c
+first_by m c latches lits (Some a) all are found some =
+    holds_at_first m a c (subst (λ (ls : List Latch). IsResetLit ls a) all found.1) (subst (λ (xs : List StateLit). Contains xs a) are found.0)
+first_by m c latches lits None all are found some = absurd (false≢true some)

@@ -10,15 +10,15 @@ use Rattle.graph.specs.WellFormed.{IsWellFormed}
 use Rattle.cnf.specs.Formulas.{bad_literal}
 use Rattle.cnf.proofs.Formed.{bad_known}
 use Rattle.engine.specs.Findings.{IsForBad}
-use Rattle.transition.specs.declared.state.StateLit.{StateLit}
-use Rattle.transition.specs.declared.state.Time.{Time}
-use Rattle.transition.specs.declared.reply.Reply.TheVariants.{Found, Core}
-use Rattle.transition.specs.States.{Guarded, Holds, IsAt, AllSet}
-use Rattle.transition.specs.Replies.{IsReply, IsUsable}
-use Rattle.frames.specs.declared.frames.Entry.{Entry}
-use Rattle.frames.specs.Frames.{InFrame, AreFrames, Levels, Excludes}
-use Rattle.ic3.specs.declared.asker.Asker.{Asker}
-use Rattle.ic3.specs.Told.{Backs, IsTold, IsSound}
+use Rattle.ic3_step.specs.declared.state.StateLit.{StateLit}
+use Rattle.ic3_step.specs.declared.state.Assignment.{Assignment}
+use Rattle.ic3_step.specs.declared.reply.Reply.TheVariants.{Found, Core}
+use Rattle.ic3_step.specs.States.{Guarded, Holds, IsAt, AllSet}
+use Rattle.ic3_step.specs.Replies.{IsReply, IsUsable}
+use Rattle.ic3_frames.specs.declared.frames.Entry.{Entry}
+use Rattle.ic3_frames.specs.Frames.{InFrame, AreFrames, Levels, Excludes}
+use Rattle.ic3.specs.declared.frame_solver.FrameSolver.{FrameSolver}
+use Rattle.ic3.specs.Sound.{Backs, HasFrames, IsSound}
 use Rattle.ic3.proofs.Guarding.{frame_guarded}
 
 -- what all of the old entries have, and the newest
@@ -53,7 +53,7 @@ first_of_bads : (m : Parts) (bads : List Lit) → bads ≡ m.bad → get_or bads
 first_of_bads m bads are = ap (λ (xs : List Lit). get_or xs 0 (record { 0 = 0 })) are
 
 -- a time of the frame at which the bad literal is true
-pub set_at : (m : Parts) (gs : List Guarded) (guards : List ℕ) (bads : List Lit) (after : Steps) (t : Time) → bads ≡ m.bad →
+pub set_at : (m : Parts) (gs : List Guarded) (guards : List ℕ) (bads : List Lit) (after : Steps) (t : Assignment) → bads ≡ m.bad →
     IsReply m gs guards (get_or bads 0 (record { 0 = 0 }) ∷ []) after (Found t) → (w : Valuation) × IsAt m (bad_literal m 0 ∷ []) w t × (value_of w (bad_literal m 0) ≡ true)
 set_at m gs guards bads after t are law = (law.0, subst (λ a. IsAt m (a ∷ []) law.0 t) (first_of_bads m bads are) law.1, ap (value_of law.0) (sym (first_of_bads m bads are)) ∙ law.2 0 (record { 0 = 0 }) (omega arith))
 
@@ -75,9 +75,9 @@ excluded_by m es levels k gs guards bads core after are backs range law w time i
     law.1 w time (frame_guarded es levels k gs guards (state_of m w) backs range inside) (only_one w bad core set law.0))
 
 -- a frame more
-pub opened_sound : {S : Type 0} (m : Parts) (a : Asker S) (f g : Levels) → IsSound m a f → g.entries ≡ f.entries → g.top ≡ f.top + 1 → f.top + 1 < a.levels → AreFrames m (bad_literal m 0) g → IsSound m a g
+pub opened_sound : {S : Type 0} (m : Parts) (a : FrameSolver S) (f g : Levels) → IsSound m a f → g.entries ≡ f.entries → g.top ≡ f.top + 1 → f.top + 1 < a.levels → AreFrames m (bad_literal m 0) g → IsSound m a g
 opened_sound m a f g sound entries top room laws = record {
-  told = subst (λ es. IsTold m es a) (sym entries) sound.told;
+  has = subst (λ es. HasFrames m es a) (sym entries) sound.has;
   laws = laws;
   top = omega (arith, top, room);
   below = subst (All (λ (e : Entry). e.level < a.levels)) (sym entries) sound.below;

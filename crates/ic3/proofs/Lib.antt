@@ -4,6 +4,7 @@ pub mod Guarding
 pub mod Joining
 pub mod States
 pub mod Inductions
-pub mod Clearing
+pub mod Obligations
 pub mod Lifted
 pub mod Shown
+pub mod Rising

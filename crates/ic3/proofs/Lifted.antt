@@ -19,11 +19,11 @@ use Rattle.cones.specs.Marks.{IsMarked, IsKnown, AreSameAt, AgreesOn}
 use Rattle.cones.specs.Reach.{IsExtended, IsInside, IsDomain}
 use Rattle.cones.proofs.Lifted.{agrees_on, lifted_law}
 use Rattle.cones.proofs.Assigned.{input_defined, latch_defined}
-use Rattle.transition.specs.declared.state.StateLit.{StateLit}
-use Rattle.transition.specs.declared.state.Time.{Time}
-use Rattle.transition.specs.States.{IsSet, AreValues, IsAt, AllSet, Denies, latch_at}
-use Rattle.transition.specs.Steps.{denial}
-use Rattle.transition.proofs.Denied.{denial_set, unset_by_denial}
+use Rattle.ic3_step.specs.declared.state.StateLit.{StateLit}
+use Rattle.ic3_step.specs.declared.state.Assignment.{Assignment}
+use Rattle.ic3_step.specs.States.{IsSet, AreValues, IsAt, AllSet, Denies, latch_at}
+use Rattle.ic3_step.specs.Steps.{denial}
+use Rattle.ic3_step.proofs.Denied.{denial_set, unset_by_denial}
 use Rattle.ic3.specs.Cubes.{Justifies, ArePredecessors, HasMarked}
 
 known_used : (m : Parts) → IsWellFormed m → (g : ℕ) (d : Gate) → g < length m.gates → IsKnown m (variable (get_or m.gates g d).rhs0) × IsKnown m (variable (get_or m.gates g d).rhs1)
@@ -101,7 +101,7 @@ same_latch m w x k d well k_in same =
     ∙ get_or-map (λ (l : Latch). value_of x l.lit) m.latches k d false k_in ∙ value_of-even x a even.1
 
 -- the states of the cube, with the time's inputs, have the time's values at the leaves of the justification
-leaves_same : (m : Parts) (targets : List Lit) (w x : Valuation) (t : Time) (u : List Bool) (c : List StateLit) → IsWellFormed m → (at : IsAt m targets w t) → IsInside u at.values.cone →
+leaves_same : (m : Parts) (targets : List Lit) (w x : Valuation) (t : Assignment) (u : List Bool) (c : List StateLit) → IsWellFormed m → (at : IsAt m targets w t) → IsInside u at.values.cone →
     HasMarked m.latches t.state u c → Denies (state_of m x) c → inputs_of m x ≡ t.inputs → AreSameAt m (IsMarked u) t.values x
 leaves_same m targets w x t u c well at inside has denies inputs = record {
   inputs = λ k d k_in on.
@@ -116,7 +116,7 @@ leaves_same m targets w x t u c well at inside has denies inputs = record {
 }
 
 -- the cube of the marked latches justifies what is wanted
-pub cube_justifies : (m : Parts) (order : List ℕ) (w : Valuation) (t : Time) (targets wanted : List Lit) (before u : List Bool) (list : List ℕ) (c : List StateLit) → IsModel m order → IsAt m targets w t →
+pub cube_justifies : (m : Parts) (order : List ℕ) (w : Valuation) (t : Assignment) (targets wanted : List Lit) (before u : List Bool) (list : List ℕ) (c : List StateLit) → IsModel m order → IsAt m targets w t →
     AllSet w targets → All (λ a. IsKnown m (variable a)) targets → wanted ≡ targets ++ m.constraints → ((v : ℕ) → place before v ≡ false) →
     IsExtended m Justification t.values wanted before u list → HasMarked m.latches t.state u c → Justifies m c t.inputs targets
 cube_justifies m order w t targets wanted before u list c model at set known are clear ext has x agrees denies inputs =

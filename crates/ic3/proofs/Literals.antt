@@ -5,9 +5,9 @@ use Rattle.std.proofs.lemmas.List.{take_more, append-nil}
 use Rattle.std.proofs.lemmas.List.Elements.{filter-append, All-filter, Contains-get_or, Contains-append_right}
 use Rattle.std.proofs.lemmas.List.Kept.{AllPairs-filter}
 use Rattle.graph.specs.declared.parts.Parts.{Parts}
-use Rattle.transition.specs.declared.state.StateLit.{StateLit}
-use Rattle.transition.specs.States.{IsPartOf}
-use Rattle.frames.specs.Frames.{IsStateClause}
+use Rattle.ic3_step.specs.declared.state.StateLit.{StateLit}
+use Rattle.ic3_step.specs.States.{IsPartOf}
+use Rattle.ic3_frames.specs.Frames.{IsStateClause}
 use Rattle.ic3.specs.Answers.{IsPicked}
 
 abbrev lit_at : List StateLit → ℕ → StateLit

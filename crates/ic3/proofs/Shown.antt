@@ -15,8 +15,8 @@ use Rattle.cones.proofs.Existing.{existence_law}
 use Rattle.stimulus.specs.Shown.{Begins, last_of}
 use Rattle.engine.specs.declared.finding.Finding.TheVariants.{Run}
 use Rattle.engine.specs.Findings.{IsForBad}
-use Rattle.transition.specs.States.{Denies, latch_at}
-use Rattle.frames.specs.Resets.{HasResets}
+use Rattle.ic3_step.specs.States.{Denies, latch_at}
+use Rattle.ic3_frames.specs.Resets.{HasResets}
 use Rattle.ic3.specs.declared.obligation.Obligation.{Obligation}
 use Rattle.ic3.specs.Cubes.{LeadToBad, ArePredecessors}
 use Rattle.ic3.specs.Answers.{IsObligation, IsFound}

@@ -7,10 +7,10 @@ use Rattle.graph.specs.declared.circuit.Lit.{Lit}
 use Rattle.graph.specs.declared.circuit.Latch.{Latch}
 use Rattle.graph.specs.declared.parts.Parts.{Parts}
 use Rattle.graph.specs.Valuation.{Valuation, value_of}
-use Rattle.transition.specs.declared.state.StateLit.{StateLit}
-use Rattle.transition.specs.declared.state.Time.{Time}
-use Rattle.transition.specs.States.{IsSet, IsAt, latch_at}
-use Rattle.frames.specs.Frames.{IsStateClause}
+use Rattle.ic3_step.specs.declared.state.StateLit.{StateLit}
+use Rattle.ic3_step.specs.declared.state.Assignment.{Assignment}
+use Rattle.ic3_step.specs.States.{IsSet, IsAt, latch_at}
+use Rattle.ic3_frames.specs.Frames.{IsStateClause}
 
 not_itself : (b : Bool) → b ≡ not b → ⊥
 not_itself true e = cc
@@ -42,8 +42,8 @@ pub denies_clause : (m : Parts) (s : List Bool) (i : ℕ) (c : List StateLit) �
 denies_clause m s i c all h = record { inside = λ k d k_in. let below = h.inside k d k_in in omega (arith, below, all); rising = h.rising }
 
 -- a time has a value for each latch and each input
-pub state_size : (m : Parts) (lits : List Lit) (w : Valuation) (t : Time) → IsAt m lits w t → length t.state ≡ length m.latches
+pub state_size : (m : Parts) (lits : List Lit) (w : Valuation) (t : Assignment) → IsAt m lits w t → length t.state ≡ length m.latches
 state_size m lits w t at = ap length (sym at.state) ∙ length-map m.latches (λ (l : Latch). value_of w l.lit)
 
-pub inputs_size : (m : Parts) (lits : List Lit) (w : Valuation) (t : Time) → IsAt m lits w t → length t.inputs ≡ length m.inputs
+pub inputs_size : (m : Parts) (lits : List Lit) (w : Valuation) (t : Assignment) → IsAt m lits w t → length t.inputs ≡ length m.inputs
 inputs_size m lits w t at = ap length (sym at.inputs) ∙ length-map m.inputs (value_of w)

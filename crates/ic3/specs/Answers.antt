@@ -1,4 +1,4 @@
--- What the search's questions are answered (Bradley 2011).
+-- What the search's queries are answered (Bradley 2011).
 use Rattle.std.specs.Prelude.{◌≡◌, ℕ, ◌≤◌, Bool, true, List, [], ◌∷◌, filter, length, All}
 use Rattle.base.specs.Budget.{Steps}
 use Rattle.graph.specs.declared.parts.Parts.{Parts}
@@ -9,18 +9,18 @@ use Rattle.engine.specs.Findings.{IsSo}
 use Rattle.engine.specs.declared.finding.Finding.{Finding}
 use Rattle.engine.specs.declared.finding.Finding.TheVariants.{Invariant, Run, Unknown}
 use Rattle.engine.specs.declared.finding.Reason.TheVariants.{Budget}
-use Rattle.transition.specs.declared.state.StateLit.{StateLit}
-use Rattle.transition.specs.declared.step.Consecution.{Consecution}
-use Rattle.transition.specs.declared.step.Consecution.TheVariants.{Held, Broken, GaveUp}
-use Rattle.transition.specs.States.{Denies, IsPartOf, IsAt}
-use Rattle.transition.specs.Steps.{denials_of}
-use Rattle.frames.specs.declared.frames.Entry.{Entry}
-use Rattle.frames.specs.Clauses.{IsResetLit}
-use Rattle.frames.specs.Frames.{IsStateClause, HoldsInitially, HoldsAfter, HoldsToward, HoldsOnward, Excludes}
+use Rattle.ic3_step.specs.declared.state.StateLit.{StateLit}
+use Rattle.ic3_step.specs.declared.step.Consecution.{Consecution}
+use Rattle.ic3_step.specs.declared.step.Consecution.TheVariants.{Held, Broken, Spent}
+use Rattle.ic3_step.specs.States.{Denies, IsPartOf, IsAt}
+use Rattle.ic3_step.specs.Steps.{denials_of}
+use Rattle.ic3_frames.specs.declared.frames.Entry.{Entry}
+use Rattle.ic3_frames.specs.Clauses.{IsResetLit}
+use Rattle.ic3_frames.specs.Frames.{IsStateClause, HoldsInitially, HoldsAfter, HoldsToward, HoldsOnward, Excludes}
 use Rattle.ic3.specs.declared.bad.AtBad.{AtBad}
-use Rattle.ic3.specs.declared.bad.AtBad.TheVariants.{Set, Excluded, OutOfBudget}
-use Rattle.ic3.specs.declared.deny.Denial.{Denial}
-use Rattle.ic3.specs.declared.deny.Denial.TheVariants.{Denied, Initial, Led, Spent}
+use Rattle.ic3.specs.declared.bad.AtBad.TheVariants.{Set, Excluded, Spent}
+use Rattle.ic3.specs.declared.blocking.Blocking.{Blocking}
+use Rattle.ic3.specs.declared.blocking.Blocking.TheVariants.{Blocked, Initial, Predecessor, Spent}
 use Rattle.ic3.specs.declared.obligation.Obligation.{Obligation}
 
 -- some of the clause's literals, in their order
@@ -38,19 +38,19 @@ pub record IsInductiveFrom (m : Parts) (entries : List Entry) (k : ℕ) (c : Lis
 abbrev pub IsAfter : Parts → List Entry → ℕ → List StateLit → Steps → Consecution → Type 0
 IsAfter m entries k c after (Held part) = HoldsAfter m entries k c
 IsAfter m entries k c after (Broken t) = (w : Valuation) × IsAt m (denials_of m.latches c) w t × Denies (next_state m w) c
-IsAfter m entries k c after GaveUp = after.left ≡ 0
+IsAfter m entries k c after Spent = after.left ≡ 0
 
 -- whether the clause holds after each step from a state of frame k in which it holds, and then, which part of it does
 abbrev pub IsRelative : Parts → List Entry → ℕ → List StateLit → Steps → Consecution → Type 0
 IsRelative m entries k c after (Held part) = IsPartOf part c × HoldsToward m entries k c part
 IsRelative m entries k c after (Broken t) = (w : Valuation) × IsAt m (denials_of m.latches c) w t × Denies (next_state m w) c
-IsRelative m entries k c after GaveUp = after.left ≡ 0
+IsRelative m entries k c after Spent = after.left ≡ 0
 
 -- whether the clause is inductive from frame k, and then, which part of it is
 abbrev pub IsInductiveAnswer : Parts → List Entry → ℕ → List StateLit → Steps → Consecution → Type 0
 IsInductiveAnswer m entries k c after (Held part) = IsInductiveFrom m entries k part
 IsInductiveAnswer m entries k c after (Broken t) = (w : Valuation) × IsAt m (denials_of m.latches c) w t × Denies (next_state m w) c
-IsInductiveAnswer m entries k c after GaveUp = after.left ≡ 0
+IsInductiveAnswer m entries k c after Spent = after.left ≡ 0
 
 -- an obligation of the frames up to the top: its clause is over the latches, and false in its state; that and its inputs
 -- have the circuit's lengths
@@ -61,18 +61,18 @@ pub record IsObligation (m : Parts) (top : ℕ) (o : Obligation) : Type 0 where
   pub latches : length o.state ≡ length m.latches
   pub inputs : length o.inputs ≡ length m.inputs
 
--- the states in which the clause is false are denied, or no reset excludes all of them, or this time leads to one of them
-abbrev pub IsDenial : Parts → List StateLit → Steps → Denial → Type 0
-IsDenial m c after Denied = Unit {0}
-IsDenial m c after Initial = All (λ a. IsResetLit m.latches a → ⊥) c
-IsDenial m c after (Led t) = (w : Valuation) × IsAt m (denials_of m.latches c) w t × Denies (next_state m w) c
-IsDenial m c after Spent = after.left ≡ 0
+-- the states in which the clause is false are blocked, or no reset excludes all of them, or this time leads to one of them
+abbrev pub IsBlocking : Parts → List StateLit → Steps → Blocking → Type 0
+IsBlocking m c after Blocked = Unit {0}
+IsBlocking m c after Initial = All (λ a. IsResetLit m.latches a → ⊥) c
+IsBlocking m c after (Predecessor t) = (w : Valuation) × IsAt m (denials_of m.latches c) w t × Denies (next_state m w) c
+IsBlocking m c after Spent = after.left ≡ 0
 
 -- a time in frame k at which the bad literal is true, or that there is none
 abbrev pub IsAtBad : Parts → List Entry → ℕ → Steps → AtBad → Type 0
 IsAtBad m entries k after (Set t) = (w : Valuation) × IsAt m (bad_literal m 0 ∷ []) w t × (value_of w (bad_literal m 0) ≡ true)
 IsAtBad m entries k after Excluded = Excludes m (bad_literal m 0) entries k
-IsAtBad m entries k after OutOfBudget = after.left ≡ 0
+IsAtBad m entries k after Spent = after.left ≡ 0
 
 -- a run, an invariant, or that the budget is exhausted
 abbrev pub IsDecided : Finding → Type 0

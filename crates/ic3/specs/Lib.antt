@@ -1,3 +1,4 @@
-pub mod Told
+pub mod Sound
 pub mod Cubes
 pub mod Answers
+pub mod Candidates

@@ -3,29 +3,29 @@
 ghost use Rattle.std.specs.Prelude.{IfOk, OnOk};
 ghost use Rattle.base.specs.Budget.{Spends};
 ghost use Rattle.engine.specs.Findings.{IsForBad};
-ghost use Rattle.ic3.specs.Told.{IsSound};
+ghost use Rattle.ic3.specs.Sound.{IsSound};
 ghost use Rattle.ic3.specs.Answers.{IsAtBad};
 
-use crate::asker::{Asker, guards_from};
+use crate::frame_solver::{FrameSolver, guards_from};
 use engine::EngineError;
-use frames::Frames;
 use graph::{Budget, Model};
+use ic3_frames::Frames;
+use ic3_step::{Assignment, Reply};
 use solver::Sat;
 use std::alloc::Global;
-use transition::{Reply, Time};
 
 /// What is known of the bad literal in a frame.
 #[derive(Debug, Drop)]
 pub(crate) enum AtBad {
     /// It is true at this time.
-    Set(Time),
+    Set(Assignment),
     /// It is false at every time that keeps the constraints.
     Excluded,
     /// The budget is exhausted.
-    OutOfBudget,
+    Spent,
 }
 
-impl<S: Sat> Asker<S> {
+impl<S: Sat> FrameSolver<S> {
     /// Asks for a time of the last frame at which the bad literal is true.
     pub(crate) fn at_bad(
         &mut self,
@@ -50,7 +50,7 @@ impl<S: Sat> Asker<S> {
         {
             Reply::Found(time) => Ok(AtBad::Set(time)),
             Reply::Core(_) => Ok(AtBad::Excluded),
-            Reply::Spent => Ok(AtBad::OutOfBudget),
+            Reply::Spent => Ok(AtBad::Spent),
         }
     }
 }

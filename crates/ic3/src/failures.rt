@@ -1,13 +1,13 @@
-//! Clauses that did not move on to the next frame, and the states that kept them from it.
+//! Clauses that could not be propagated to the next frame, and the states that showed it.
 //!
-//! As long as such a state lies in the frame, the clause does not move on, so it need not be asked for
+//! As long as such a state lies in the frame, the clause cannot be propagated, so it need not be tried
 //! again.
 
 use base::{Refused, push};
-use frames::Entry;
 use graph::Seq;
+use ic3_frames::Entry;
+use ic3_step::StateLit;
 use std::alloc::Global;
-use transition::StateLit;
 
 /// A clause that did not hold after the step from a state of the frame at a level.
 #[derive(Drop)]
@@ -17,7 +17,7 @@ struct Failure {
     state: Seq<bool>,
 }
 
-/// The last failure of each clause. What is noted only saves questions.
+/// The last failure of each clause. What is noted only saves queries.
 #[derive(Drop)]
 pub(crate) struct Failures {
     items: Vec<Failure>,

@@ -2,23 +2,23 @@
 
 ghost use Rattle.std.specs.Prelude.{◌≡◌, ◌<◌, true, Contains, IfOk, IfSome, OnOk};
 ghost use Rattle.base.specs.Budget.{Spends};
-ghost use Rattle.frames.specs.Clauses.{IsResetLit};
-ghost use Rattle.frames.specs.Frames.{IsStateClause, HoldsOnward};
-ghost use Rattle.ic3.specs.Told.{IsSound};
+ghost use Rattle.ic3_frames.specs.Clauses.{IsResetLit};
+ghost use Rattle.ic3_frames.specs.Frames.{IsStateClause, HoldsOnward};
+ghost use Rattle.ic3.specs.Sound.{IsSound};
 ghost use Rattle.ic3.specs.Answers.{IsInductiveFrom, IsInductiveAnswer};
 
-use crate::asker::Asker;
+use crate::frame_solver::FrameSolver;
 use crate::order::rarest_first;
 use crate::picked::{with_part, without};
 use crate::reset::reset_literal;
 use engine::EngineError;
-use frames::Frames;
 use graph::{Budget, Model, Seq};
+use ic3_frames::Frames;
+use ic3_step::{Consecution, StateLit};
 use solver::Sat;
 use std::alloc::Global;
-use transition::{Consecution, StateLit};
 
-impl<S: Sat> Asker<S> {
+impl<S: Sat> FrameSolver<S> {
     /// Asks whether the clause, which has a literal that every initial state sets, holds after each
     /// step from a state of the frame in which it holds. Where it does, what the solver needed of
     /// it is answered, with such a literal (Bradley 2011).
@@ -47,12 +47,12 @@ impl<S: Sat> Asker<S> {
                 Ok(Consecution::Held(kept))
             }
             Consecution::Broken(time) => Ok(Consecution::Broken(time)),
-            Consecution::GaveUp => Ok(Consecution::GaveUp),
+            Consecution::Spent => Ok(Consecution::Spent),
         }
     }
 
     /// Asks for the clause without the literal of a latch, or for a part of that.
-    fn drop_latch(
+    fn drop_literal(
         &mut self,
         alloc: Global,
         circuit: &Model,
@@ -83,8 +83,8 @@ impl<S: Sat> Asker<S> {
     }
 
     /// Leaves out one literal after the other, the rarest latch first, wherever the clause stays
-    /// inductive. It asks a question for each literal at most.
-    pub(crate) fn shorten(
+    /// inductive. It asks a query for each literal at most.
+    pub(crate) fn generalize(
         &mut self,
         alloc: Global,
         circuit: &Model,
@@ -110,7 +110,7 @@ impl<S: Sat> Asker<S> {
             if !budget.tick() {
                 return Ok(kept);
             }
-            match self.drop_latch(
+            match self.drop_literal(
                 alloc,
                 circuit,
                 frames,
@@ -128,7 +128,7 @@ impl<S: Sat> Asker<S> {
 
     /// Whether the clause holds after each step from a state of the frame in which it holds, as far
     /// as the budget goes.
-    fn is_onward(
+    pub(crate) fn is_onward(
         &mut self,
         alloc: Global,
         circuit: &Model,

@@ -4,18 +4,18 @@
 ghost use Rattle.std.specs.Prelude.{◌≡◌, ◌+◌, ◌<◌, ◌++◌, ◌^◌, ◌↔◌, IsTrue, ℕ, false, length, All, IfOk, OnOk};
 ghost use Rattle.graph.specs.declared.parts.Parts.{Parts};
 ghost use Rattle.graph.specs.Valuation.{Valuation, variable, place};
-ghost use Rattle.transition.specs.States.{Denies, IsAt, AllSet};
-ghost use Rattle.transition.specs.Replies.{IsUsable};
+ghost use Rattle.ic3_step.specs.States.{Denies, IsAt, AllSet};
+ghost use Rattle.ic3_step.specs.Replies.{IsUsable};
 ghost use Rattle.cones.specs.Marks.{IsMarked};
 ghost use Rattle.cones.specs.Reach.{IsGateTable};
-ghost use Rattle.frames.specs.Frames.{IsStateClause};
+ghost use Rattle.ic3_frames.specs.Frames.{IsStateClause};
 ghost use Rattle.ic3.specs.Cubes.{Justifies, HasMarked, IsReady};
 
 use base::{Refused, copied, extend, filled};
 use cones::{GateTable, Reach, unmark};
 use graph::{Latch, Lit, Model, Seq};
+use ic3_step::{Assignment, StateLit};
 use std::alloc::Global;
-use transition::{StateLit, Time};
 
 /// What lifting keeps of a circuit from one call to the next: the gate of each variable, and a mark
 /// for each variable, of which none is set between two calls.
@@ -76,7 +76,7 @@ fn lifted(
     circuit: &Model,
     table: &GateTable,
     marks: &mut [bool],
-    time: &Time,
+    time: &Assignment,
     targets: &[Lit],
 ) -> Result<Seq<StateLit>, Refused>
     requires table { IsGateTable circuit.now table.now }
@@ -126,7 +126,7 @@ impl Lifting {
         &mut self,
         alloc: Global,
         circuit: &Model,
-        time: &Time,
+        time: &Assignment,
         targets: &[Lit],
     ) -> Result<Seq<StateLit>, Refused>
         requires ready { IsReady circuit.now self.old }

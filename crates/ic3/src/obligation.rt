@@ -5,17 +5,17 @@ ghost use Rattle.engine.specs.Findings.{IsForBad};
 ghost use Rattle.graph.specs.Valuation.{Valuation, value_of};
 ghost use Rattle.graph.specs.Runs.{next_state};
 ghost use Rattle.cnf.specs.Formulas.{bad_literal};
-ghost use Rattle.transition.specs.States.{IsAt, Denies};
-ghost use Rattle.transition.specs.Steps.{denials_of};
-ghost use Rattle.frames.specs.Frames.{IsStateClause};
+ghost use Rattle.ic3_step.specs.States.{IsAt, Denies};
+ghost use Rattle.ic3_step.specs.Steps.{denials_of};
+ghost use Rattle.ic3_frames.specs.Frames.{IsStateClause};
 ghost use Rattle.ic3.specs.Cubes.{IsReady, ArePredecessors, AreBad};
 ghost use Rattle.ic3.specs.Answers.{IsObligation};
 
 use crate::lift::Lifting;
 use base::Refused;
 use graph::{Model, Seq};
+use ic3_step::{Assignment, StateLit, denials};
 use std::alloc::Global;
-use transition::{StateLit, Time, denials};
 
 /// A cube of states that lead to the bad literal, and the frame in which it is to be blocked.
 #[derive(Debug, Drop)]
@@ -34,7 +34,7 @@ pub(crate) fn obligation_at(
     alloc: Global,
     circuit: &Model,
     lifting: &mut Lifting,
-    time: Time,
+    time: Assignment,
     level: u32,
 ) -> Result<Obligation, Refused>
     requires for_bad { IsForBad circuit.now }
@@ -46,7 +46,7 @@ pub(crate) fn obligation_at(
 {
     circuit.parts();
     let clause = lifting.lift(alloc, circuit, &time, circuit.bad())?;
-    let Time { state, inputs, .. } = time;
+    let Assignment { state, inputs, .. } = time;
     Ok(Obligation {
         state,
         inputs,
@@ -61,7 +61,7 @@ pub(crate) fn obligation_before(
     alloc: Global,
     circuit: &Model,
     lifting: &mut Lifting,
-    time: Time,
+    time: Assignment,
     after: &Obligation,
 ) -> Result<Obligation, Refused>
     requires ready { IsReady circuit.now lifting.old }
@@ -75,7 +75,7 @@ pub(crate) fn obligation_before(
     let targets = denials(alloc, circuit.latches(), after.clause.as_slice())?;
     let clause = lifting.lift(alloc, circuit, &time, targets.as_slice())?;
     let level = after.level.saturating_sub(1);
-    let Time { state, inputs, .. } = time;
+    let Assignment { state, inputs, .. } = time;
     Ok(Obligation {
         state,
         inputs,

@@ -4,10 +4,10 @@
 //! tried first (Een, Mishchenko, Brayton 2011).
 
 use base::{Refused, filled_like, push};
-use frames::Entry;
 use graph::Latch;
+use ic3_frames::Entry;
+use ic3_step::StateLit;
 use std::alloc::Global;
-use transition::StateLit;
 
 /// One more clause of each latch of this one.
 fn count(uses: &mut [u32], clause: &[StateLit]) {

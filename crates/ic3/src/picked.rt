@@ -2,14 +2,14 @@
 
 ghost use Rattle.std.specs.Prelude.{◌≡◌, ◌==◌, ◌↔◌, IsTrue, ℕ, not, filter, length, Contains, IfOk};
 ghost use Rattle.std.specs.List.Sorted.{IsNonDecreasing};
-ghost use Rattle.transition.specs.declared.state.StateLit.{StateLit as Literal};
-ghost use Rattle.transition.specs.States.{IsPartOf};
+ghost use Rattle.ic3_step.specs.declared.state.StateLit.{StateLit as Literal};
+ghost use Rattle.ic3_step.specs.States.{IsPartOf};
 ghost use Rattle.ic3.specs.Answers.{IsPicked};
 
 use base::{Refused, push};
 use graph::Seq;
+use ic3_step::StateLit;
 use std::alloc::Global;
-use transition::StateLit;
 
 /// The latches of the literals, and of one more.
 fn latches_of(alloc: Global, part: &[StateLit], more: StateLit) -> Result<Vec<u32>, Refused>

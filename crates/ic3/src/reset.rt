@@ -1,10 +1,10 @@
 //! Literals that every initial state sets.
 
 ghost use Rattle.std.specs.Prelude.{◌≡◌, ◌↔◌, IsTrue, None, All, Contains, IfSome};
-ghost use Rattle.frames.specs.Clauses.{IsResetLit};
+ghost use Rattle.ic3_frames.specs.Clauses.{IsResetLit};
 
 use graph::Latch;
-use transition::StateLit;
+use ic3_step::StateLit;
 
 /// Whether the literal's latch is reset to its value.
 fn is_reset(latches: &[Latch], lit: StateLit) -> bool

@@ -3,10 +3,10 @@
 ghost use Rattle.std.specs.Prelude.{◌≡◌, ◌≢◌, ◌<◌, ◌≤◌, ◌∷◌, ℕ, List, true, false, length, map, reverse, All, IfOk};
 ghost use Rattle.base.specs.Budget.{Steps};
 ghost use Rattle.engine.specs.Findings.{IsForBad};
-ghost use Rattle.transition.specs.declared.state.StateLit.{StateLit as Literal};
-ghost use Rattle.transition.specs.States.{Denies};
-ghost use Rattle.frames.specs.Clauses.{IsResetLit};
-ghost use Rattle.frames.specs.Resets.{HasResets};
+ghost use Rattle.ic3_step.specs.declared.state.StateLit.{StateLit as Literal};
+ghost use Rattle.ic3_step.specs.States.{Denies};
+ghost use Rattle.ic3_frames.specs.Clauses.{IsResetLit};
+ghost use Rattle.ic3_frames.specs.Resets.{HasResets};
 ghost use Rattle.ic3.specs.Cubes.{LeadToBad};
 ghost use Rattle.ic3.specs.Answers.{IsObligation, IsFound};
 

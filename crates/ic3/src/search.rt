@@ -1,28 +1,28 @@
 //! The search through the frames.
 
-ghost use Rattle.std.specs.Prelude.{◌≡◌, ◌+◌, IfOk, OnOk};
+ghost use Rattle.std.specs.Prelude.{◌≡◌, ◌+◌, IfOk, IfSome, OnOk};
 ghost use Rattle.base.specs.Budget.{Spends};
 ghost use Rattle.cnf.specs.Formulas.{bad_literal};
-ghost use Rattle.engine.specs.Findings.{IsForBad};
-ghost use Rattle.frames.specs.Frames.{Excludes};
-ghost use Rattle.ic3.specs.Told.{IsSound};
+ghost use Rattle.engine.specs.Findings.{IsForBad, IsInvariant};
+ghost use Rattle.ic3_frames.specs.Frames.{Excludes};
+ghost use Rattle.ic3.specs.Sound.{IsSound};
 ghost use Rattle.ic3.specs.Cubes.{IsReady};
 ghost use Rattle.ic3.specs.Answers.{IsFound};
 
-use crate::asker::Asker;
 use crate::bad::AtBad;
 use crate::failures::Failures;
+use crate::frame_solver::FrameSolver;
 use crate::lift::Lifting;
 use engine::{EngineError, Finding, Reason};
-use frames::Frames;
-use graph::{Budget, Model};
+use graph::{Budget, Lit, Model, Seq};
+use ic3_frames::Frames;
 use solver::Sat;
 use std::alloc::Global;
 
 /// How many levels have guards at first.
 const LEVELS: u32 = 32;
 
-impl<S: Sat> Asker<S> {
+impl<S: Sat> FrameSolver<S> {
     /// Opens the next frame. Where it has no guard, the circuit is loaded again, for twice as many
     /// levels.
     fn open_next(
@@ -47,6 +47,28 @@ impl<S: Sat> Asker<S> {
         Ok(())
     }
 
+    /// Opens the next frame, the first with the candidates, and propagates clauses, until one frame is the same as the
+    /// next: that one is an invariant.
+    fn advance(
+        &mut self,
+        alloc: Global,
+        circuit: &Model,
+        frames: &mut Frames,
+        failures: &mut Failures,
+        candidates: &[Seq<Lit>],
+        budget: &mut Budget,
+    ) -> Result<Option<Seq<Seq<Lit>>>, EngineError>
+        requires sound { IsSound circuit.now self.old frames.old }
+        requires excluded { Excludes circuit.now (bad_literal circuit.now 0) frames.old.entries frames.old.top }
+        ensures spends { Spends budget.old budget.new }
+        ensures sound { OnOk result (IsSound circuit.now self.new frames.new) }
+        ensures invariant { IfOk result (λ r. IfSome r (IsInvariant circuit.now)) }
+    {
+        self.open_next(alloc, circuit, frames)?;
+        self.try_candidates(alloc, circuit, frames, candidates, budget)?;
+        self.propagate(alloc, circuit, frames, failures, budget)
+    }
+
     /// Looks for an invariant that excludes the bad literal, or for a run that sets it, from frames
     /// whose clauses the solver has.
     fn search_from(
@@ -55,6 +77,7 @@ impl<S: Sat> Asker<S> {
         circuit: &Model,
         frames: &mut Frames,
         lifting: &mut Lifting,
+        candidates: &[Seq<Lit>],
         budget: &mut Budget,
     ) -> Result<Finding, EngineError>
         requires for_bad { IsForBad circuit.now }
@@ -68,29 +91,32 @@ impl<S: Sat> Asker<S> {
             match self.at_bad(alloc, circuit, frames, budget)? {
                 AtBad::Set(time) => {
                     let top = frames.top();
-                    match self.clear(alloc, circuit, frames, lifting, top, time, budget)? {
+                    match self.block_obligations(
+                        alloc, circuit, frames, lifting, top, time, budget,
+                    )? {
                         Some(finding) => return Ok(finding),
                         None => {}
                     }
                 }
                 AtBad::Excluded => {
-                    self.open_next(alloc, circuit, frames)?;
-                    match self.push_on(alloc, circuit, frames, &mut failures, budget)? {
+                    match self.advance(alloc, circuit, frames, &mut failures, candidates, budget)? {
                         Some(clauses) => return Ok(Finding::Invariant(clauses)),
                         None => {}
                     }
                 }
-                AtBad::OutOfBudget => return Ok(Finding::Unknown(Reason::Budget)),
+                AtBad::Spent => return Ok(Finding::Unknown(Reason::Budget)),
             }
         }
         Ok(Finding::Unknown(Reason::Budget))
     }
 
-    /// Looks for an invariant that excludes the bad literal, or for a run that sets it.
+    /// Looks for an invariant that excludes the bad literal, or for a run that sets it. The candidates are
+    /// tried first.
     pub(crate) fn search(
         &mut self,
         alloc: Global,
         circuit: &Model,
+        candidates: &[Seq<Lit>],
         budget: &mut Budget,
     ) -> Result<Finding, EngineError>
         requires { IsForBad circuit.now }
@@ -100,6 +126,13 @@ impl<S: Sat> Asker<S> {
         let mut frames = Frames::first(alloc, circuit)?;
         self.load(alloc, circuit, &frames, LEVELS)?;
         let mut lifting = Lifting::new(alloc, circuit)?;
-        self.search_from(alloc, circuit, &mut frames, &mut lifting, budget)
+        self.search_from(
+            alloc,
+            circuit,
+            &mut frames,
+            &mut lifting,
+            candidates,
+            budget,
+        )
     }
 }

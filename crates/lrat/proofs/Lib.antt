@@ -17,6 +17,8 @@ pub mod Rising
 pub mod Layering
 pub mod Halting
 pub mod Refusing
+pub mod Trimmed
+pub mod Walked
 pub mod TextLaws
 pub mod ProofLaws
 pub mod PutLaws

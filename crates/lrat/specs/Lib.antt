@@ -16,5 +16,7 @@ pub mod Proofs
 pub mod Shared
 pub mod Layers
 pub mod Courses
+pub mod Trimming
+pub mod Hinted
 pub mod Texts
 pub mod Reading

@@ -8,6 +8,8 @@
 //!   where the line is accepted; then whatever satisfies the clauses satisfies the line's clause.
 //! - `refutes` checks a proof of a formula. It answers Ok exactly where the proof is accepted;
 //!   then nothing satisfies the formula. Each refusal has its first cause and that line.
+//! - `Proof::trimmed` leaves out of a proof what its empty clause does not rest on. The rest refutes
+//!   what the proof refutes.
 //! - `Refuter` does the same line by line, for many refutations that begin with one formula.
 //! - `read` and `parse_line` answer Ok exactly on the texts that spell a proof and a line, want of
 //!   memory aside; `write` puts the one text that spells a proof. `next_line` is for readers of
@@ -37,6 +39,7 @@ mod stack;
 mod step_error;
 mod text;
 mod trail;
+mod trimming;
 mod writing;
 
 pub use clause::Clause;

@@ -1,14 +1,11 @@
 -- The places of many runs, written one after the other.
-use Rattle.std.proofs.Common.{◌≡◌, ℕ, zero, suc, ◌+◌, ◌%◌, ◌<◌, ◌≢◌, ◌&&◌, ◌==◌, ◌↔◌, IsTrue, Bool, true, false, not, if◌then◌else◌, List, [], length, map, set, get_or, refl, arith, All, AllPairs, ◌∙◌, sym, ap, subst, replicate}
+use Rattle.std.proofs.Common.{◌≡◌, ℕ, zero, suc, ◌+◌, ◌%◌, ◌<◌, ◌≢◌, ◌==◌, ◌↔◌, IsTrue, Bool, true, false, not, if◌then◌else◌, List, [], length, set, get_or, refl, arith, AllPairs, ◌∙◌, sym, ap, subst, replicate}
 use Rattle.std.proofs.lemmas.List.{map-set, get_or-map, length-map, get_or_default}
 use Rattle.graph.specs.declared.circuit.Lit.{Lit}
 use Rattle.graph.specs.declared.circuit.Latch.{Latch}
-use Rattle.graph.specs.declared.circuit.Gate.{Gate}
 use Rattle.graph.specs.declared.parts.Parts.{Parts}
 use Rattle.graph.specs.Valuation.{variable, place, value_of}
-use Rattle.graph.specs.WellFormed.{gate_in, IsOrder}
 use Rattle.graph.proofs.Filled.{Written, Written-more}
-use Rattle.graph.proofs.Gates.{left, Evaluated, Evaluated-more}
 use Rattle.simulate.specs.Lanes.{value_in, row_of}
 use Rattle.simulate.specs.Starts.{IsFine}
 use Rattle.simulate.specs.Wides.{AreFineAt, AreDefinedOnly}
@@ -55,15 +52,6 @@ written_in vars values before out r n v n_in n_value once is_v v_in h =
     rw (map-set (λ y. value_in y r) out v (get_or values n []))
     (Written-more vars (row_of r values) (row_of r before) (row_of r out) n v (value_in (get_or values n []) r) n_in once is_v
     (omega (arith, v_in, length-map out (λ y. value_in y r))) (place_in r values n n_value) h)
-
-pub evaluated_in : (gates : List Gate) (order : List ℕ) (before out : List (List ℕ)) (r n : ℕ) (e : Gate) (v : ℕ) (x : List ℕ) → IsOrder gates order → n < length order →
-    All (λ g. g.lhs.0 % 2 ≡ 0) gates → AllPairs (λ a b. a ≢ b) (map left gates) → left (gate_in gates order n e) < length out →
-    left (gate_in gates order n e) ≡ v →
-    value_in x r ≡ (value_of (row_of r out) (gate_in gates order n e).rhs0 && value_of (row_of r out) (gate_in gates order n e).rhs1) →
-    Evaluated gates order (row_of r before) (row_of r out) n → Evaluated gates order (row_of r before) (row_of r (set out v x)) (n + 1)
-evaluated_in gates order before out r n e v x ordered n_in even once in_range is_v is_x h =
-    rw (map-set (λ y. value_in y r) out v x)
-    (Evaluated-more gates order (row_of r before) (row_of r out) n e v (value_in x r) ordered n_in even once (omega (arith, in_range, length-map out (λ y. value_in y r))) is_v (sym is_x) h)
 
 pub taken_in : {X : Type 0} (f : X → Bool) (xs : List X) (state : List (List ℕ)) (r n : ℕ) (x : List ℕ) → n < length xs → ((d : X) → value_in x r ≡ f (get_or xs n d)) →
     Taken f xs (row_of r state) n → Taken f xs (row_of r (set state n x)) (n + 1)

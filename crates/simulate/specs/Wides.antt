@@ -1,8 +1,10 @@
 -- Replaying 256 runs of a circuit at once, one time after another.
-use Rattle.std.specs.Prelude.{◌≡◌, ℕ, ◌<◌, true, List, length, Option, Some, None, Contains}
+use Rattle.std.specs.Prelude.{◌≡◌, ℕ, ◌<◌, true, List, length, slice_index_or, Option, Some, None, Contains}
+use Rattle.graph.specs.declared.circuit.Gate.{Gate}
 use Rattle.graph.specs.declared.circuit.Latch.{Latch}
 use Rattle.graph.specs.declared.parts.Parts.{Parts}
-use Rattle.graph.specs.Valuation.{Valuation, place, defined}
+use Rattle.graph.specs.Valuation.{Valuation, place, variable, defined}
+use Rattle.graph.specs.WellFormed.{gate_in, Reads, IsOrder}
 use Rattle.simulate.specs.declared.replay_error.ReplayError.{ReplayError}
 use Rattle.simulate.specs.declared.replay_error.ReplayError.TheVariants.{InitialReset, OutOfMemory}
 use Rattle.simulate.specs.Lanes.{row_of}
@@ -35,6 +37,18 @@ AllStep before after inputs = (r : ℕ) → r < 256 → Steps (run_in before r) 
 -- what nothing defines is false in each run
 abbrev pub AreDefinedOnly : Parts → List (List ℕ) → Type 0
 AreDefinedOnly m values = (r v : ℕ) → r < 256 → place (row_of r values) v ≡ true → Contains (defined m) v
+
+-- the gates, taken in an order in which each comes after those that define its right sides
+pub record AreInOrder (gates sorted : List Gate) : Type 0 where
+  pub order : List ℕ
+  pub is_order : IsOrder gates order
+  pub long : length sorted ≡ length order
+  pub each : (k : ℕ) (d : Gate) → k < length order → slice_index_or sorted k d ≡ gate_in gates order k d
+
+-- each gate comes after those that define its right sides
+abbrev pub AreAfterWhatTheyRead : List Gate → Type 0
+AreAfterWhatTheyRead gates = (j k : ℕ) (d : Gate) → j < length gates → k < length gates →
+    Reads (slice_index_or gates j d) (variable (slice_index_or gates k d).lhs) → k < j
 
 -- each latch of each run that is reset to 0 or to 1 has that value
 abbrev pub AllStart : List Latch → List (List ℕ) → Type 0

@@ -1,14 +1,16 @@
 //! The steps of an evaluation of 256 runs, over plain slices.
 
-ghost use Rattle.std.specs.Prelude.{◌≡◌, ℕ, ◌<◌, ◌+◌, ◌%◌, ◌≢◌, ◌⊎◌, ◌&&◌, length, map, All, AllPairs, Contains, slice_index_or};
+ghost use Rattle.std.specs.Prelude.{◌≡◌, ℕ, ◌<◌, ◌+◌, ◌%◌, ◌≢◌, ◌⊎◌, ◌&&◌, length, map, All, AllPairs, Contains, IfOk, slice_index_or};
 ghost use Rattle.graph.specs.Valuation.{variable, place, value_of, Fires};
-ghost use Rattle.graph.specs.WellFormed.{IsOrder, IsModel};
+ghost use Rattle.graph.specs.WellFormed.{IsOrder, IsWellFormed};
 ghost use Rattle.simulate.specs.Lanes.{value_in, row_of};
 ghost use Rattle.simulate.specs.Replays.{IsTheValuation};
-ghost use Rattle.simulate.specs.Wides.{AreDefinedOnly};
+ghost use Rattle.simulate.specs.Wides.{AreAfterWhatTheyRead, AreDefinedOnly, AreInOrder};
 
 use crate::lanes::{both, negated_if};
+use base::{Refused, push};
 use graph::{Gate, Latch, Lit, Parts};
+use std::alloc::Global;
 use std::simd::u64x4;
 
 /// The values of a literal.
@@ -56,25 +58,37 @@ fn conjunction(gate: Gate, values: &[u64x4]) -> u64x4
     )
 }
 
-/// Gives the gates their values, in an order in which each comes after those that it reads.
-fn fill_gates(gates: &[Gate], order: &[u32], out: &mut [u64x4])
+/// The gates in this order.
+pub fn in_order(alloc: Global, gates: &[Gate], order: &[u32]) -> Result<Vec<Gate>, Refused>
+    requires { IsOrder gates.now order.now }
+    ensures { IfOk result (λ sorted. AreInOrder gates.now sorted.items) }
+{
+    let mut sorted = Vec::new(alloc);
+    for place in order {
+        push(&mut sorted, gates[*place as usize])?;
+    }
+    Ok(sorted)
+}
+
+/// Gives the gates their values, each of which comes after those that it reads.
+fn fill_gates(gates: &[Gate], out: &mut [u64x4])
     requires in_range { All (λ g. (variable g.lhs < length out.old) × (variable g.rhs0 < length out.old) × (variable g.rhs1 < length out.old)) gates.now }
     requires even { All (λ g. g.lhs.0 % 2 ≡ 0) gates.now }
     requires once { AllPairs (λ u v. u ≢ v) (map (λ g. variable g.lhs) gates.now) }
-    requires ordered { IsOrder gates.now order.now }
+    requires after { AreAfterWhatTheyRead gates.now }
     ensures fires { (r : ℕ) → r < 256 → All (Fires (row_of r out.new)) gates.now }
     ensures kept { (r v : ℕ) → r < 256 → Contains (map (λ g. variable g.lhs) gates.now) v ⊎ (place (row_of r out.new) v ≡ place (row_of r out.old) v) }
 {
-    for place in order {
-        let gate = gates[*place as usize];
-        out[gate.lhs.variable() as usize] = conjunction(gate, out);
+    for gate in gates {
+        out[gate.lhs.variable() as usize] = conjunction(*gate, out);
     }
 }
 
-/// Fills in, for each run, the one agreeing valuation with its state and inputs. What nothing defines is false before, and stays
-/// so.
-pub fn evaluate(parts: &Parts, order: &[u32], state: &[u64x4], inputs: &[u64x4], out: &mut [u64x4])
-    requires model { IsModel parts.now order.now }
+/// Fills in, for each run, the one agreeing valuation with its state and inputs. The gates are those of the circuit, each after those
+/// that it reads. What nothing defines is false before, and stays so.
+pub fn evaluate(parts: &Parts, gates: &[Gate], state: &[u64x4], inputs: &[u64x4], out: &mut [u64x4])
+    requires model { IsWellFormed parts.now }
+    requires gates { AreInOrder parts.now.gates gates.now }
     requires state { length state.now ≡ length parts.now.latches }
     requires inputs { length inputs.now ≡ length parts.now.inputs }
     requires places { length out.old ≡ parts.now.max_var + 1 }
@@ -83,7 +97,7 @@ pub fn evaluate(parts: &Parts, order: &[u32], state: &[u64x4], inputs: &[u64x4],
 {
     fill_inputs(parts.inputs.as_slice(), inputs, out);
     fill_latches(parts.latches.as_slice(), state, out);
-    fill_gates(parts.gates.as_slice(), order, out);
+    fill_gates(gates, out);
 }
 
 /// Gives each latch the values of its next literal.

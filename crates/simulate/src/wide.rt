@@ -6,12 +6,12 @@ ghost use Rattle.graph.specs.Valuation.{variable, value_of};
 ghost use Rattle.simulate.specs.Lanes.{value_in, row_of};
 ghost use Rattle.simulate.specs.Wides.{wide_begun, AllStart, AllStep, HasWideCause};
 
-use crate::evaluation::{evaluate, literal_value, move_on};
+use crate::evaluation::{evaluate, in_order, literal_value, move_on};
 use crate::initial::first_against_any;
 use crate::lanes::all;
 use crate::replay_error::ReplayError;
 use base::{copied, filled};
-use graph::{Lit, Model};
+use graph::{Gate, Lit, Model};
 use std::alloc::Global;
 use std::simd::u64x4;
 
@@ -20,6 +20,8 @@ use std::simd::u64x4;
 #[derive(Debug, Drop)]
 pub struct Wide<'a> {
     model: &'a Model,
+    // the circuit's gates, each after those that it reads
+    gates: Vec<Gate>,
     // the states of the next time to be stepped
     state: Vec<u64x4>,
     // the values of the variables at the time stepped last, and false before; what nothing defines stays so
@@ -30,18 +32,18 @@ pub struct Wide<'a> {
 
 impl<'a> std::marker::Model for Wide<'a> {
     ghost use Rattle.std.specs.Prelude.{◌≡◌, ◌+◌, length, Some, None, if◌then◌else◌};
-    ghost use Rattle.simulate.specs.Wides.{WideReplayed, AreDefinedOnly};
+    ghost use Rattle.simulate.specs.Wides.{WideReplayed, AreDefinedOnly, AreInOrder};
 
     ghost Value = { WideReplayed };
 
     ghost view = { λ r. record { circuit = r.model.now; state = r.state.items; now = if r.is_stepped then Some r.values.items else None } };
 
-    ghost invariant = { λ r. (length r.state.items ≡ length r.model.now.latches) × (length r.values.items ≡ r.model.now.max_var + 1) × AreDefinedOnly r.model.now r.values.items };
+    ghost invariant = { λ r. (length r.state.items ≡ length r.model.now.latches) × (length r.values.items ≡ r.model.now.max_var + 1) × AreDefinedOnly r.model.now r.values.items × AreInOrder r.model.now.gates r.gates.items };
 }
 
 impl<'a> Wide<'a> {
     /// Runs that begin in these states: the values of each latch, in the order of the latches. It takes memory
-    /// for the states and a valuation of each run, and none after that.
+    /// for the states and a valuation of each run, and for the gates once more, and none after that.
     pub fn new(alloc: Global, model: &'a Model, initial: &[u64x4]) -> Result<Wide<'a>, ReplayError>
         requires { length initial.now ≡ length model.now.latches }
         ensures begun { IfOk result (λ w. (w ≡ wide_begun model.now initial.now) × AllStart model.now.latches initial.now) }
@@ -56,8 +58,10 @@ impl<'a> Wide<'a> {
         }
         let state = copied(alloc, initial)?;
         let values = filled(alloc, all(false), parts.max_var as usize + 1)?;
+        let gates = in_order(alloc, parts.gates.as_slice(), model.order())?;
         Ok(Wide {
             model,
+            gates,
             state,
             values,
             is_stepped: false,
@@ -72,7 +76,7 @@ impl<'a> Wide<'a> {
     {
         let model = self.model;
         let parts = model.parts();
-        evaluate(parts, model.order(), &self.state, inputs, &mut self.values);
+        evaluate(parts, &self.gates, &self.state, inputs, &mut self.values);
         move_on(parts.latches.as_slice(), &self.values, &mut self.state);
         self.is_stepped = true;
     }

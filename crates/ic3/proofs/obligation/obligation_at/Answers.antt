@@ -5,7 +5,7 @@ use Rattle.graph.specs.Valuation.{variable, value_of}
 use Rattle.graph.proofs.Tabled.{holds_of_used}
 use Rattle.cnf.specs.Formulas.{bad_literal}
 use Rattle.cones.specs.Marks.{IsKnown}
-use Rattle.transition.specs.States.{IsAt, AllSet}
+use Rattle.ic3_step.specs.States.{IsAt, AllSet}
 use Rattle.ic3.proofs.obligation.obligation_at.Goals as goal
 
 pub lift-requires-clause-at : goal.lift-requires-clause-at

@@ -1,9 +1,9 @@
 use Rattle.std.proofs.Common.{◌≡◌, ◌∙◌, ap, sym, subst, map, List}
 use Rattle.graph.specs.declared.circuit.Lit.{Lit}
 use Rattle.graph.specs.declared.circuit.Latch.{Latch}
-use Rattle.transition.specs.States.{AllSet, IsAt}
-use Rattle.transition.specs.Steps.{denial}
-use Rattle.transition.proofs.Denied.{nexts_small, denials_known}
+use Rattle.ic3_step.specs.States.{AllSet, IsAt}
+use Rattle.ic3_step.specs.Steps.{denial}
+use Rattle.ic3_step.proofs.Denied.{nexts_small, denials_known}
 use Rattle.ic3.proofs.Lifted.{denials_set, predecessors_by}
 use Rattle.ic3.proofs.obligation.obligation_before.Goals as goal
 

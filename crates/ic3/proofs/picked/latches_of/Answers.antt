@@ -1,8 +1,8 @@
 use Rattle.std.proofs.Common.{◌∷◌, [], map, Contains, ap, sym, subst, ◌∙◌}
 use Rattle.std.proofs.lemmas.List.{take_all}
 use Rattle.std.proofs.lemmas.List.Elements.{Contains-append_left, Contains-push}
-use Rattle.transition.specs.declared.state.StateLit.{StateLit}
-use Rattle.transition.proofs.Latched.{to_map}
+use Rattle.ic3_step.specs.declared.state.StateLit.{StateLit}
+use Rattle.ic3_step.proofs.Latched.{to_map}
 use Rattle.ic3.proofs.picked.latches_of.Goals as goal
 
 pub returns-clause-part : goal.returns-clause-part

@@ -1,5 +1,5 @@
 use Rattle.std.proofs.lemmas.List.Sorted.{IsNonDecreasingBy-from_sort}
-use Rattle.transition.proofs.Looked.{same_numbers}
+use Rattle.ic3_step.proofs.Looked.{same_numbers}
 use Rattle.ic3.proofs.picked.sort.Goals as goal
 
 pub returns-clause-rising : goal.returns-clause-rising

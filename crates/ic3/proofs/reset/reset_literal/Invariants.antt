@@ -1,6 +1,6 @@
 use Rattle.std.proofs.Common.{ℕ, ◌<◌, get_or}
-use Rattle.transition.specs.declared.state.StateLit.{StateLit}
-use Rattle.frames.specs.Clauses.{IsResetLit}
+use Rattle.ic3_step.specs.declared.state.StateLit.{StateLit}
+use Rattle.ic3_frames.specs.Clauses.{IsResetLit}
 use Rattle.ic3.proofs.reset.reset_literal.Given as goal
 
 abbrev pub invariant-looking : goal.invariant-looking

@@ -1,10 +1,10 @@
 use Rattle.std.proofs.Common.{◌∙◌, ◌<◌, ap, sym, subst, reverse, length, Bool, List, All}
 use Rattle.graph.specs.declared.circuit.Latch.{Latch}
 use Rattle.graph.specs.WellFormed.{IsModel}
-use Rattle.transition.specs.declared.state.StateLit.{StateLit}
-use Rattle.transition.specs.States.{Denies}
-use Rattle.frames.specs.Clauses.{IsResetLit}
-use Rattle.frames.specs.Resets.{HasResets}
+use Rattle.ic3_step.specs.declared.state.StateLit.{StateLit}
+use Rattle.ic3_step.specs.States.{Denies}
+use Rattle.ic3_frames.specs.Clauses.{IsResetLit}
+use Rattle.ic3_frames.specs.Resets.{HasResets}
 use Rattle.ic3.proofs.Shown.{run_found, first_of}
 use Rattle.ic3.proofs.run.run_of.Goals as goal
 

@@ -1,5 +1,5 @@
 use Rattle.std.proofs.Common.{subst}
-use Rattle.kernel.specs.Known.{IsLearned}
+use Rattle.cdcl_kernel.specs.Known.{IsLearned}
 use Rattle.cdcl.specs.Logged.{IsLog}
 use Rattle.cdcl.proofs.Logged.{empty_closed, empty_is}
 use Rattle.cdcl.proofs.logged_kernel.LoggedKernel.core_of.Goals as goal

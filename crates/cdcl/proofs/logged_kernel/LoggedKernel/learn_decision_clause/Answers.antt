@@ -1,5 +1,5 @@
 use Rattle.std.proofs.Common.{◌∙◌, ap}
-use Rattle.kernel.specs.Kept.{added}
+use Rattle.cdcl_kernel.specs.Kept.{added}
 use Rattle.cdcl.proofs.Logged.{logged_not}
 use Rattle.cdcl.proofs.logged_kernel.LoggedKernel.learn_decision_clause.Goals as goal
 

@@ -10,4 +10,5 @@ invariant_of-result c =
       rw (c.in_ok-state.ensures) c.requires,
       rw (c.in_ok-values.ensures, c.parts-parts.ensures.parts) (length-replicate (m.max_var + 1) c.all.result),
       subst (AreDefinedOnly m) (sym c.in_ok-values.ensures) (blank_in m c.all.result _ c.all.ensures),
+      rw (c.as_slice-2.ensures, c.parts-parts.ensures.parts) at c.in_ok-gates.ensures,
     )

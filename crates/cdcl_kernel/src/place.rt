@@ -1,0 +1,39 @@
+//! Where clauses lie in a flat list.
+
+ghost use Rattle.std.specs.Prelude.{◌≡◌, ◌+◌, ◌≤◌, All, Contains, length, take};
+ghost use Rattle.cdcl_kernel.specs.Places.{AreInOrder, kept_at};
+
+use crate::origin::Origin;
+
+/// Where a clause's literals lie in the flat list, and where the clause comes from.
+#[derive(Clone, Copy)]
+pub struct Place {
+    pub start: usize,
+    pub len: usize,
+    pub origin: Origin,
+}
+
+/// Moves the clauses together at the front of the list, in their order, and answers how many
+/// literals they have.
+pub fn close_up(literals: &mut [i32], places: &mut [Place]) -> usize
+    requires inside { All (λ p. p.start + p.len ≤ length literals.old) places.old }
+    requires in_order { AreInOrder 0 places.old }
+    ensures same { kept_at (take result literals.new) places.new ≡ kept_at literals.old places.old }
+    ensures inside { All (λ p. p.start + p.len ≤ result) places.new }
+    ensures in_order { AreInOrder 0 places.new }
+    ensures fits { result ≤ length literals.old }
+    ensures among { All (Contains literals.old) literals.new }
+{
+    let mut end = 0;
+    for index in 0..places.len() {
+        let place = places[index];
+        literals.copy_within(place.start..place.start + place.len, end);
+        places[index] = Place {
+            start: end,
+            len: place.len,
+            origin: place.origin,
+        };
+        end += place.len;
+    }
+    end
+}

@@ -1,0 +1,233 @@
+//! Clauses in one flat list, by their ids: 1, 2 and so on.
+
+ghost use Rattle.std.specs.Prelude.{IsTrue, ◌↔◌, MatchOption, ◌≡◌, ◌≤◌, ◌++◌, ◌∷◌, [], All, OnOk, OnErr, IfErr, length, take};
+ghost use Rattle.lrat.specs.Literals.{IsLiteral};
+ghost use Rattle.std.specs.List.Sorted.{IsSorted};
+ghost use Rattle.std.specs.Ordering.{nat_cmp};
+ghost use Rattle.cdcl_kernel.specs.Forgotten.{Forgets, GoOut};
+ghost use Rattle.cdcl_kernel.specs.Kept.{Kept, find_in, origin_in, without, added};
+ghost use Rattle.cdcl_kernel.specs.Verdicts.{HoldsOne, HoldsOneOf, IsUnsatisfied};
+ghost use Rattle.solver.specs.declared.sat_error.SatError.TheVariants.{Limit, OutOfMemory};
+
+use crate::origin::Origin;
+use crate::place::{Place, close_up};
+use crate::sorted::has_id;
+use crate::verdict::holds_one;
+use base::{extend, push};
+use lrat::{Lookup, Trail};
+use solver::SatError;
+use std::alloc::Global;
+use std::marker::Model;
+
+/// Clauses in one flat list. The ids are 1, 2 and so on, and never shift.
+#[derive(Drop)]
+pub struct Store {
+    /// the greatest variable
+    vars: u32,
+    /// for each id, from 1 on, where its clause lies
+    places: Vec<Place>,
+    /// the literals of the clauses, one clause after the other
+    literals: Vec<i32>,
+    /// about how many of these are of clauses that were taken out
+    dead: usize,
+}
+
+impl Model for Store {
+    ghost use Rattle.cdcl_kernel.specs.Kept.{Stored};
+
+    ghost Value = { Stored };
+
+    ghost use Rattle.cdcl_kernel.specs.Places.{kept_at, AreInside};
+
+    ghost view = { λ s. record { vars = s.vars; kept = kept_at s.literals.items s.places.items } };
+
+    ghost invariant = { λ s. AreInside s.vars s.literals.items s.places.items };
+}
+
+impl Store {
+    /// No clauses over no variables, which take no memory.
+    pub fn new(alloc: Global) -> Store
+        ensures { result ≡ record { vars = 0; kept = [] } }
+    {
+        Store {
+            vars: 0,
+            places: Vec::new(alloc),
+            literals: Vec::new(alloc),
+            dead: 0,
+        }
+    }
+
+    /// Begins anew with the variables 1 to `vars`. The memory stays.
+    pub fn clear(&mut self, vars: u32)
+        ensures { self.new ≡ record { vars = vars; kept = [] } }
+    {
+        self.vars = vars;
+        self.places.clear();
+        self.literals.clear();
+        self.dead = 0;
+    }
+
+    /// How many ids there are.
+    pub fn len(&self) -> usize
+        ensures value { result ≡ length self.now.kept }
+        ensures few { length self.now.kept ≤ 4294967295 }
+    {
+        self.places.len()
+    }
+
+    /// Adds a clause with the next id. A refusal changes nothing.
+    pub fn add(&mut self, clause: &[i32], origin: Origin) -> Result<(), SatError>
+        requires { All (IsLiteral self.old.vars) clause.now }
+        ensures vars { self.new.vars ≡ self.old.vars }
+        ensures ok { OnOk result (self.new.kept ≡ self.old.kept ++ record { origin = origin; clause = clause.now } ∷ []) }
+        ensures err { OnErr result (self.new ≡ self.old) }
+        ensures limit { IfErr result (λ e. e ≡ Limit → length self.old.kept ≡ 4294967295) }
+    {
+        if self.places.len() >= 4_294_967_295 {
+            return Err(SatError::Limit);
+        }
+        let start = self.literals.len();
+        extend(&mut self.literals, clause)?;
+        push(
+            &mut self.places,
+            Place {
+                start,
+                len: clause.len(),
+                origin,
+            },
+        )?;
+        Ok(())
+    }
+
+    /// Takes the clause with this id out, if there is one.
+    fn remove(&mut self, id: u32)
+        ensures vars { self.new.vars ≡ self.old.vars }
+        ensures kept { self.new.kept ≡ without self.old.kept id }
+    {
+        let index = id as usize;
+        if index > 0 && index <= self.places.len() {
+            let place = self.places[index - 1];
+            self.dead = self.dead.saturating_add(place.len);
+            self.places[index - 1] = Place {
+                start: place.start,
+                len: 0,
+                origin: Origin::Removed,
+            };
+        }
+    }
+
+    /// Takes the learned ones of these clauses out that are no reasons. The reasons ascend. Those
+    /// that went are the first ones of `gone` then, each once, and the answer is their number. It
+    /// costs the number of the ids, times the logarithm of the number of reasons. Where more than
+    /// half of the list is dead then, it is closed up, which costs its length.
+    pub fn forget(&mut self, ids: &[u32], reasons: &[u32], gone: &mut [u32]) -> usize
+        requires sorted { IsSorted nat_cmp reasons.now }
+        requires room { length gone.old ≡ length ids.now }
+        ensures vars { self.new.vars ≡ self.old.vars }
+        ensures added { added self.new.kept ≡ added self.old.kept }
+        ensures forgets { Forgets self.old.kept self.new.kept reasons.now ids.now }
+        ensures gone { GoOut self.old.kept (take result gone.new) self.new.kept }
+        ensures room { length gone.new ≡ length gone.old }
+    {
+        let count = self.take_out(ids, reasons, gone);
+        if self.dead > self.literals.len() / 2 {
+            self.close_up();
+        }
+        count
+    }
+
+    /// Takes the learned ones of these clauses out that are no reasons, and lists them. The
+    /// reasons ascend.
+    fn take_out(&mut self, ids: &[u32], reasons: &[u32], gone: &mut [u32]) -> usize
+        requires sorted { IsSorted nat_cmp reasons.now }
+        requires room { length gone.old ≡ length ids.now }
+        ensures vars { self.new.vars ≡ self.old.vars }
+        ensures added { added self.new.kept ≡ added self.old.kept }
+        ensures forgets { Forgets self.old.kept self.new.kept reasons.now ids.now }
+        ensures gone { GoOut self.old.kept (take result gone.new) self.new.kept }
+        ensures room { length gone.new ≡ length gone.old }
+    {
+        let mut count = 0;
+        for id in ids {
+            if let Origin::Learned = self.origin(*id) {
+                if !has_id(reasons, *id) {
+                    self.remove(*id);
+                    gone[count] = *id;
+                    count += 1;
+                }
+            }
+        }
+        count
+    }
+
+    /// Gives up the room of the clauses that were taken out. It takes no memory.
+    fn close_up(&mut self)
+        ensures { self.new ≡ self.old }
+    {
+        let end = close_up(&mut self.literals, &mut self.places);
+        self.literals.truncate(end);
+        self.dead = 0;
+    }
+
+    /// The first added clause of which the trail holds no literal. It costs the literals of the
+    /// clauses up to that one.
+    pub fn unsatisfied(&self, trail: &Trail) -> Option<u32>
+        requires { self.now.vars ≡ trail.now.vars }
+        ensures { MatchOption result (All (HoldsOne trail.now.literals) (added self.now.kept)) (IsUnsatisfied self.now.kept trail.now.literals) }
+    {
+        for index in 0..self.len() {
+            let id = index as u32 + 1;
+            if let Origin::Added = self.origin(id) {
+                if !self.is_satisfied(trail, id) {
+                    return Some(id);
+                }
+            }
+        }
+        None
+    }
+
+    /// Whether the trail holds a literal of the clause with this id.
+    fn is_satisfied(&self, trail: &Trail, id: u32) -> bool
+        requires { self.now.vars ≡ trail.now.vars }
+        ensures { IsTrue result ↔ HoldsOneOf self.now.kept trail.now.literals id }
+    {
+        match self.get(id) {
+            Some(clause) => holds_one(trail, clause),
+            None => false,
+        }
+    }
+
+    /// Where the clause with this id comes from.
+    pub fn origin(&self, id: u32) -> Origin
+        ensures { result ≡ origin_in self.now.kept id }
+    {
+        let index = id as usize;
+        if index > 0 && index <= self.places.len() {
+            self.places[index - 1].origin
+        } else {
+            Origin::Removed
+        }
+    }
+}
+
+impl Lookup for Store {
+    ghost vars = { λ s. s.vars };
+
+    ghost find = { λ s. find_in s.kept };
+
+    fn vars(&self) -> u32 {
+        self.vars
+    }
+
+    fn get(&self, id: u32) -> Option<&[i32]> {
+        let index = id as usize;
+        if index == 0 || index > self.places.len() {
+            return None;
+        }
+        let place = self.places[index - 1];
+        match place.origin {
+            Origin::Removed => None,
+            _ => Some(&self.literals[place.start..place.start + place.len]),
+        }
+    }
+}

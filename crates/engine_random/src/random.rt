@@ -1,0 +1,76 @@
+//! The engine.
+
+ghost use Rattle.std.specs.Prelude.{◌≡◌, ◌≤◌, IfErr, IfOk};
+ghost use Rattle.base.specs.Budget.{Spends};
+ghost use Rattle.base.specs.Witness.{witness};
+ghost use Rattle.engine.specs.Findings.{IsForBad, IsSo};
+ghost use Rattle.engine_random.specs.Findings.{IsRunOrSpent};
+
+use crate::batch::Batch;
+use engine::{Engine, EngineError, Finding, Reason};
+use graph::{Budget, Model};
+use rand_core::SeedableRng;
+use rand_pcg::Lcg128Xsl64;
+use std::alloc::Global;
+
+/// Random simulation of 256 runs at once, for up to `depth` steps, batch after batch.
+///
+/// Each call draws anew from `Lcg128Xsl64::seed_from_u64(seed)`: at a batch's start for each latch that
+/// its reset leaves open, then at each time for each input, in their order. A time that is played is a
+/// step of the budget, and is counted before its words are drawn. A batch ends at its depth or where no
+/// run is in.
+#[derive(Debug, Drop)]
+pub struct Random {
+    seed: u64,
+    depth: u32,
+}
+
+impl std::marker::Model for Random {
+    ghost use Rattle.std.specs.Prelude.{◌≤◌};
+    ghost use Rattle.engine_random.specs.Settings.{Settings};
+
+    ghost Value = { Settings };
+
+    ghost view = { λ r. record { seed = r.seed; depth = r.depth } };
+
+    ghost invariant = { λ r. r.depth ≤ 255 };
+}
+
+impl Random {
+    /// Random simulation from this seed, of runs of up to `depth` steps.
+    pub fn new(seed: u64, depth: u32) -> Random
+        requires { depth ≤ 255 }
+        ensures { result ≡ record { seed = seed; depth = depth } }
+    {
+        Random { seed, depth }
+    }
+}
+
+impl Engine for Random {
+    ghost honest = { λ _. Unit {0} };
+
+    /// Plays batch after batch of 256 runs, from the seed on, and answers the first run that sets the
+    /// bad literal.
+    fn find(
+        &mut self,
+        alloc: Global,
+        circuit: &Model,
+        budget: &mut Budget,
+    ) -> Result<Finding, EngineError>
+        requires { IsForBad circuit.now }
+        ensures spends { Spends budget.old budget.new }
+        ensures same { self.new ≡ self.old }
+        ensures so { IfOk result (IsSo circuit.now budget.new) }
+        ensures kinds { IfOk result IsRunOrSpent }
+        ensures memory { IfErr result (λ e. e ≡ EngineError.OutOfMemory witness) }
+    {
+        let mut generator = Lcg128Xsl64::seed_from_u64(self.seed);
+        'playing: while budget.tick() {
+            let mut batch = Batch::begin(alloc, circuit, &mut generator)?;
+            if let Some(finding) = batch.play(alloc, &mut generator, self.depth, budget)? {
+                return Ok(finding);
+            }
+        }
+        Ok(Finding::Unknown(Reason::Budget))
+    }
+}

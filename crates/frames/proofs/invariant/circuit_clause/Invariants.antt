@@ -1,6 +1,0 @@
-use Rattle.std.proofs.Common.{◌≡◌, map, take}
-use Rattle.frames.specs.Clauses.{circuit_lit as circuit_lit_of}
-use Rattle.frames.proofs.invariant.circuit_clause.Given as goal
-
-abbrev pub invariant-translating : goal.invariant-translating
-invariant-translating l = l.lits ≡ map (circuit_lit_of l.latches) (take l.lit-index l.clause)

@@ -1,0 +1,13 @@
+use Rattle.std.proofs.Common.{◌<◌}
+use Rattle.base.specs.Budget.{Spends}
+use Rattle.ic3.specs.Sound.{IsSound}
+use Rattle.ic3.specs.Answers.{IsInductiveFrom}
+use Rattle.ic3.proofs.frame_solver.FrameSolver.furthest.Given as goal
+
+abbrev pub invariant-advancing : goal.invariant-advancing
+invariant-advancing g l = record {
+  spends : Spends l.initial.budget l.budget;
+  sound : IsSound l.circuit l.self l.frames;
+  below : l.last < l.frames.top;
+  inductive : IsInductiveFrom l.circuit l.frames.entries l.last l.clause;
+}

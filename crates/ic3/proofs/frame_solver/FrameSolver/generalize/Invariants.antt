@@ -1,0 +1,11 @@
+use Rattle.base.specs.Budget.{Spends}
+use Rattle.ic3.specs.Sound.{IsSound}
+use Rattle.ic3.specs.Answers.{IsInductiveFrom}
+use Rattle.ic3.proofs.frame_solver.FrameSolver.generalize.Given as goal
+
+abbrev pub invariant-dropping : goal.invariant-dropping
+invariant-dropping g l = record {
+  spends : Spends l.initial.budget l.budget;
+  sound : IsSound l.circuit l.self l.frames;
+  inductive : IsInductiveFrom l.circuit l.frames.entries l.level l.kept;
+}

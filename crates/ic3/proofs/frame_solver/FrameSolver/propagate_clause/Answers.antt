@@ -1,0 +1,76 @@
+use Rattle.std.proofs.Common.{◌≡◌, ◌+◌, ◌<◌, length, get_or, List, All, arith, sym, ap, subst, ◌∙◌}
+use Rattle.std.proofs.lemmas.List.{length-set}
+use Rattle.std.proofs.lemmas.List.Elements.{All-set}
+use Rattle.cnf.specs.Formulas.{bad_literal}
+use Rattle.ic3_frames.specs.declared.frames.Entry.{Entry}
+use Rattle.ic3_frames.specs.Frames.{IsStateClause, HoldsAfter}
+use Rattle.ic3.specs.Answers.{IsAfter}
+use Rattle.ic3.proofs.Guarding.{item_has, has_within}
+use Rattle.ic3.proofs.Joining.{entry_holds, raised_found}
+use Rattle.ic3.proofs.frame_solver.FrameSolver.propagate_clause.Goals as goal
+
+pub after-requires : goal.after-requires
+after-requires g c =
+    let m = c.args.circuit.now in
+    let es = c.args.frames.now.entries in
+    let e = c.index-entries-place.result in
+    let item : e ≡ get_or es c.args.place e = c.index-entries-place.is ∙ ap (λ (xs : List Entry). get_or xs c.args.place e) c.entries.ensures in
+    record {
+      sound = c.requires.sound;
+      clause = subst (IsStateClause m) (sym c.as_slice-clause.ensures) (item_has (λ (x : Entry). IsStateClause m x.clause) es c.args.place e c.requires.place item c.requires.sound.laws.clauses);
+    }
+
+pub add_counted-requires : goal.add_counted-requires
+add_counted-requires g c =
+    let m = c.args.circuit.now in
+    let es = c.args.frames.now.entries in
+    let e = c.index-entries-place.result in
+    let item : e ≡ get_or es c.args.place e = c.index-entries-place.is ∙ ap (λ (xs : List Entry). get_or xs c.args.place e) c.entries.ensures in
+    let sound = c.in_ok-after.ensures.sound in
+    let top = sound.top in
+    record {
+      has = (es, sound.has);
+      level = omega (arith, top, c.requires.below);
+      clause = subst (IsStateClause m) (sym c.as_slice-clause.ensures) (item_has (λ (x : Entry). IsStateClause m x.clause) es c.args.place e c.requires.place item c.requires.sound.laws.clauses);
+    }
+
+pub propagate-requires : goal.propagate-requires
+propagate-requires g c =
+    let has = c.requires.sound.has in
+    let order = has.order in
+    let fits = has.fits in
+    let small = has.small in
+    record {
+      place = c.requires.place;
+      level = λ k d k_in. let below = c.requires.sound.below k d k_in in omega (arith, below, order, fits, small);
+    }
+
+pub returns-in-Held-clause-len : goal.returns-in-Held-clause-len
+returns-in-Held-clause-len g c = ap length (c.propagate.ensures.entries c.index-entries-place.result) ∙ length-set c.args.frames.now.entries c.args.place _
+
+pub returns-in-Held-clause-sound : goal.returns-in-Held-clause-sound
+returns-in-Held-clause-sound g c =
+    let m = c.args.circuit.now in
+    let a = c.after.new.self in
+    let es = c.args.frames.now.entries in
+    let fs = c.propagate.new.self.entries in
+    let place = c.args.place in
+    let k = c.args.level in
+    let e = c.index-entries-place.result in
+    let clause = c.as_slice-clause.result.now in
+    let sound = c.in_ok-after.ensures.sound in
+    let top = sound.top in
+    let item : e ≡ get_or es place e = c.index-entries-place.is ∙ ap (λ (xs : List Entry). get_or xs place e) c.entries.ensures in
+    let clause_is : (get_or es place e).clause ≡ clause = ap (λ (x : Entry). x.clause) (sym item) ∙ sym c.as_slice-clause.ensures in
+    let level_is : (get_or es place e).level ≡ k = ap (λ (x : Entry). x.level) (sym item) ∙ c.if-entry-level.false in
+    let after = subst (IsAfter m es k clause c.after.new.budget) c.in-Held.is c.in_ok-after.ensures.lawful in
+    let same : a.levels ≡ c.add_counted.new.self.levels = sym c.add_counted.ensures.levels in
+    let found = raised_found es fs place k e clause (c.propagate.ensures.entries e) c.requires.place clause_is level_is in
+    let above : (get_or es place e).level + 1 < c.add_counted.new.self.levels = omega (arith, level_is, same, top, c.requires.below) in
+    record {
+      has = c.in_ok-add_counted-in-Held.ensures.has fs (has_within m es fs a c.propagate.ensures.within sound.has) (λ s inside. entry_holds fs clause (k + 1) s found inside);
+      laws = c.propagate.ensures.laws m (bad_literal m 0) k e sound.laws level_is (subst (HoldsAfter m es k) (sym clause_is) after);
+      top = omega (arith, top, same, c.propagate.ensures.top);
+      below = subst (All (λ (x : Entry). x.level < c.add_counted.new.self.levels)) (sym (c.propagate.ensures.entries e))
+          (All-set (λ (x : Entry). x.level < c.add_counted.new.self.levels) es place _ above (subst (λ n. All (λ (x : Entry). x.level < n) es) same sound.below));
+    }

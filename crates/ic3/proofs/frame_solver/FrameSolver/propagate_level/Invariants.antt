@@ -1,0 +1,12 @@
+use Rattle.std.proofs.Common.{◌≡◌, length}
+use Rattle.base.specs.Budget.{Spends}
+use Rattle.ic3.specs.Sound.{IsSound}
+use Rattle.ic3.proofs.frame_solver.FrameSolver.propagate_level.Given as goal
+
+abbrev pub invariant-propagating : goal.invariant-propagating
+invariant-propagating g l = record {
+  spends : Spends l.initial.budget l.budget;
+  top : l.frames.top ≡ l.initial.frames.top;
+  len : length l.frames.entries ≡ length l.initial.frames.entries;
+  sound : IsSound l.circuit l.self l.frames;
+}

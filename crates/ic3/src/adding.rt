@@ -1,0 +1,35 @@
+//! Clauses that join the frames.
+
+ghost use Rattle.std.specs.Prelude.{◌≡◌, ◌<◌, OnOk};
+ghost use Rattle.ic3.specs.Sound.{IsSound};
+ghost use Rattle.ic3.specs.Answers.{IsInductiveFrom};
+
+use crate::frame_solver::FrameSolver;
+use engine::EngineError;
+use graph::{Model, Seq};
+use ic3_frames::Frames;
+use ic3_step::StateLit;
+use solver::Sat;
+use std::alloc::Global;
+
+impl<S: Sat> FrameSolver<S> {
+    /// Adds a clause that is inductive from a frame to the frames up to the next one.
+    pub(crate) fn add_to_frames(
+        &mut self,
+        alloc: Global,
+        circuit: &Model,
+        frames: &mut Frames,
+        level: u32,
+        clause: Seq<StateLit>,
+    ) -> Result<(), EngineError>
+        requires sound { IsSound circuit.now self.old frames.old }
+        requires below { level < frames.old.top }
+        requires inductive { IsInductiveFrom circuit.now frames.old.entries level clause }
+        ensures top { frames.new.top ≡ frames.old.top }
+        ensures sound { OnOk result (IsSound circuit.now self.new frames.new) }
+    {
+        self.add_clause(alloc, circuit, level + 1, clause.as_slice())?;
+        frames.add(clause, level + 1)?;
+        Ok(())
+    }
+}

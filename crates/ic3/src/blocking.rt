@@ -1,0 +1,89 @@
+//! States that the frames are to exclude.
+
+ghost use Rattle.std.specs.Prelude.{◌≡◌, ◌<◌, ◌≤◌, IfOk, OnOk};
+ghost use Rattle.base.specs.Budget.{Spends};
+ghost use Rattle.ic3_frames.specs.Frames.{IsStateClause};
+ghost use Rattle.ic3.specs.Sound.{IsSound};
+ghost use Rattle.ic3.specs.Answers.{IsInductiveFrom, IsBlocking};
+
+use crate::frame_solver::FrameSolver;
+use crate::reset::reset_literal;
+use engine::EngineError;
+use graph::{Budget, Model, Seq};
+use ic3_frames::Frames;
+use ic3_step::{Assignment, Consecution, StateLit};
+use solver::Sat;
+use std::alloc::Global;
+
+/// What became of states that were to be blocked.
+#[derive(Debug, Drop)]
+pub(crate) enum Blocking {
+    /// The frames exclude them.
+    Blocked,
+    /// No reset of the circuit excludes them all.
+    Initial,
+    /// This time is a predecessor of one of them.
+    Predecessor(Assignment),
+    /// The budget is exhausted.
+    Spent,
+}
+
+impl<S: Sat> FrameSolver<S> {
+    /// Adds a clause that is inductive from a frame, as short as it gets and as far on as it holds.
+    fn learn(
+        &mut self,
+        alloc: Global,
+        circuit: &Model,
+        frames: &mut Frames,
+        level: u32,
+        clause: Seq<StateLit>,
+        budget: &mut Budget,
+    ) -> Result<(), EngineError>
+        requires sound { IsSound circuit.now self.old frames.old }
+        requires below { level < frames.old.top }
+        requires inductive { IsInductiveFrom circuit.now frames.old.entries level clause }
+        ensures top { frames.new.top ≡ frames.old.top }
+        ensures spends { Spends budget.old budget.new }
+        ensures sound { OnOk result (IsSound circuit.now self.new frames.new) }
+    {
+        let shorter = self.generalize(alloc, circuit, frames, level, clause, budget)?;
+        let last = self.furthest(alloc, circuit, frames, level, shorter.as_slice(), budget)?;
+        self.add_to_frames(alloc, circuit, frames, last, shorter)
+    }
+
+    /// Blocks the states in which the clause is false in the frame at `level`, or finds a predecessor of
+    /// one of them.
+    pub(crate) fn block(
+        &mut self,
+        alloc: Global,
+        circuit: &Model,
+        frames: &mut Frames,
+        level: u32,
+        clause: &[StateLit],
+        budget: &mut Budget,
+    ) -> Result<Blocking, EngineError>
+        requires sound { IsSound circuit.now self.old frames.old }
+        requires below { level ≤ frames.old.top }
+        requires clause { IsStateClause circuit.now clause.now }
+        ensures top { frames.new.top ≡ frames.old.top }
+        ensures spends { Spends budget.old budget.new }
+        ensures sound { OnOk result (IsSound circuit.now self.new frames.new) }
+        ensures lawful { IfOk result (IsBlocking circuit.now clause.now budget.new) }
+    {
+        let Some(first) = reset_literal(circuit.latches(), clause) else {
+            return Ok(Blocking::Initial);
+        };
+        if level == 0 || frames.implies(level, clause) {
+            return Ok(Blocking::Blocked);
+        }
+        let before = level - 1;
+        match self.inductive(alloc, circuit, frames, before, clause, first, budget)? {
+            Consecution::Held(part) => {
+                self.learn(alloc, circuit, frames, before, part, budget)?;
+                Ok(Blocking::Blocked)
+            }
+            Consecution::Broken(time) => Ok(Blocking::Predecessor(time)),
+            Consecution::Spent => Ok(Blocking::Spent),
+        }
+    }
+}

@@ -1,0 +1,112 @@
+//! Clauses that are propagated to the next frame.
+
+ghost use Rattle.std.specs.Prelude.{◌≡◌, ◌<◌, ◌≤◌, length, IfOk, IfSome, OnOk};
+ghost use Rattle.base.specs.Budget.{Spends};
+ghost use Rattle.engine.specs.Findings.{IsInvariant};
+ghost use Rattle.ic3.specs.Sound.{IsSound};
+
+use crate::failures::Failures;
+use crate::frame_solver::FrameSolver;
+use engine::EngineError;
+use graph::{Budget, Lit, Model, Seq};
+use ic3_frames::Frames;
+use ic3_step::Consecution;
+use solver::Sat;
+use std::alloc::Global;
+
+impl<S: Sat> FrameSolver<S> {
+    /// Propagates the clause at a place to the next frame, if it ends at the level and holds after
+    /// each step from there.
+    fn propagate_clause(
+        &mut self,
+        alloc: Global,
+        circuit: &Model,
+        frames: &mut Frames,
+        failures: &mut Failures,
+        level: u32,
+        place: usize,
+        budget: &mut Budget,
+    ) -> Result<(), EngineError>
+        requires sound { IsSound circuit.now self.old frames.old }
+        requires below { level < frames.old.top }
+        requires place { place < length frames.old.entries }
+        ensures top { frames.new.top ≡ frames.old.top }
+        ensures len { length frames.new.entries ≡ length frames.old.entries }
+        ensures spends { Spends budget.old budget.new }
+        ensures sound { OnOk result (IsSound circuit.now self.new frames.new) }
+    {
+        let entry = &frames.entries()[place];
+        if entry.level != level {
+            return Ok(());
+        }
+        let clause = entry.clause.as_slice();
+        if failures.is_known(frames.entries(), level, clause) {
+            return Ok(());
+        }
+        match self.after(alloc, circuit, frames, level, clause, budget)? {
+            Consecution::Held(_) => {
+                self.add_counted(alloc, circuit, level + 1, clause)?;
+                frames.propagate(place);
+                Ok(())
+            }
+            Consecution::Broken(time) => {
+                failures.note(alloc, level, clause, time.state.as_slice())?;
+                Ok(())
+            }
+            Consecution::Spent => Ok(()),
+        }
+    }
+
+    /// Propagates the clauses that end at the level to the next frame, each that holds after each
+    /// step from there. Each clause of the frames costs a step of the budget.
+    fn propagate_level(
+        &mut self,
+        alloc: Global,
+        circuit: &Model,
+        frames: &mut Frames,
+        failures: &mut Failures,
+        level: u32,
+        budget: &mut Budget,
+    ) -> Result<(), EngineError>
+        requires sound { IsSound circuit.now self.old frames.old }
+        requires below { level < frames.old.top }
+        ensures top { frames.new.top ≡ frames.old.top }
+        ensures spends { Spends budget.old budget.new }
+        ensures sound { OnOk result (IsSound circuit.now self.new frames.new) }
+    {
+        'propagating: for place in 0..frames.entries().len() {
+            if !budget.tick() {
+                return Ok(());
+            }
+            self.make_room(alloc, circuit, frames)?;
+            self.propagate_clause(alloc, circuit, frames, failures, level, place, budget)?;
+        }
+        Ok(())
+    }
+
+    /// Propagates clauses to the next frames, until one frame is the same as the next: that one is an
+    /// invariant.
+    pub(crate) fn propagate(
+        &mut self,
+        alloc: Global,
+        circuit: &Model,
+        frames: &mut Frames,
+        failures: &mut Failures,
+        budget: &mut Budget,
+    ) -> Result<Option<Seq<Seq<Lit>>>, EngineError>
+        requires sound { IsSound circuit.now self.old frames.old }
+        ensures spends { Spends budget.old budget.new }
+        ensures sound { OnOk result (IsSound circuit.now self.new frames.new) }
+        ensures invariant { IfOk result (λ r. IfSome r (IsInvariant circuit.now)) }
+    {
+        failures.trim(frames.entries());
+        'propagating: for level in 1..frames.top() {
+            self.propagate_level(alloc, circuit, frames, failures, level, budget)?;
+            match frames.invariant_at(alloc, circuit, level)? {
+                Some(clauses) => return Ok(Some(clauses)),
+                None => {}
+            }
+        }
+        Ok(None)
+    }
+}

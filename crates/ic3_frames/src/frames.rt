@@ -1,0 +1,144 @@
+//! Frames, kept as clauses with levels.
+
+ghost use Rattle.std.specs.Prelude.{◌≡◌, ◌≢◌, ◌+◌, ◌<◌, ◌≤◌, ◌⊎◌, ℕ, Bool, false, List, None, length, set, slice_index_or, All, Contains, IsTrue, OnOk, OnErr, IfOk, IfSome};
+ghost use Rattle.graph.specs.declared.circuit.Lit.{Lit};
+ghost use Rattle.graph.specs.declared.parts.Parts.{Parts};
+ghost use Rattle.cnf.specs.Formulas.{bad_literal};
+ghost use Rattle.engine.specs.Findings.{IsInvariant};
+ghost use Rattle.ic3_step.specs.States.{Holds, IsPartOf};
+ghost use Rattle.ic3_frames.specs.declared.frames.Entry.{Entry};
+ghost use Rattle.ic3_frames.specs.Frames.{InFrame, AreFrames, AreWithin, Excludes, IsRising, IsStateClause, HoldsInitially, HoldsAfter, HoldsOnward, IsNotSubsumed};
+ghost use Rattle.ic3_frames.specs.Resets.{IsInitialState};
+
+use crate::invariant::{clauses_above, is_left};
+use crate::resets::reset_entries;
+use crate::subsumption::{insert, is_part};
+use base::Refused;
+use graph::{Lit, Model, Seq};
+use ic3_step::StateLit;
+use std::alloc::Global;
+
+/// A clause that holds in each frame up to its level.
+#[derive(Debug, Drop)]
+pub struct Entry {
+    pub clause: Seq<StateLit>,
+    pub level: u32,
+}
+
+/// The frames from 0 to the greatest, which is still open. A contract sees them as `Levels`.
+#[derive(Debug, Drop)]
+pub struct Frames {
+    entries: Vec<Entry>,
+    top: u32,
+}
+
+impl std::marker::Model for Frames {
+    ghost use Rattle.ic3_frames.specs.Frames.{Levels};
+
+    ghost Value = { Levels };
+
+    ghost view = { λ f. record { entries = f.entries.items; top = f.top } };
+}
+
+impl Frames {
+    /// The first frame alone, which is open: a clause of one literal for each latch that is reset
+    /// to 0 or 1, at level 0.
+    pub fn first(alloc: Global, model: &Model) -> Result<Frames, Refused>
+        ensures top { IfOk result (λ f. f.top ≡ 0) }
+        ensures level { IfOk result (λ f. All (λ e. e.level ≡ 0) f.entries) }
+        ensures laws { (bad : Lit) → IfOk result (AreFrames model.now bad) }
+        ensures initial { IfOk result (λ f. (s : List Bool) → InFrame f.entries 0 s → IsInitialState model.now s) }
+    {
+        model.parts();
+        let entries = reset_entries(alloc, model.latches())?;
+        Ok(Frames { entries, top: 0 })
+    }
+
+    /// The greatest frame, which is open.
+    pub fn top(&self) -> u32
+        ensures { result ≡ self.now.top }
+    {
+        self.top
+    }
+
+    /// The clauses with their levels, in no order.
+    pub fn entries(&self) -> &[Entry]
+        ensures { result.now ≡ self.now.entries }
+    {
+        self.entries.as_slice()
+    }
+
+    /// Whether a clause of the frame at `level` is part of this one, which then holds in each of its states.
+    /// Both are taken to be in rising order. It costs the clauses of the frames.
+    pub fn implies(&self, level: u32, clause: &[StateLit]) -> bool
+        ensures sound { IsTrue result → (s : List Bool) → InFrame self.now.entries level s → Holds s clause.now }
+        ensures complete { result ≡ false → IsRising clause.now → All (λ e. level ≤ e.level → IsRising e.clause → IsPartOf e.clause clause.now → ⊥) self.now.entries }
+    {
+        'looking: for entry in self.entries.as_slice() {
+            if level <= entry.level && is_part(entry.clause.as_slice(), clause) {
+                return true;
+            }
+        }
+        false
+    }
+
+    /// Adds a clause to the frames up to `level`, and drops the clauses that it makes subsumption
+    /// there: those of a level no greater that have all its literals. It takes time by the literals
+    /// of all clauses. A refusal changes nothing.
+    pub fn add(&mut self, clause: Seq<StateLit>, level: u32) -> Result<(), Refused>
+        ensures top { self.new.top ≡ self.old.top }
+        ensures newest { OnOk result (Contains self.new.entries (record { clause = clause; level = level })) }
+        ensures only { OnOk result ((e : Entry) → Contains self.new.entries e → Contains self.old.entries e ⊎ (e ≡ record { clause = clause; level = level })) }
+        ensures lean { OnOk result (All (λ e. IsNotSubsumed clause level e ⊎ (e ≡ record { clause = clause; level = level })) self.new.entries) }
+        ensures within { OnOk result (AreWithin self.new.entries self.old.entries) }
+        ensures err { OnErr result (self.new ≡ self.old) }
+        ensures laws { (m : Parts) (bad : Lit) (k : ℕ) → AreFrames m bad self.old → level ≡ k + 1 → IsStateClause m clause → HoldsInitially m clause →
+            HoldsOnward m self.old.entries k clause → OnOk result (AreFrames m bad self.new) }
+    {
+        insert(&mut self.entries, clause, level)
+    }
+
+    /// Propagates the clause at a place to the next frame.
+    pub fn propagate(&mut self, place: usize)
+        requires place { place < length self.old.entries }
+        requires level { All (λ e. e.level < 4294967295) self.old.entries }
+        ensures top { self.new.top ≡ self.old.top }
+        ensures entries { (d : Entry) → self.new.entries ≡ set self.old.entries place (record { clause = (slice_index_or self.old.entries place d).clause; level = (slice_index_or self.old.entries place d).level + 1 }) }
+        ensures within { AreWithin self.new.entries self.old.entries }
+        ensures laws { (m : Parts) (bad : Lit) (k : ℕ) (d : Entry) → AreFrames m bad self.old → (slice_index_or self.old.entries place d).level ≡ k →
+            HoldsAfter m self.old.entries k (slice_index_or self.old.entries place d).clause → AreFrames m bad self.new }
+    {
+        self.entries[place].level += 1;
+    }
+
+    /// Opens the next frame.
+    pub fn open(&mut self)
+        requires { self.old.top < 4294967295 }
+        ensures entries { self.new.entries ≡ self.old.entries }
+        ensures top { self.new.top ≡ self.old.top + 1 }
+        ensures laws { (m : Parts) (bad : Lit) → AreFrames m bad self.old → Excludes m bad self.old.entries self.old.top → AreFrames m bad self.new }
+    {
+        self.top += 1;
+    }
+
+    /// The invariant that the frame above `level` is, where it is the same as the frame at `level`,
+    /// since no clause ends there.
+    pub fn invariant_at(
+        &self,
+        alloc: Global,
+        model: &Model,
+        level: u32,
+    ) -> Result<Option<Seq<Seq<Lit>>>, Refused>
+        requires left { level < self.now.top }
+        ensures invariant { AreFrames model.now (bad_literal model.now 0) self.now → IfOk result (λ r. IfSome r (IsInvariant model.now)) }
+        ensures none { IfOk result (λ r. r ≡ None → All (λ e. e.level ≢ level) self.now.entries → ⊥) }
+    {
+        model.parts();
+        let entries = self.entries.as_slice();
+        if !is_left(entries, level) {
+            return Ok(None);
+        }
+        let clauses = clauses_above(alloc, model.latches(), entries, level)?;
+        Ok(Some(clauses))
+    }
+}

@@ -1,0 +1,92 @@
+//! A query of a solver.
+
+ghost use Rattle.std.specs.Prelude.{◌≡◌, ◌+◌, ◌<◌, ◌^◌, ◌++◌, ℕ, List, Some, map, All, IfOk, OnOk};
+ghost use Rattle.base.specs.Budget.{Spends};
+ghost use Rattle.cnf.specs.Clauses.{literal};
+ghost use Rattle.cnf.specs.Formulas.{IsInRange};
+ghost use Rattle.ic3_step.specs.States.{Guarded};
+ghost use Rattle.ic3_step.specs.Replies.{IsReply, IsUsable};
+ghost use Rattle.ic3_step.specs.Contents.{Contents, IsLoaded, HasGuards, guard_literal as guard_literal_of};
+ghost use Rattle.ic3_step.specs.Readings.{assumptions_of};
+
+use crate::cone::{Cone, grow};
+use crate::encoding::guard_literal;
+use crate::reading::{core_lits, time_in};
+use crate::reply::Reply;
+use base::{Refused, push};
+use engine::EngineError;
+use graph::{Budget, Lit, Model};
+use solver::{Answer, Sat};
+use std::alloc::Global;
+
+/// Adds the literal of each guard.
+fn push_guards(literals: &mut Vec<i32>, model: &Model, guards: &[u32]) -> Result<(), Refused>
+    requires { All (λ g. model.now.max_var + 2 + g < 2 ^ 31) guards.now }
+    ensures { OnOk result (literals.new.items ≡ literals.old.items ++ map (guard_literal_of model.now) guards.now) }
+{
+    for guard in guards {
+        push(literals, guard_literal(model, *guard))?;
+    }
+    Ok(())
+}
+
+/// Adds the literal of clauses for each literal of the circuit.
+fn push_lits(literals: &mut Vec<i32>, model: &Model, lits: &[Lit]) -> Result<(), Refused>
+    requires { All (IsInRange model.now.max_var) lits.now }
+    ensures { OnOk result (literals.new.items ≡ literals.old.items ++ map (literal model.now.max_var 0) lits.now) }
+{
+    model.parts();
+    let time = cnf::TimeFrame::first(model);
+    for lit in lits {
+        push(literals, time.literal(*lit))?;
+    }
+    Ok(())
+}
+
+/// What is assumed.
+fn assumptions(
+    alloc: Global,
+    model: &Model,
+    guards: &[u32],
+    lits: &[Lit],
+) -> Result<Vec<i32>, Refused>
+    requires guards { All (λ g. model.now.max_var + 2 + g < 2 ^ 31) guards.now }
+    requires lits { All (IsInRange model.now.max_var) lits.now }
+    ensures { IfOk result (λ v. v.items ≡ assumptions_of model.now guards.now lits.now) }
+{
+    let mut literals = Vec::new(alloc);
+    push_guards(&mut literals, model, guards)?;
+    push_lits(&mut literals, model, lits)?;
+    Ok(literals)
+}
+
+/// Asks for a time at which the literals are true, in a state where the clauses of these guards
+/// hold. First the solver gets what it lacks of the literals' cone.
+pub(crate) fn ask<S: Sat>(
+    solver: &mut S,
+    alloc: Global,
+    model: &Model,
+    cone: &mut Cone,
+    guards: &[u32],
+    lits: &[Lit],
+    budget: &mut Budget,
+) -> Result<Reply, EngineError>
+    requires guards { HasGuards model.now guards.now (record { vars = S.vars solver.old; clauses = S.clauses solver.old; cone = Some cone.old }) }
+    requires lits { All (IsUsable model.now) lits.now }
+    ensures spends { Spends budget.old budget.new }
+    ensures loaded { (n : ℕ) (gs : List Guarded) → IsLoaded model.now n gs (record { vars = S.vars solver.old; clauses = S.clauses solver.old; cone = Some cone.old }) →
+        OnOk result (IsLoaded model.now n gs (record { vars = S.vars solver.new; clauses = S.clauses solver.new; cone = Some cone.new })) }
+    ensures lawful { (n : ℕ) (gs : List Guarded) → IsLoaded model.now n gs (record { vars = S.vars solver.old; clauses = S.clauses solver.old; cone = Some cone.old }) →
+        IfOk result (IsReply model.now gs guards.now lits.now budget.new) }
+{
+    model.parts();
+    model.order();
+    solver.vars();
+    grow(solver, alloc, model, cone, lits)?;
+    let assumed = assumptions(alloc, model, guards, lits)?;
+    match solver.solve(alloc, assumed.as_slice(), budget)? {
+        Answer::Model(values) => Ok(Reply::Found(time_in(alloc, model, values)?)),
+        Answer::Core(core) => Ok(Reply::Core(core_lits(alloc, model, core.as_slice())?)),
+        Answer::Spent => Ok(Reply::Spent),
+    }
+}

@@ -1,0 +1,145 @@
+//! The cone of a circuit whose gates' clauses a solver has, and how it grows.
+
+ghost use Rattle.std.specs.Prelude.{◌≡◌, ◌+◌, ◌<◌, ◌≤◌, ◌^◌, ◌++◌, ◌∷◌, ℕ, false, length, map, flat_map, All, IfOk, OnOk};
+ghost use Rattle.lrat.specs.Shared.{unit_clauses};
+ghost use Rattle.graph.specs.Valuation.{variable, place};
+ghost use Rattle.cnf.specs.Clauses.{literal, truth_clause, gate_clauses, frame_at};
+ghost use Rattle.cnf.specs.Formulas.{IsInRange, IsGateIn};
+ghost use Rattle.cones.specs.Marks.{IsMarked};
+ghost use Rattle.cones.specs.Reach.{IsGateTable};
+ghost use Rattle.ic3_step.specs.Replies.{IsUsable};
+ghost use Rattle.ic3_step.specs.Contents.{IsGrown, IsMoreOf};
+
+use base::{Refused, filled};
+use cnf::TimeFrame;
+use cones::{GateTable, grow_cone};
+use engine::EngineError;
+use graph::{Gate, Lit, Model};
+use solver::Sat;
+use std::alloc::Global;
+
+/// The gates of a circuit, and a mark for each variable of the cone whose gates' clauses a solver has.
+#[derive(Drop)]
+pub(crate) struct Cone {
+    pub table: GateTable,
+    pub marks: Vec<bool>,
+}
+
+impl Cone {
+    /// Nothing of the circuit yet. It costs the circuit.
+    pub(crate) fn new(alloc: Global, model: &Model) -> Result<Cone, Refused>
+        ensures table { IfOk result (λ c. IsGateTable model.now c.table) }
+        ensures places { IfOk result (λ c. length c.marks.items ≡ model.now.max_var + 1) }
+        ensures clear { IfOk result (λ c. (v : ℕ) → place c.marks.items v ≡ false) }
+    {
+        model.parts();
+        let table = GateTable::new(alloc, model)?;
+        let marks = filled(alloc, false, model.max_var() as usize + 1)?;
+        Ok(Cone { table, marks })
+    }
+}
+
+/// Adds each literal of the circuit as a unit.
+fn add_units<S: Sat>(
+    solver: &mut S,
+    alloc: Global,
+    time: TimeFrame,
+    lits: &[Lit],
+) -> Result<(), EngineError>
+    requires first { time.offset ≡ 0 }
+    requires fits { time.max_var + 1 < 2 ^ 31 }
+    requires vars { time.max_var + 1 ≤ S.vars solver.old }
+    requires range { All (IsInRange time.max_var) lits.now }
+    ensures vars { S.vars solver.new ≡ S.vars solver.old }
+    ensures clauses { OnOk result (S.clauses solver.new ≡ S.clauses solver.old ++ unit_clauses (map (literal time.max_var 0) lits.now)) }
+{
+    for lit in lits {
+        solver.add(alloc, &[time.literal(*lit)])?;
+    }
+    Ok(())
+}
+
+/// Adds the unit of what is true, and those of the constraints.
+pub(crate) fn add_constraints<S: Sat>(
+    solver: &mut S,
+    alloc: Global,
+    model: &Model,
+) -> Result<(), EngineError>
+    requires { model.now.max_var + 1 ≤ S.vars solver.old }
+    ensures vars { S.vars solver.new ≡ S.vars solver.old }
+    ensures clauses { OnOk result (S.clauses solver.new ≡ S.clauses solver.old ++ truth_clause model.now.max_var 0 ∷ unit_clauses (map (literal model.now.max_var 0) model.now.constraints)) }
+{
+    model.parts();
+    let time = TimeFrame::first(model);
+    solver.add(alloc, &[time.truth()])?;
+    add_units(solver, alloc, time, model.constraints())
+}
+
+/// Adds the clauses of a gate.
+fn add_gate<S: Sat>(
+    solver: &mut S,
+    alloc: Global,
+    time: TimeFrame,
+    gate: Gate,
+) -> Result<(), EngineError>
+    requires first { time.offset ≡ 0 }
+    requires fits { time.max_var + 1 < 2 ^ 31 }
+    requires vars { time.max_var + 1 ≤ S.vars solver.old }
+    requires range { IsGateIn time.max_var gate }
+    ensures vars { S.vars solver.new ≡ S.vars solver.old }
+    ensures clauses { OnOk result (S.clauses solver.new ≡ S.clauses solver.old ++ gate_clauses time.max_var 0 gate) }
+{
+    let left = time.literal(gate.lhs);
+    let not_left = time.denial(gate.lhs);
+    solver.add(alloc, &[not_left, time.literal(gate.rhs0)])?;
+    solver.add(alloc, &[not_left, time.literal(gate.rhs1)])?;
+    solver.add(
+        alloc,
+        &[left, time.denial(gate.rhs0), time.denial(gate.rhs1)],
+    )?;
+    Ok(())
+}
+
+/// Adds the clauses of each gate.
+fn add_gates<S: Sat>(
+    solver: &mut S,
+    alloc: Global,
+    time: TimeFrame,
+    gates: &[Gate],
+) -> Result<(), EngineError>
+    requires first { time.offset ≡ 0 }
+    requires fits { time.max_var + 1 < 2 ^ 31 }
+    requires vars { time.max_var + 1 ≤ S.vars solver.old }
+    requires range { All (IsGateIn time.max_var) gates.now }
+    ensures vars { S.vars solver.new ≡ S.vars solver.old }
+    ensures clauses { OnOk result (S.clauses solver.new ≡ S.clauses solver.old ++ flat_map (gate_clauses time.max_var 0) gates.now) }
+{
+    for gate in gates {
+        add_gate(solver, alloc, time, *gate)?;
+    }
+    Ok(())
+}
+
+/// Adds what the solver doesn't have yet of the clauses of the literals' cone. It costs what it adds.
+/// After an `Err` the solver is to be loaded again.
+pub(crate) fn grow<S: Sat>(
+    solver: &mut S,
+    alloc: Global,
+    model: &Model,
+    cone: &mut Cone,
+    lits: &[Lit],
+) -> Result<(), EngineError>
+    requires vars { model.now.max_var + 1 ≤ S.vars solver.old }
+    requires lits { All (IsUsable model.now) lits.now }
+    requires grown { IsGrown model.now cone.old (S.clauses solver.old) }
+    ensures vars { S.vars solver.new ≡ S.vars solver.old }
+    ensures grown { OnOk result (IsGrown model.now cone.new (S.clauses solver.new)) }
+    ensures kept { OnOk result ((v : ℕ) → IsMarked cone.old.marks.items v → IsMarked cone.new.marks.items v) }
+    ensures marked { OnOk result (All (λ a. IsMarked cone.new.marks.items (variable a)) lits.now) }
+    ensures added { OnOk result (IsMoreOf (frame_at model.now 0) (S.clauses solver.old) (S.clauses solver.new)) }
+{
+    model.parts();
+    let gates = grow_cone(alloc, model, &cone.table, lits, &mut cone.marks)?;
+    add_gates(solver, alloc, TimeFrame::first(model), &gates)?;
+    Ok(())
+}

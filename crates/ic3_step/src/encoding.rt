@@ -1,0 +1,100 @@
+//! A solver that has the circuit at one time, and guarded clauses.
+
+ghost use Rattle.std.specs.Prelude.{◌≡◌, ◌+◌, ◌<◌, ◌≤◌, ◌^◌, ◌++◌, ◌∷◌, [], Some, length, map, All, IfOk, OnOk, OnErr, neg_ℤ};
+ghost use Rattle.ic3_step.specs.States.{Guarded};
+ghost use Rattle.ic3_step.specs.Contents.{Contents, IsLoaded, HasGuards, guard_literal as guard_literal_of, guarded_clause, state_literal as state_literal_of};
+
+use crate::cone::{Cone, add_constraints, grow};
+use crate::state::StateLit;
+use base::{Refused, push};
+use engine::EngineError;
+use graph::Model;
+use solver::Sat;
+use std::alloc::Global;
+
+/// The greatest number of variables.
+const GREATEST: u32 = 2_147_483_647;
+
+/// The literal of a guard.
+pub(crate) fn guard_literal(model: &Model, guard: u32) -> i32
+    requires { model.now.max_var + 2 + guard < 2 ^ 31 }
+    ensures { result ≡ guard_literal_of model.now guard }
+{
+    (model.max_var() + 2 + guard) as i32
+}
+
+/// The literal that is true where the latch has the value.
+fn state_literal(model: &Model, lit: StateLit) -> i32
+    requires { lit.latch < length model.now.latches }
+    ensures { result ≡ state_literal_of model.now lit }
+{
+    model.parts();
+    let latch = model.latches()[lit.latch as usize];
+    let time = cnf::TimeFrame::first(model);
+    if lit.value {
+        time.literal(latch.lit)
+    } else {
+        time.denial(latch.lit)
+    }
+}
+
+/// The clause, or not its guard.
+fn guarded(
+    alloc: Global,
+    model: &Model,
+    guard: u32,
+    clause: &[StateLit],
+) -> Result<Vec<i32>, Refused>
+    requires guard { model.now.max_var + 2 + guard < 2 ^ 31 }
+    requires latches { All (λ a. a.latch < length model.now.latches) clause.now }
+    ensures { IfOk result (λ v. v.items ≡ guarded_clause model.now (record { guard = guard; clause = clause.now })) }
+{
+    let mut literals = Vec::new(alloc);
+    push(&mut literals, -guard_literal(model, guard))?;
+    for lit in clause {
+        push(&mut literals, state_literal(model, *lit))?;
+    }
+    Ok(literals)
+}
+
+/// Begins anew with the cone of the circuit's constraints.
+pub(crate) fn load<S: Sat>(
+    solver: &mut S,
+    alloc: Global,
+    model: &Model,
+    guards: u32,
+) -> Result<Cone, EngineError>
+    ensures { IfOk result (λ c. IsLoaded model.now guards [] (record { vars = S.vars solver.new; clauses = S.clauses solver.new; cone = Some c })) }
+{
+    model.parts();
+    let variables = model.max_var() + 1;
+    if guards > GREATEST - variables {
+        return Err(EngineError::Limit);
+    }
+    let mut cone = Cone::new(alloc, model)?;
+    solver.reset(alloc, variables + guards)?;
+    add_constraints(solver, alloc, model)?;
+    grow(solver, alloc, model, &mut cone, model.constraints())?;
+    Ok(cone)
+}
+
+/// Adds a clause under a guard.
+pub(crate) fn add<S: Sat>(
+    solver: &mut S,
+    alloc: Global,
+    model: &Model,
+    guard: u32,
+    clause: &[StateLit],
+) -> Result<(), EngineError>
+    requires guard { model.now.max_var + 2 + guard ≤ S.vars solver.old }
+    requires latches { All (λ a. a.latch < length model.now.latches) clause.now }
+    ensures vars { S.vars solver.new ≡ S.vars solver.old }
+    ensures added { OnOk result (S.clauses solver.new ≡ S.clauses solver.old ++ guarded_clause model.now (record { guard = guard; clause = clause.now }) ∷ []) }
+    ensures err { OnErr result (S.clauses solver.new ≡ S.clauses solver.old) }
+{
+    model.parts();
+    solver.vars();
+    let literals = guarded(alloc, model, guard, clause)?;
+    solver.add(alloc, literals.as_slice())?;
+    Ok(())
+}

@@ -1,0 +1,15 @@
+//! The answer to a query.
+
+use crate::state::Assignment;
+use graph::{Lit, Seq};
+
+/// What is known of the times at which some literals are true.
+#[derive(Debug, Drop)]
+pub enum Reply {
+    /// There is one, with this state and these inputs.
+    Found(Assignment),
+    /// There is none at which these of the literals are true.
+    Core(Seq<Lit>),
+    /// The budget is exhausted.
+    Spent,
+}

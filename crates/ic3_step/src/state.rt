@@ -1,0 +1,22 @@
+//! States and times.
+
+use graph::Seq;
+
+/// A latch, by its position in the circuit's list, and a value. A literal of clauses over states:
+/// it is set where the latch has the value.
+#[derive(Clone, Copy, PartialEq, Eq, Debug)]
+pub struct StateLit {
+    pub latch: u32,
+    pub value: bool,
+}
+
+/// The state and the inputs of a time, in the order of the circuit's latches and inputs, and the
+/// values of what was asked about.
+#[derive(Debug, Drop)]
+pub struct Assignment {
+    pub state: Seq<bool>,
+    pub inputs: Seq<bool>,
+    /// the value of each variable of which the literals that were asked for and the constraints are
+    /// made, at the variable's place; what stands at other places means nothing
+    pub values: Seq<bool>,
+}

@@ -1,0 +1,94 @@
+//! One time of a circuit in a solver.
+
+ghost use Rattle.std.specs.Prelude.{◌≡◌, ◌<◌, ◌++◌, ◌∷◌, [], ℕ, List, None, length, All, IfOk, OnOk, OnErr};
+ghost use Rattle.base.specs.Budget.{Spends};
+ghost use Rattle.ic3_step.specs.States.{Guarded};
+ghost use Rattle.ic3_step.specs.Replies.{IsReply, IsUsable};
+ghost use Rattle.ic3_step.specs.Contents.{IsLoaded, HasGuards};
+
+use crate::cone::Cone;
+use crate::reply::Reply;
+use crate::state::StateLit;
+use crate::{asking, encoding};
+use engine::EngineError;
+use graph::{Budget, Lit, Model};
+use solver::Sat;
+use std::alloc::Global;
+
+/// One time of a circuit in an incremental solver, with clauses over its state, each under a
+/// guard. The solver has the clauses of the gates that were asked about and of what these are made
+/// of. A contract sees its variables, its clauses and that cone, and only through `IsLoaded`.
+#[derive(Drop)]
+pub struct Transition<S: Sat> {
+    solver: S,
+    cone: Option<Cone>,
+}
+
+impl<S: Sat> std::marker::Model for Transition<S> {
+    ghost use Rattle.ic3_step.specs.Contents.{Contents};
+
+    ghost Value = { Contents };
+
+    ghost view = { λ t. record { vars = S.vars t.solver; clauses = S.clauses t.solver; cone = t.cone } };
+}
+
+impl<S: Sat> Transition<S> {
+    /// A solver that has no circuit yet.
+    pub fn new(solver: S) -> Self
+        ensures { result ≡ record { vars = S.vars solver; clauses = S.clauses solver; cone = None } }
+    {
+        Transition { solver, cone: None }
+    }
+
+    /// Begins anew with the constraints of the circuit, what they are made of, and room for the
+    /// guards below `guards`. It costs the circuit, and refuses more variables than 2,147,483,647 as
+    /// over the limit. After a refusal it is to be loaded again.
+    pub fn load(&mut self, alloc: Global, model: &Model, guards: u32) -> Result<(), EngineError>
+        ensures { OnOk result (IsLoaded model.now guards [] self.new) }
+    {
+        let cone = encoding::load(&mut self.solver, alloc, model, guards)?;
+        self.cone = Some(cone);
+        Ok(())
+    }
+
+    /// Adds a clause that holds where its guard is assumed. A refusal changes nothing.
+    pub fn add(
+        &mut self,
+        alloc: Global,
+        model: &Model,
+        guard: u32,
+        clause: &[StateLit],
+    ) -> Result<(), EngineError>
+        requires loaded { HasGuards model.now (guard ∷ []) self.old }
+        requires latches { All (λ a. a.latch < length model.now.latches) clause.now }
+        ensures added { (n : ℕ) (gs : List Guarded) → IsLoaded model.now n gs self.old →
+            OnOk result (IsLoaded model.now n (gs ++ record { guard = guard; clause = clause.now } ∷ []) self.new) }
+        ensures err { OnErr result (self.new ≡ self.old) }
+    {
+        encoding::add(&mut self.solver, alloc, model, guard, clause)
+    }
+
+    /// Asks for a time that keeps the constraints and at which the literals are true, in a state
+    /// where the clauses of these guards hold. It costs the guards and the literals, what they are
+    /// made of that was not asked about before, the state and the inputs of what it finds, and what
+    /// the solver does. After a refusal it is to be loaded again.
+    pub fn ask(
+        &mut self,
+        alloc: Global,
+        model: &Model,
+        guards: &[u32],
+        lits: &[Lit],
+        budget: &mut Budget,
+    ) -> Result<Reply, EngineError>
+        requires loaded { HasGuards model.now guards.now self.old }
+        requires lits { All (IsUsable model.now) lits.now }
+        ensures spends { Spends budget.old budget.new }
+        ensures loaded { (n : ℕ) (gs : List Guarded) → IsLoaded model.now n gs self.old → OnOk result (IsLoaded model.now n gs self.new) }
+        ensures lawful { (n : ℕ) (gs : List Guarded) → IsLoaded model.now n gs self.old → IfOk result (IsReply model.now gs guards.now lits.now budget.new) }
+    {
+        match &mut self.cone {
+            Some(cone) => asking::ask(&mut self.solver, alloc, model, cone, guards, lits, budget),
+            None => unreachable!(),
+        }
+    }
+}

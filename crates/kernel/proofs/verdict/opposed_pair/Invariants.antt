@@ -1,6 +1,0 @@
-use Rattle.std.proofs.Common.{take, All}
-use Rattle.kernel.specs.Verdicts.{IsOpposed}
-use Rattle.kernel.proofs.verdict.opposed_pair.Given as goal
-
-abbrev pub invariant-loop-literal : goal.invariant-loop-literal
-invariant-loop-literal l = All (λ x. IsOpposed l.assume x → ⊥) (take l.literal-index l.assume)

@@ -1,6 +1,0 @@
-use Rattle.std.proofs.Common.{IfSome}
-use Rattle.random.proofs.SettingLaws.{MarksUpTo}
-use Rattle.random.proofs.batch.setting.Given as goal
-
-abbrev pub invariant-loop-lit : goal.invariant-loop-lit
-invariant-loop-lit l = IfSome l.wide.now (λ values. MarksUpTo l.lits values l.fn.marked l.set l.lit-index)

@@ -1,7 +1,0 @@
-use Rattle.std.proofs.Common.{◌≡◌, ◌-◌, length}
-use Rattle.random.specs.Words.{draws}
-use Rattle.random.proofs.DrawLaws.{drawn}
-use Rattle.random.proofs.drawing.draw_row.Given as goal
-
-abbrev pub invariant-loop : goal.invariant-loop
-invariant-loop l = (length l.row.items ≡ l.counter) × (drawn l.row.items (l.count - l.counter) l.generator ≡ draws l.count l.initial.generator)

@@ -1,8 +1,0 @@
-use Rattle.base.specs.Budget.{Spends}
-use Rattle.random.proofs.random.RandomEngine.find.Given as goal
-
-abbrev pub invariant-playing : goal.invariant-playing
-invariant-playing l = Spends l.initial.budget l.budget
-
-abbrev pub decreases-playing : goal.decreases-playing
-decreases-playing l = l.budget.left

@@ -1,7 +1,0 @@
-use Rattle.std.proofs.Common.{take}
-use Rattle.transition.specs.States.{IsPartOf}
-use Rattle.transition.specs.Steps.{HasNeeded}
-use Rattle.transition.proofs.step.needed.Given as goal
-
-abbrev pub invariant-choosing : goal.invariant-choosing
-invariant-choosing l = record { part : IsPartOf l.part (take l.lit-index l.clause); all : HasNeeded l.latches (take l.lit-index l.clause) l.core l.part }
