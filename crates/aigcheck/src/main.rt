@@ -38,6 +38,27 @@ const YES: u8 = 0;
 /// The status of a no.
 const NO: u8 = 1;
 
+/// What `--version` prints behind the program's name.
+static VERSION: &str = "0.1.0 (rattle-kit-13f)";
+
+static STATUSES: &str = "Status: 0 yes, 1 no, 3 no answer.
+Each command has a help of its own: aigcheck safe --help.";
+
+static SAFE: &str = "Status: 0 yes, 1 no (with the number of the refusal), 3 no answer.
+Examples:
+  aigcheck safe design.aig b0.cert
+  aigmc check design.aig -p b0 --cert b0.cert && aigcheck safe design.aig b0.cert";
+
+static RUN: &str = "Status: 0 yes, 1 no (with the number of the refusal), 3 no answer.
+Examples:
+  aigcheck run design.aig b0.stim
+  aigmc check design.aig -p b0 > b0.stim; aigcheck run design.aig b0.stim";
+
+static ALL: &str = "Status: 0 a yes to each property, 1 not, 3 no answer.
+Examples:
+  aigcheck all design.aig evidence
+  aigmc all design.aig --out evidence; aigcheck all design.aig evidence";
+
 /// A file that has to be named.
 fn file<'a>(alloc: Global, name: &'a str, about: &'a str) -> Arg<'a> {
     Arg::new(alloc, name)
@@ -46,26 +67,52 @@ fn file<'a>(alloc: Global, name: &'a str, about: &'a str) -> Arg<'a> {
         .action(ArgAction::Set)
 }
 
+/// A command over a circuit and one more file or folder.
+fn with_files<'a>(
+    alloc: Global,
+    name: &'a str,
+    about: &'a str,
+    help: &'a str,
+    second: Arg<'a>,
+) -> Result<Command<'a>, AllocError> {
+    Command::new(alloc, name)
+        .about(about)
+        .after_help(help)
+        .arg(file(alloc, "FILE", "The circuit (AIGER 1.9, ASCII or binary)"))?
+        .arg(second)
+}
+
+/// The words of `safe`.
+fn safe_command<'a>(alloc: Global) -> Result<Command<'a>, AllocError> {
+    let certificate = file(alloc, "CERT", "The certificate");
+    let about = "Whether a certificate shows that a circuit is safe";
+    with_files(alloc, "safe", about, SAFE, certificate)
+}
+
+/// The words of `run`.
+fn run_command<'a>(alloc: Global) -> Result<Command<'a>, AllocError> {
+    let stimulus = file(alloc, "STIM", "The stimulus");
+    let about = "Whether a stimulus shows that a property is violated";
+    with_files(alloc, "run", about, RUN, stimulus)
+}
+
+/// The words of `all`.
+fn all_command<'a>(alloc: Global) -> Result<Command<'a>, AllocError> {
+    let folder = file(alloc, "DIR", "The folder: b0.cert, b1.stim and so on");
+    let about = "Whether a folder has evidence about each property of a circuit";
+    with_files(alloc, "all", about, ALL, folder)
+}
+
 /// The command line.
 fn command<'a>(alloc: Global) -> Result<Command<'a>, AllocError> {
-    let safe = Command::new(alloc, "safe")
-        .about("Whether a certificate shows that a circuit is safe")
-        .arg(file(alloc, "FILE", "The circuit (AIGER 1.9, ASCII or binary)"))?
-        .arg(file(alloc, "CERT", "The certificate"))?;
-    let run = Command::new(alloc, "run")
-        .about("Whether a stimulus shows that a property is violated")
-        .arg(file(alloc, "FILE", "The circuit (AIGER 1.9, ASCII or binary)"))?
-        .arg(file(alloc, "STIM", "The stimulus"))?;
-    let all = Command::new(alloc, "all")
-        .about("Whether a folder has evidence about each property of a circuit")
-        .arg(file(alloc, "FILE", "The circuit (AIGER 1.9, ASCII or binary)"))?
-        .arg(file(alloc, "DIR", "The folder: b0.cert, b1.stim and so on"))?;
     Command::new(alloc, "aigcheck")
         .about("Checks evidence about AIGER circuits")
+        .version(VERSION)
+        .after_help(STATUSES)
         .subcommand_required(true)
-        .subcommand(safe)?
-        .subcommand(run)?
-        .subcommand(all)
+        .subcommand(safe_command(alloc)?)?
+        .subcommand(run_command(alloc)?)?
+        .subcommand(all_command(alloc)?)
 }
 
 /// Opens the file that a word names.
@@ -126,8 +173,12 @@ fn wrong(rt: &HostRuntime, error: &Error) -> ExitCode {
     if error.kind() == ErrorKind::OutOfMemory {
         return fault(rt, NoAnswer::Memory);
     }
-    let _ = error.print(rt);
-    ExitCode::from(if error.exit_code() == 0 { YES } else { FAULT })
+    let is_help = error.exit_code() == 0;
+    match given(error.print(rt)) {
+        Ok(()) if is_help => ExitCode::from(YES),
+        Err(why) if is_help => fault(rt, why),
+        _ => ExitCode::from(FAULT),
+    }
 }
 
 fn main(rt: HostRuntime) -> ExitCode {

@@ -2,6 +2,7 @@
 
 use crate::files::{circuit, keep, print};
 use crate::making::{expect_folder, is_same};
+use crate::relevant::relevant_clauses;
 use crate::stop::{DONE, Stop};
 use arguments::{EngineKind, Search};
 use base::{boxed, push};
@@ -9,21 +10,22 @@ use bmc::Bmc;
 use cdcl::Cdcl;
 use cli::{CliError, Verdict, decide, property_named};
 use engine::Engine;
-use graph::{AigerFile, Budget, Property};
+use engine_random::Random;
+use graph::{AigerFile, Budget, Lit, Property, Seq};
 use ic3::Ic3;
 use properties::{Evidence, all_properties, evidence_name};
-use random::Random;
 use std::alloc::Global;
 
 /// The status of a violation.
 const VIOLATED: u8 = 1;
 
-/// Asks the engines for evidence about the property.
+/// Asks the engines for evidence about the property. IC3 tries these clauses first.
 fn ask(
     alloc: Global,
     file: &AigerFile,
     property: Property,
     search: Search,
+    candidates: Seq<Seq<Lit>>,
 ) -> Result<Verdict, CliError> {
     let depth = u32::from(search.depth);
     let mut engines: Vec<Box<dyn Engine>> = Vec::new(alloc);
@@ -33,7 +35,7 @@ fn ask(
         push(&mut engines, engine)?;
     }
     if search.engine.has_inductive() {
-        let inductive = Ic3::new(Cdcl::new(alloc));
+        let inductive = Ic3::with_candidates(Cdcl::new(alloc), candidates);
         let engine: Box<dyn Engine> = boxed(alloc, inductive)?;
         push(&mut engines, engine)?;
     }
@@ -67,7 +69,8 @@ pub fn check(
         return Err(Stop::BadArgument);
     }
     let file = circuit(rt, name)?;
-    let verdict = ask(rt.alloc(), &file, property, search)?;
+    let candidates = Seq::new(rt.alloc());
+    let verdict = ask(rt.alloc(), &file, property, search, candidates)?;
     if let (Verdict::Safe(_), Some(out)) = (&verdict, certificate) {
         keep(rt, out, property, &verdict)?;
     }
@@ -105,8 +108,43 @@ fn joined(one: u8, other: u8) -> u8 {
     }
 }
 
+/// The clauses of the certificate, where it is of the circuit itself and not of a shadow circuit.
+fn clauses_of(property: Property, verdict: Verdict) -> Option<Seq<Seq<Lit>>> {
+    match (property, verdict) {
+        (Property::Justice(_), _) => None,
+        (_, Verdict::Safe(certificate)) => Some(certificate.invariant),
+        _ => None,
+    }
+}
+
+/// Looks for evidence about one of the circuit's properties, beginning with those of the clauses that may matter
+/// to it, and prints the verdict. Evidence goes to the folder of that name first, where one is named. The clauses of a certificate of the
+/// circuit take the place of those before.
+fn check_next(
+    rt: &HostRuntime,
+    name: &str,
+    folder: Option<&str>,
+    search: Search,
+    file: &AigerFile,
+    property: Property,
+    clauses: &mut Seq<Seq<Lit>>,
+) -> Result<u8, Stop> {
+    let candidates = relevant_clauses(rt.alloc(), file.model(), property, clauses.as_slice())?;
+    let verdict = ask(rt.alloc(), file, property, search, candidates)?;
+    if let Some(folder) = folder {
+        keep_in(rt, name, folder, property, &verdict)?;
+    }
+    let status = print(rt, property, &verdict)?;
+    if let Some(found) = clauses_of(property, verdict) {
+        *clauses = found;
+    }
+    Ok(status)
+}
+
 /// Looks for evidence about each property of the circuit in turn, and prints each verdict as it comes.
-/// Evidence goes to the folder of that name first, where one is named.
+/// Evidence goes to the folder of that name first, where one is named. IC3 begins with clauses of the last
+/// certificate of the circuit itself, which are asked for anew: those over latches on which the property or a constraint
+/// rests.
 pub fn check_all(
     rt: &HostRuntime,
     name: &str,
@@ -118,13 +156,11 @@ pub fn check_all(
     }
     let file = circuit(rt, name)?;
     let properties = all_properties(rt.alloc(), file.model()).map_err(CliError::from)?;
+    let mut clauses = Seq::new(rt.alloc());
     let mut status = DONE;
     for property in properties {
-        let verdict = ask(rt.alloc(), &file, property, search)?;
-        if let Some(folder) = folder {
-            keep_in(rt, name, folder, property, &verdict)?;
-        }
-        status = joined(status, print(rt, property, &verdict)?);
+        let found = check_next(rt, name, folder, search, &file, property, &mut clauses)?;
+        status = joined(status, found);
     }
     Ok(status)
 }

@@ -9,8 +9,9 @@ use cli::{
 use graph::{AigerFile, FromRead, Property, ToWrite};
 use std::fs::File;
 use std::io;
-use std::io::Write;
+use std::io::{BufWriter, Write};
 use stimulus::Stimulus;
+use trace::put_trace;
 
 /// The circuit's file of this name.
 pub fn circuit(rt: &HostRuntime, name: &str) -> Result<AigerFile, Stop> {
@@ -26,6 +27,23 @@ pub fn stimulus_of(rt: &HostRuntime, name: &str) -> Result<Stimulus, Stop> {
     Ok(stimulus)
 }
 
+/// What a call put to the buffered writer, once all of it stands with the device. After a failure nothing
+/// more is written: what the buffer still has is dropped.
+fn settled<W: Write + Drop, T: Drop>(
+    out: ToWrite<BufWriter<W>>,
+    put: Result<T, Stop>,
+) -> Result<T, Stop> {
+    let mut out = out.into_inner();
+    let settled = match put {
+        Ok(value) => finished(out.flush()).map(|()| value),
+        Err(stop) => Err(stop),
+    };
+    if settled.is_err() {
+        let _ = out.into_parts();
+    }
+    settled
+}
+
 /// Writes the circuit's text to the file.
 fn write_circuit(
     rt: &HostRuntime,
@@ -35,8 +53,8 @@ fn write_circuit(
 ) -> Result<(), Stop> {
     let out = buffered(rt.alloc(), out)?;
     let mut out = ToWrite::new(out);
-    put_file(file, layout, &mut out)?;
-    finished(out.into_inner().flush())
+    let put = put_file(file, layout, &mut out).map_err(Stop::from);
+    settled(out, put)
 }
 
 /// Makes the file of this name with the circuit's text.
@@ -55,12 +73,15 @@ fn write_evidence(
 ) -> Result<(), Stop> {
     let out = buffered(rt.alloc(), out)?;
     let mut out = ToWrite::new(out);
-    if let Verdict::Safe(certificate) = verdict {
-        put_certificate(certificate, &mut out).map_err(CliError::from)?;
-    } else {
-        show(property, verdict, &mut out).map_err(CliError::from)?;
-    }
-    finished(out.into_inner().flush())
+    let put = match verdict {
+        Verdict::Safe(certificate) => put_certificate(certificate, &mut out).map_err(
+            CliError::from,
+        ),
+        _ => show(property, verdict, &mut out)
+            .map(|_| ())
+            .map_err(CliError::from),
+    };
+    settled(out, put.map_err(Stop::from))
 }
 
 /// Makes the file of this name with a verdict's evidence.
@@ -79,15 +100,27 @@ pub fn keep(
 pub fn print_table(rt: &HostRuntime, file: &AigerFile, stimulus: &Stimulus) -> Result<(), Stop> {
     let out = buffered(rt.alloc(), io::writer(rt))?;
     let mut out = ToWrite::new(out);
-    put_table(rt.alloc(), file.model(), stimulus, &mut out).map_err(CliError::from)?;
-    finished(out.into_inner().flush())
+    let put = put_table(rt.alloc(), file.model(), stimulus, &mut out).map_err(CliError::from);
+    settled(out, put.map_err(Stop::from))
+}
+
+/// Prints the replay of a stimulus by the names of its signals.
+pub fn print_trace(
+    rt: &HostRuntime,
+    file: &AigerFile,
+    stimulus: &Stimulus,
+    all: bool,
+) -> Result<(), Stop> {
+    let out = buffered(rt.alloc(), io::writer(rt))?;
+    let mut out = ToWrite::new(out);
+    let put = put_trace(rt.alloc(), file, stimulus, all, &mut out).map_err(CliError::from);
+    settled(out, put.map_err(Stop::from))
 }
 
 /// Prints a verdict, and answers its status.
 pub fn print(rt: &HostRuntime, property: Property, verdict: &Verdict) -> Result<u8, Stop> {
     let out = buffered(rt.alloc(), io::writer(rt))?;
     let mut out = ToWrite::new(out);
-    let status = show(property, verdict, &mut out).map_err(CliError::from)?;
-    finished(out.into_inner().flush())?;
-    Ok(status)
+    let put = show(property, verdict, &mut out).map_err(CliError::from);
+    settled(out, put.map_err(Stop::from))
 }

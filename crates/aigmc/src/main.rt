@@ -9,6 +9,11 @@
 //! `TIME STATE INPUTS OUTPUTS BAD`, and `TIME STATE` for the state after the last; it looks at neither
 //! constraints nor the property.
 //!
+//! `aigmc trace FILE STIM` prints the same replay by the names of the circuit's symbols, a line for each signal with its value at
+//! each time. Names that begin with `$` are left out without `--all`.
+//!
+//! `aigmc explain NUMBER` says what the number of a fault means, and what to do.
+//!
 //! `aigmc check FILE -p P` looks for evidence about the property P of the circuit FILE (`b0` for the first
 //! bad literal, `j0` for the first justice property, `o0` for the first output of a circuit without bad
 //! literals, constraints, justice properties and fairness literals), and prints what it found as a stimulus:
@@ -30,20 +35,23 @@
 #![tactic(auto)]
 
 mod checking;
+mod explaining;
 mod files;
 mod making;
+mod relevant;
 mod stop;
 
 use arguments::{Request, Wrong, parse};
 use base::push;
 use checking::{check, check_all};
 use cli::{CliError, Layout, ready};
-use files::{circuit, make, print_table, stimulus_of};
+use explaining::explain;
+use files::{circuit, make, print_table, print_trace, stimulus_of};
 use graph::AigerFile;
 use std::alloc::Global;
 use std::env;
 use std::process::ExitCode;
-use stop::{DONE, FAULT, Stop, tell};
+use stop::{DONE, FAULT, Stop, finished, tell};
 
 /// The circuit as the layout takes it: for the binary one in its numbering.
 fn fitting(alloc: Global, file: AigerFile, layout: Layout) -> Result<AigerFile, CliError> {
@@ -70,11 +78,25 @@ fn sim(rt: &HostRuntime, name: &str, stimulus: &str) -> Result<u8, Stop> {
     Ok(DONE)
 }
 
+/// Prints the replay of a stimulus by the names of its signals.
+fn trace(rt: &HostRuntime, name: &str, stimulus: &str, all: bool) -> Result<u8, Stop> {
+    let file = circuit(rt, name)?;
+    let stimulus = stimulus_of(rt, stimulus)?;
+    print_trace(rt, &file, &stimulus, all)?;
+    Ok(DONE)
+}
+
 /// Does what is asked for.
 fn done(rt: &HostRuntime, request: &Request) -> Result<u8, Stop> {
     match request {
         Request::Convert { file, out } => convert(rt, file.as_str(), out.as_str()),
         Request::Sim { file, stimulus } => sim(rt, file.as_str(), stimulus.as_str()),
+        Request::Trace {
+            file,
+            stimulus,
+            all,
+        } => trace(rt, file.as_str(), stimulus.as_str(), *all),
+        Request::Explain { number } => explain(rt, *number),
         Request::Check {
             file,
             property,
@@ -100,8 +122,12 @@ fn refuse(rt: &HostRuntime, wrong: &Wrong) -> ExitCode {
     if wrong.is_out_of_memory() {
         return tell(rt, Stop::Memory);
     }
-    wrong.print(rt);
-    ExitCode::from(if wrong.is_help() { DONE } else { FAULT })
+    let is_help = wrong.is_help();
+    match finished(wrong.print(rt)) {
+        Ok(()) if is_help => ExitCode::from(DONE),
+        Err(stop) if is_help => tell(rt, stop),
+        _ => ExitCode::from(FAULT),
+    }
 }
 
 /// Does what the words ask for, and answers the status.

@@ -1,10 +1,47 @@
-//! The commands and their words.
+//! The commands and their words, and what `--help` says beside them.
 
 use clap::{Arg, ArgAction, Command, value_parser};
 use std::alloc::{AllocError, Global};
 
 /// The engines that may be asked for.
 static ENGINES: [&str; 4] = ["all", "bmc", "ic3", "random"];
+
+/// What `--version` prints behind the program's name.
+static VERSION: &str = "0.1.0 (rattle-kit-13f)";
+
+static STATUSES: &str =
+    "Status: 0 done, 1 a violation (check, all), 2 nothing is known (check, all), 3 failed.
+Each command has a help of its own: aigmc check --help.";
+
+static CHECK: &str = "Status: 0 holds, 1 violated, 2 unknown, 3 failed.
+Examples:
+  aigmc check design.aig -p b0 --cert b0.cert
+  aigmc check design.aig -p j0 --engine bmc --depth 100 > j0.stim";
+
+static ALL: &str = "Status: 1 a property is violated, else 2 one is unknown, else 0; 3 failed.
+Examples:
+  aigmc all design.aig
+  aigmc all design.aig --out evidence --budget 1000000";
+
+static CONVERT: &str = "Status: 0 done, 3 failed.
+Examples:
+  aigmc convert design.aig design.aag
+  aigmc convert design.aag design.aig";
+
+static SIM: &str = "Status: 0 done, 3 failed.
+Examples:
+  aigmc sim design.aig b0.stim
+  aigmc check design.aig -p b0 > b0.stim; aigmc sim design.aig b0.stim";
+
+static TRACE: &str = "Status: 0 done, 3 failed.
+Examples:
+  aigmc trace design.aig b0.stim
+  aigmc trace design.aig b0.stim --all";
+
+static EXPLAIN: &str = "Status: 0 done, 3 there is no such number.
+Examples:
+  aigmc explain 30
+  aigmc explain 45";
 
 /// A file that has to be named.
 fn file<'a>(alloc: Global, name: &'a str, about: &'a str) -> Arg<'a> {
@@ -59,6 +96,7 @@ fn check_command<'a>(alloc: Global) -> Result<Command<'a>, AllocError> {
         .action(ArgAction::Set);
     let check = Command::new(alloc, "check")
         .about("Looks for a violation of a property, or for a certificate that there is none")
+        .after_help(CHECK)
         .arg(file(alloc, "FILE", "The circuit (AIGER 1.9, ASCII or binary)"))?
         .arg(property)?
         .arg(certificate)?;
@@ -74,6 +112,7 @@ fn all_command<'a>(alloc: Global) -> Result<Command<'a>, AllocError> {
         .action(ArgAction::Set);
     let all = Command::new(alloc, "all")
         .about("Looks for evidence about all properties of a circuit, one after the other")
+        .after_help(ALL)
         .arg(file(alloc, "FILE", "The circuit (AIGER 1.9, ASCII or binary)"))?
         .arg(folder)?;
     with_search(alloc, all)
@@ -84,34 +123,67 @@ fn with_files<'a>(
     alloc: Global,
     name: &'a str,
     about: &'a str,
+    help: &'a str,
     second: Arg<'a>,
 ) -> Result<Command<'a>, AllocError> {
     Command::new(alloc, name)
         .about(about)
+        .after_help(help)
         .arg(file(alloc, "FILE", "The circuit (AIGER 1.9, ASCII or binary)"))?
         .arg(second)
 }
 
-/// The command line.
-pub fn command<'a>(alloc: Global) -> Result<Command<'a>, AllocError> {
+/// The words of `convert`.
+fn convert_command<'a>(alloc: Global) -> Result<Command<'a>, AllocError> {
     let out = file(
         alloc,
         "OUT",
         "The file to make: .aag for ASCII, .aig for binary",
     );
+    let about = "Writes a circuit in the other format";
+    with_files(alloc, "convert", about, CONVERT, out)
+}
+
+/// The words of `sim`.
+fn sim_command<'a>(alloc: Global) -> Result<Command<'a>, AllocError> {
     let stimulus = file(alloc, "STIM", "The stimulus");
-    let convert = with_files(alloc, "convert", "Writes a circuit in another layout", out)?;
-    let sim = with_files(
-        alloc,
-        "sim",
-        "Prints the values in a stimulus's replay",
-        stimulus,
-    )?;
+    let about = "Prints the values in a stimulus's replay";
+    with_files(alloc, "sim", about, SIM, stimulus)
+}
+
+/// The words of `trace`.
+fn trace_command<'a>(alloc: Global) -> Result<Command<'a>, AllocError> {
+    let stimulus = file(alloc, "STIM", "The stimulus");
+    let all = Arg::new(alloc, "all")
+        .help("Signals whose names begin with $ too")
+        .long("all")
+        .action(ArgAction::SetTrue);
+    let about = "Prints a stimulus's replay by the names of its signals";
+    with_files(alloc, "trace", about, TRACE, stimulus)?.arg(all)
+}
+
+/// The words of `explain`.
+fn explain_command<'a>(alloc: Global) -> Result<Command<'a>, AllocError> {
+    let number = file(alloc, "NUMBER", "The number of a fault or of a no").value_parser(
+        value_parser!(u8),
+    );
+    Command::new(alloc, "explain")
+        .about("Says what the number of a fault means, and what to do")
+        .after_help(EXPLAIN)
+        .arg(number)
+}
+
+/// The command line.
+pub fn command<'a>(alloc: Global) -> Result<Command<'a>, AllocError> {
     Command::new(alloc, "aigmc")
         .about("Looks for evidence about AIGER circuits")
+        .version(VERSION)
+        .after_help(STATUSES)
         .subcommand_required(true)
         .subcommand(check_command(alloc)?)?
         .subcommand(all_command(alloc)?)?
-        .subcommand(convert)?
-        .subcommand(sim)
+        .subcommand(convert_command(alloc)?)?
+        .subcommand(sim_command(alloc)?)?
+        .subcommand(trace_command(alloc)?)?
+        .subcommand(explain_command(alloc)?)
 }

@@ -60,6 +60,20 @@ pub enum Request {
         /// the stimulus's file
         stimulus: String,
     },
+    /// Print a stimulus's replay by the names of its signals.
+    Trace {
+        /// the circuit's file
+        file: String,
+        /// the stimulus's file
+        stimulus: String,
+        /// whether signals whose names begin with `$` are shown too
+        all: bool,
+    },
+    /// Say what the number of a fault means.
+    Explain {
+        /// the number
+        number: u8,
+    },
     /// Look for evidence about a property.
     Check {
         /// the circuit's file
@@ -153,6 +167,22 @@ fn asked_sim(alloc: Global, words: &ArgMatches<'_>) -> Result<Request, AllocErro
     })
 }
 
+/// What `trace` asks for.
+fn asked_trace(alloc: Global, words: &ArgMatches<'_>) -> Result<Request, AllocError> {
+    Ok(Request::Trace {
+        file: word(alloc, words, "FILE")?,
+        stimulus: word(alloc, words, "STIM")?,
+        all: words.get_flag("all"),
+    })
+}
+
+/// What `explain` asks for.
+fn asked_explanation(words: &ArgMatches<'_>) -> Request {
+    Request::Explain {
+        number: words.get_one::<u8>("NUMBER").unwrap_or(0),
+    }
+}
+
 /// What a command line's words ask for, of which the first is the program's name. There is nothing
 /// where they name no command.
 pub fn parse(alloc: Global, words: &[String]) -> Result<Option<Request>, Wrong> {
@@ -162,6 +192,8 @@ pub fn parse(alloc: Global, words: &[String]) -> Result<Option<Request>, Wrong> 
         Some(("all", words)) => asked_all(alloc, words)?,
         Some(("convert", words)) => asked_convert(alloc, words)?,
         Some(("sim", words)) => asked_sim(alloc, words)?,
+        Some(("trace", words)) => asked_trace(alloc, words)?,
+        Some(("explain", words)) => asked_explanation(words),
         _ => return Ok(None),
     };
     Ok(Some(request))

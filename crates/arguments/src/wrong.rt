@@ -3,6 +3,7 @@
 use clap::Error;
 use clap::error::ErrorKind;
 use std::alloc::AllocError;
+use std::io;
 
 /// Why words ask for nothing that is to be done: they are wrong, or they ask for help.
 #[derive(Drop)]
@@ -36,7 +37,7 @@ impl Wrong {
     }
 
     /// Prints the help to the output, or what is wrong to the error output.
-    pub fn print(&self, rt: &HostRuntime) {
-        let _ = self.error.print(rt);
+    pub fn print(&self, rt: &HostRuntime) -> io::Result<()> {
+        self.error.print(rt)
     }
 }

@@ -30,6 +30,6 @@ pub use reading::read;
 pub use sim_error::SimError;
 pub use stim_error::StimError;
 pub use stim_write_error::StimWriteError;
-pub use table::put_table;
+pub use table::{check_playable, put_table};
 pub use value::Stimulus;
 pub use writing::write;

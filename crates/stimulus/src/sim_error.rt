@@ -43,6 +43,18 @@ impl From<Failed> for SimError {
     }
 }
 
+impl From<Refused> for SimError {
+    ghost use Rattle.std.specs.Prelude.{◌≡◌};
+    ghost use Rattle.base.specs.Witness.{witness};
+    ghost use Rattle.stimulus.specs.declared.sim_error.SimError.TheVariants.{OutOfMemory};
+
+    ghost from_gives = { λ _ e. e ≡ OutOfMemory witness };
+
+    fn from(refused: Refused) -> SimError {
+        SimError::OutOfMemory(refused)
+    }
+}
+
 impl From<ReplayError> for SimError {
     ghost use Rattle.std.specs.Prelude.{◌≡◌};
     ghost use Rattle.stimulus.specs.Numbers.{untold};

@@ -164,7 +164,7 @@ fn put_replay<W: Sink>(
 }
 
 /// Whether the lines have their lengths, and there is an input line.
-fn check_playable(parts: &Parts, initial: &[bool], inputs: &[Seq<bool>]) -> Result<(), SimError>
+pub fn check_playable(parts: &Parts, initial: &[bool], inputs: &[Seq<bool>]) -> Result<(), SimError>
     ensures playable { OnOk result (IsPlayable parts.now initial.now inputs.now) }
     ensures refused { IfErr result (λ e. (e ≢ SimError.Device) × ((before after : Option (List ℕ)) → HasSimCauseIn parts.now initial.now inputs.now before after e)) }
 {

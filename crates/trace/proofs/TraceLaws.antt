@@ -1,0 +1,45 @@
+-- What is put of a trace.
+use Rattle.std.proofs.Common.{◌≡◌, ◌≢◌, ℕ, Bool, List, [], length, Option, refl, sym, ap, ◌∙◌, arith}
+use Rattle.std.specs.List.{flat_map}
+use Rattle.graph.specs.declared.parts.Parts.{Parts}
+use Rattle.graph.specs.File.{File}
+use Rattle.graph.specs.Valuation.{Valuation}
+use Rattle.simulate.specs.Replays.{Replayed}
+use Rattle.stimulus.specs.declared.sim_error.SimError.{SimError}
+use Rattle.stimulus.specs.declared.sim_error.SimError.TheVariants.{NotViolated, LineLength, NoInputLine, InitialReset, Device, OutOfMemory}
+use Rattle.stimulus.specs.Shown.{IsReplay}
+use Rattle.stimulus.specs.Tables.{HasSimCauseIn}
+use Rattle.stimulus.proofs.PlayLaws.{IsOne, one_replay}
+use Rattle.stimulus.proofs.PlaySteps.{played_long}
+use Rattle.trace.specs.declared.bits.Bit.{Bit}
+use Rattle.trace.specs.Columns.{HasValues, values_at}
+use Rattle.trace.specs.Traces.{HasTraceCauseIn}
+
+-- what comes before the sink is the same for a table
+pub trace_cause : (f : File) (all : Bool) (initial : List Bool) (inputs : List (List Bool)) (before after : Option (List ℕ)) (e : SimError) → e ≢ Device →
+    HasSimCauseIn f.model initial inputs before after e → HasTraceCauseIn f all initial inputs before after e
+trace_cause f all initial inputs before after NotViolated fits p = p
+trace_cause f all initial inputs before after (LineLength k) fits p = p
+trace_cause f all initial inputs before after NoInputLine fits p = p
+trace_cause f all initial inputs before after (InitialReset k) fits p = p
+trace_cause f all initial inputs before after Device fits p = absurd (fits refl)
+trace_cause f all initial inputs before after (OutOfMemory refused) fits p = tt
+
+-- all lines were stepped: the values are those of their one replay
+pub record AreOfReplay (m : Parts) (initial : List Bool) (inputs : List (List Bool)) (bits : List Bit) (values : List Bool) : Type 0 where
+  pub replay : List Valuation
+  pub one : IsOne m initial inputs replay
+  pub values_are : (x : List Valuation) → IsReplay m initial inputs x → values ≡ flat_map (values_at bits) x
+  pub long : (x : List Valuation) → IsReplay m initial inputs x → length x ≡ length inputs
+
+pub of_replay : (m : Parts) (initial : List Bool) (inputs : List (List Bool)) (bits : List Bit) (now : Replayed) (values : List Bool) → inputs ≢ [] → HasValues m initial inputs bits (length inputs) now values →
+    AreOfReplay m initial inputs bits values
+of_replay m initial inputs bits now values some h =
+    let one = one_replay m initial inputs now h.valuations some h.played in
+    let long : length h.valuations ≡ length inputs = played_long m initial inputs (length inputs) now h.valuations (omega arith) h.played in
+    record {
+      replay = h.valuations;
+      one = one;
+      values_are = λ x x_is. h.are ∙ ap (flat_map (values_at bits)) (sym (one.only x x_is));
+      long = λ x x_is. ap (λ (r : List Valuation). length r) (one.only x x_is) ∙ long;
+    }
