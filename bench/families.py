@@ -42,11 +42,11 @@ class Circuit:
             result = literal if result == 1 else self.conjunction(result, literal)
         return result
 
-    def text(self, bad):
-        lines = [f"aag {self.variables} {len(self.inputs)} {len(self.latches)} 0 {len(self.gates)} 1"]
+    def text(self, *bad):
+        lines = [f"aag {self.variables} {len(self.inputs)} {len(self.latches)} 0 {len(self.gates)} {len(bad)}"]
         lines += [str(literal) for literal in self.inputs]
         lines += [f"{latch} {following} {reset}" for latch, following, reset in self.latches]
-        lines.append(str(bad))
+        lines += [str(literal) for literal in bad]
         lines += [f"{left} {a} {b}" for left, a, b in self.gates]
         return "\n".join(lines) + "\n"
 
@@ -114,18 +114,21 @@ def safe_counter(bits, limit, bad):
     return circuit.text(is_number(circuit, latches, bad))
 
 
-def ring(stations):
-    """One of the latches is 1, and it goes on where the input allows it; bad: the first and the middle one are 1."""
+def ring(stations, properties=1):
+    """One of the latches is 1, and it goes on where the input allows it; bad: the first and the middle one are 1, the
+    second and the one behind the middle, and so on."""
     circuit = Circuit()
     moves = circuit.add_input()
     latches = [circuit.add_latch(int(k == 0)) for k in range(stations)]
     for k, latch in enumerate(latches):
         circuit.set_next(latch, circuit.choice(moves, latches[k - 1], latch))
-    return circuit.text(circuit.conjunction(latches[0], latches[stations // 2]))
+    opposite = [latches[(k + stations // 2) % stations] for k in range(properties)]
+    return circuit.text(*map(circuit.conjunction, latches, opposite))
 
 
-def safe_arbiter(clients):
-    """A token goes round, and who asks and has it is granted in the next step; bad: the first and the last are granted."""
+def safe_arbiter(clients, properties=1):
+    """A token goes round, and who asks and has it is granted in the next step; bad: the first and the last are granted,
+    the second and the first, the third and the second, and so on."""
     circuit = Circuit()
     asks = [circuit.add_input() for _ in range(clients)]
     token = [circuit.add_latch(int(k == 0)) for k in range(clients)]
@@ -133,26 +136,45 @@ def safe_arbiter(clients):
     for k in range(clients):
         circuit.set_next(token[k], token[k - 1])
         circuit.set_next(granted[k], circuit.conjunction(asks[k], token[k]))
-    return circuit.text(circuit.conjunction(granted[0], granted[-1]))
+    return circuit.text(*[circuit.conjunction(granted[k], granted[k - 1]) for k in range(properties)])
 
 
-def twins(bits):
-    """Two registers with the same feedback take the same input; bad: their last latches differ."""
+def twins(bits, properties=1):
+    """Two registers with the same feedback take the same input; bad: their last latches differ, those before these, and
+    so on."""
     circuit = Circuit()
     fed = circuit.add_input()
-    last = []
+    registers = []
     for _ in range(2):
         latches = [circuit.add_latch() for _ in range(bits)]
         following = circuit.exclusive_or(circuit.exclusive_or(latches[-1], latches[bits // 2]), fed)
         for latch in latches:
             circuit.set_next(latch, following)
             following = latch
-        last.append(latches[-1])
-    return circuit.text(circuit.exclusive_or(*last))
+        registers.append(latches[::-1])
+    pairs = list(zip(*registers))
+    return circuit.text(*[circuit.exclusive_or(*pair) for pair in pairs[:properties]])
 
 
-def credits(places):
-    """A sender has as many credits as the buffer has places, both in unary; bad: the full buffer is sent to."""
+def twins_beside(bits, gates):
+    """Two registers take the same input, and a chain of gates reads them; bad: their last latches differ."""
+    circuit = Circuit()
+    fed, end = circuit.add_input(), circuit.add_input()
+    registers = []
+    for _ in range(2):
+        latches = [circuit.add_latch() for _ in range(bits)]
+        for latch, following in zip(latches, [fed] + latches):
+            circuit.set_next(latch, following)
+        registers.append(latches)
+    for k in range(gates - 3):
+        end = circuit.conjunction(end, registers[k % 2][k // 2 % bits] ^ (k // (2 * bits) % 2)) ^ (k % 3 == 0)
+    circuit.set_next(circuit.add_latch(), end)
+    return circuit.text(circuit.exclusive_or(registers[0][-1], registers[1][-1]))
+
+
+def credits(places, properties=1):
+    """A sender has as many credits as the buffer has places, both in unary; bad: the full buffer is sent to, then: there
+    are more than k credits while all but k places are filled, for k from 0 on."""
     circuit = Circuit()
     asks, takes = circuit.add_input(), circuit.add_input()
     credit = [circuit.add_latch(1) for _ in range(places)]  # latch k: more than k credits
@@ -165,4 +187,5 @@ def credits(places):
             raised = circuit.choice(more, row[k - 1] if k else 1, latch)
             lowered = row[k + 1] if k + 1 < places else 0
             circuit.set_next(latch, circuit.choice(less, lowered, raised))
-    return circuit.text(circuit.conjunction(sends, filled[-1]))
+    over = [circuit.conjunction(credit[k], filled[places - 1 - k]) for k in range(properties - 1)]
+    return circuit.text(circuit.conjunction(sends, filled[-1]), *over)
