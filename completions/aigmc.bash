@@ -1,0 +1,33 @@
+# Completion of aigmc's words for Bash.
+
+_aigmc() {
+    local word=${COMP_WORDS[COMP_CWORD]} before=${COMP_WORDS[COMP_CWORD - 1]} options
+    COMPREPLY=()
+    if [ "$COMP_CWORD" -eq 1 ]; then
+        mapfile -t COMPREPLY < <(compgen -W 'check all convert sim trace explain --help -h --version -V' -- "$word")
+        return
+    fi
+    case $before in
+    --engine)
+        mapfile -t COMPREPLY < <(compgen -W 'all bmc ic3 random' -- "$word")
+        return
+        ;;
+    -p | --depth | --budget | --seed) return ;;
+    --out)
+        mapfile -t COMPREPLY < <(compgen -d -- "$word")
+        return
+        ;;
+    esac
+    case ${COMP_WORDS[1]} in
+    check) options='-p --cert --engine --depth --budget --seed --help -h' ;;
+    all) options='--out --engine --depth --budget --seed --help -h' ;;
+    trace) options='--all --help -h' ;;
+    *) options='--help -h' ;;
+    esac
+    case $word in
+    -*) mapfile -t COMPREPLY < <(compgen -W "$options" -- "$word") ;;
+    *) mapfile -t COMPREPLY < <(compgen -f -- "$word") ;;
+    esac
+}
+
+complete -o filenames -F _aigmc aigmc
