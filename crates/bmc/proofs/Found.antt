@@ -1,142 +1,127 @@
--- A model of an unrolling shows a run.
-use Rattle.std.proofs.Common.{◌≡◌, ◌≢◌, ℕ, zero, suc, ◌+◌, ◌-◌, ◌*◌, ◌<◌, Bool, true, not, inl, inr, List, [], ◌∷◌, length, get_or, All, ℤ, pos, negsuc, unsigned_abs, refl, sym, ◌∙◌, ap, subst, arith}
-use Rattle.std.specs.List.{range_with_len}
+-- What satisfies the clauses is a run.
+use Rattle.std.proofs.Common.{◌≡◌, ◌≢◌, ℕ, zero, suc, ◌+◌, ◌-◌, ◌*◌, ◌<◌, ◌≤◌, Bool, true, false, not, List, [], ◌∷◌, map, length, get_or, All, ℤ, pos, negsuc, inl, inr, refl, sym, ◌∙◌, ap, subst, arith}
+use Rattle.std.proofs.lemmas.List.{get_or_default, get_or-map, length-map}
+use Rattle.std.proofs.lemmas.List.Elements.{All-nil, All-cons, All-head, All-tail, All-contains}
 use Rattle.std.proofs.lemmas.Option.{slice_get-get_or}
-use Rattle.std.proofs.lemmas.List.Elements.{All-head, All-map, All-contains}
-use Rattle.std.proofs.lemmas.List.FromFn.{length-map-range_with_len, get_or-map-range_with_len}
 use Rattle.graph.specs.declared.circuit.Lit.{Lit}
+use Rattle.graph.specs.declared.circuit.Latch.{Latch}
 use Rattle.graph.specs.declared.circuit.Property.TheVariants.{Bad}
 use Rattle.graph.specs.declared.parts.Parts.{Parts}
-use Rattle.graph.specs.Valuation.{place, value_of, defined, IsValuation, state_of}
-use Rattle.graph.specs.Runs.{IsRun, KeepsConstraints}
+use Rattle.graph.specs.Valuation.{variable, place, value_of, Agrees, state_of, inputs_of}
+use Rattle.graph.specs.Runs.{IsRun, IsReset, IsInitial, KeepsConstraints, Steps, next_state}
 use Rattle.graph.specs.Justice.{at}
 use Rattle.graph.specs.WellFormed.{IsWellFormed}
-use Rattle.graph.proofs.Evaluation.{defined_nonzero}
-use Rattle.lrat.specs.Literals.{is_true, IsSatisfied}
+use Rattle.graph.proofs.Evaluation.{inputs_even, latches_even}
+use Rattle.graph.proofs.Gates.{value_of-even}
+use Rattle.graph.proofs.Times.{Starts-from}
+use Rattle.lrat.specs.Literals.{is_true}
 use Rattle.stimulus.specs.declared.value.Stimulus.TheVariants.{Violated}
-use Rattle.stimulus.specs.Shown.{ShowsBad}
-use Rattle.cnf.specs.Clauses.{literal, truth_clause}
-use Rattle.cnf.specs.Formulas.{IsOfTimes, IsOver, bad_literal}
-use Rattle.cnf.specs.Unrolled.{unroll_clauses, laid}
-use Rattle.cnf.proofs.CaseLaws.{bad_in_range}
-use Rattle.cnf.proofs.Counted.{unroll_over}
-use Rattle.cnf.proofs.Formed.{IsKnown, literal_from, bad_known, allows_time, defined_small}
-use Rattle.cnf.proofs.Listed.{satisfied-unit}
-use Rattle.cnf.proofs.RunLaw.{unroll_law}
-use Rattle.cnf.proofs.Values.{IsLaid, literal_true}
-use Rattle.solver.specs.Answers.{IsModel}
+use Rattle.stimulus.specs.Shown.{Begins, ShowsBad}
+use Rattle.cnf.specs.Formulas.{bad_literal}
+use Rattle.cnf.specs.Meaning.{AreSatisfied}
+use Rattle.cones.specs.Marks.{ExistenceLaw}
+use Rattle.solver.specs.Answers.{IsModel, IsCore, values}
 use Rattle.engine.specs.Findings.{IsForBad}
-use Rattle.bmc.specs.Times.{state_at, inputs_at, lines_of}
-use Rattle.bmc.proofs.Depths.{laid_at, some_bad}
-use Rattle.bmc.proofs.Placed.{valuation_at, valuation_is, place_defined, state_same, run_at, lines_same}
+use Rattle.bmc.specs.declared.cone.Cone.{Cone}
+use Rattle.bmc.specs.declared.encoder.Encoder.{Encoder}
+use Rattle.bmc.specs.Cones.{IsConeOf, latch_at, no_latch}
+use Rattle.bmc.specs.Depths.{IsUnsetAfter}
+use Rattle.bmc.specs.Lines.{IsLine, AreLines}
+use Rattle.bmc.specs.Unrollings.{Leaves, Follows, IsUnrolled, literal_at, input_of, latch_of}
+use Rattle.bmc.proofs.Depths.{some_bad}
 
--- a literal is as true where its variable has the same value
-same_true : (u v : ℕ → Bool) (l : ℤ) → u (unsigned_abs l) ≡ v (unsigned_abs l) → is_true u l ≡ is_true v l
-same_true u v (pos zero) e = refl
-same_true u v (pos (suc n)) e = e
-same_true u v (negsuc n) e = ap not e
+-- a circuit's run from a state with these inputs
+record IsReplayed (m : Parts) (st : List Bool) (lines : List (List Bool)) : Type 0 where
+  replay : List (List Bool)
+  agrees : All (Agrees m) replay
+  has_inputs : map (inputs_of m) replay ≡ lines
+  steps : Steps m replay
+  begins : 0 < length replay → state_of m (at replay 0) ≡ st
 
-same_satisfied : (u v : ℕ → Bool) (cs : List (List ℤ)) → All (All (λ l. u (unsigned_abs l) ≡ v (unsigned_abs l))) cs → All (IsSatisfied v) cs → All (IsSatisfied u) cs
-same_satisfied u v cs same all k d k_in =
-    let one : IsSatisfied v (get_or cs k d) = all k d k_in in
-    (one.0, one.1, same_true u v one.0 (All-contains (λ l. u (unsigned_abs l) ≡ v (unsigned_abs l)) (get_or cs k d) one.0 (same k d k_in) one.1) ∙ one.2)
+steps_cons : (m : Parts) (w : List Bool) (r : List (List Bool)) → Steps m r → (0 < length r → state_of m (at r 0) ≡ next_state m w) → Steps m (w ∷ r)
+steps_cons m w [] steps begins = tt
+steps_cons m w (x ∷ r) steps begins = (begins (omega arith), steps)
 
-pos_true : (v : ℕ → Bool) (k : ℕ) → k ≢ 0 → is_true v (pos k) ≡ true → v k ≡ true
-pos_true v zero ne e = absurd (ne refl)
-pos_true v (suc k) ne e = e
-
--- the truth of each time is true
-truth_on : (m : Parts) (v : ℕ → Bool) (cs : List (List ℤ)) (times t : ℕ) → IsOver m times cs → All (IsSatisfied v) cs → t < times → v (t * (m.max_var + 1) + m.max_var + 1) ≡ true
-truth_on m v cs times t over all t_in =
-    pos_true v (t * (m.max_var + 1) + m.max_var + 1) (λ e. omega (arith, e))
-    (satisfied-unit v (pos (t * (m.max_var + 1) + m.max_var + 1)) (All-contains (IsSatisfied v) cs (truth_clause m.max_var (t * (m.max_var + 1))) all (over.truths t t_in)))
-
--- the valuations of the first times
-abbrev first_times : Parts → List Bool → ℕ → List (List Bool)
-first_times m b times = run_at m b (range_with_len 0 times)
-
-times_length : (m : Parts) (b : List Bool) (times : ℕ) → length (first_times m b times) ≡ times
-times_length m b times = length-map-range_with_len (λ t. valuation_at m b (t * (m.max_var + 1))) 0 times
-
-times_are : (m : Parts) (b : List Bool) (times : ℕ) → IsWellFormed m → All (IsValuation m) (first_times m b times)
-times_are m b times well = All-map (IsValuation m) (λ t. valuation_at m b (t * (m.max_var + 1))) (range_with_len 0 times)
-    (λ k d k_in. valuation_is m b (get_or (range_with_len 0 times) k d * (m.max_var + 1)) well)
-
--- laid end to end they have the values of the model, wherever a clause can look
-same_there : (m : Parts) (b : List Bool) (times u : ℕ) → IsWellFormed m → ((t : ℕ) → t < times → place b (t * (m.max_var + 1) + m.max_var + 1) ≡ true) → IsOfTimes m times u →
-    place (laid (first_times m b times)) u ≡ place b u
-same_there m b times u well truths (t, v, t_in, is, which) =
-    let n : ℕ = m.max_var in
-    let r : List (List Bool) = first_times m b times in
-    let o : ℕ = t * (n + 1) in
-    let at_time : at r t ≡ valuation_at m b o = get_or-map-range_with_len (λ s. valuation_at m b (s * (m.max_var + 1))) 0 times t t [] t_in (omega arith) in
-    let lies : IsLaid (place (laid r)) o n (at r t) = laid_at m r t o (times_are m b times well) (omega (arith, t_in, times_length m b times)) refl in
-    elim which [
-      | inl top ↦
-          let here : u ≡ o + n + 1 = omega (arith, is, top) in
-          ap (place (laid r)) here ∙ lies.top ∙ sym (truths t t_in) ∙ ap (place b) (sym here)
-      | inr found ↦
-          let nz : v ≢ 0 = All-contains (λ x. x ≢ 0) (defined m) v (defined_nonzero m well) found in
-          ap (place (laid r)) is ∙ lies.inside v nz (defined_small m v well found) ∙ ap (λ w. place w v) at_time ∙ place_defined m b o v well found ∙ ap (place b) (sym is)
-    ]
-
--- the run that the model is
-record IsFound (m : Parts) (b : List Bool) (k : ℕ) : Type 0 where
-  runs : IsRun m (first_times m b (suc k))
-  keeps : KeepsConstraints m (first_times m b (suc k))
-  sets : value_of (at (first_times m b (suc k)) k) (bad_literal m 0) ≡ true
-
-found : (m : Parts) (b : List Bool) (k vars : ℕ) → IsWellFormed m → 0 < length m.bad → IsModel vars (unroll_clauses m k) (literal m.max_var (k * (m.max_var + 1)) (bad_literal m 0) ∷ []) b →
-    IsFound m b k
-found m b k vars well some model =
-    let cs : List (List ℤ) = unroll_clauses m k in
-    let a : Lit = bad_literal m 0 in
-    let o : ℕ = k * (m.max_var + 1) in
-    let l : ℤ = literal m.max_var o a in
-    let times : k + 1 ≡ suc k = omega arith in
-    let over : IsOver m (suc k) cs = subst (λ n. IsOver m n cs) times (unroll_over m k well) in
-    let r : List (List Bool) = first_times m b (suc k) in
-    let len : length r ≡ k + 1 = times_length m b (suc k) ∙ sym times in
-    let u : ℕ → Bool = place (laid r) in
-    let vals : All (IsValuation m) r = times_are m b (suc k) well in
-    let there : (x : ℕ) → IsOfTimes m (suc k) x → u x ≡ place b x = λ x h. same_there m b (suc k) x well (λ t t_in. truth_on m (place b) cs (suc k) t over model.satisfied t_in) h in
-    let sat : All (IsSatisfied u) cs = same_satisfied u (place b) cs (λ i d i_in j e j_in. there (unsigned_abs (get_or (get_or cs i d) j e)) (over.defined_only i d i_in j e j_in)) model.satisfied in
-    let both = (unroll_law m k well r len vals).1 sat in
-    let known : IsKnown m a = bad_known m well 0 (record { 0 = 0 }) some in
-    let range = bad_in_range m well 0 (record { 0 = 0 }) some in
-    let from = literal_from (IsOfTimes m (suc k)) m o a (allows_time m (suc k) k o (omega arith) refl) known in
-    let on : is_true (place b) l ≡ true = All-head (λ x. is_true (place b) x ≡ true) l [] model.assumed in
+replayed : (m : Parts) (st : List Bool) (lines : List (List Bool)) → ExistenceLaw m → length st ≡ length m.latches → All (λ l. length l ≡ length m.inputs) lines → IsReplayed m st lines
+replayed m st [] exist long all = record { replay = []; agrees = All-nil (Agrees m); has_inputs = refl; steps = tt; begins = λ none. absurd (omega (arith, none)) }
+replayed m st (l ∷ ls) exist long all =
+    let w = exist st l long (All-head (λ (x : List Bool). length x ≡ length m.inputs) l ls all) in
+    let rest = replayed m (next_state m w.0) ls exist (length-map m.latches (λ x. value_of w.0 x.next)) (All-tail (λ (x : List Bool). length x ≡ length m.inputs) l ls all) in
     record {
-      runs = both.0;
-      keeps = both.1;
-      sets = sym (literal_true u o m.max_var (at r k) a (laid_at m r k o vals (omega (arith, len)) refl) range) ∙ same_true u (place b) l (there (unsigned_abs l) from.1) ∙ on;
+      replay = w.0 ∷ rest.replay;
+      agrees = All-cons (Agrees m) w.0 rest.replay w.1 rest.agrees;
+      has_inputs = λ i. w.3 i ∷ rest.has_inputs i;
+      steps = steps_cons m w.0 rest.replay rest.steps rest.begins;
+      begins = λ some. w.2;
     }
 
-pub lines_length : (m : Parts) (b : List Bool) (times : ℕ) → length (lines_of m b times) ≡ times
-lines_length m b times = length-map-range_with_len (λ t. inputs_at m b (t * (m.max_var + 1))) 0 times
+-- a core of the bad literal says that no run of so many steps ends with it
+pub core_unset : (m : Parts) (c : Cone) (s : Leaves) (state : List ℤ) (e : Encoder) (cs : List (List ℤ)) (steps : ℕ) (l : ℤ) (core : List ℤ) → IsUnrolled m c s state e cs → length s.firsts ≡ steps + 1 →
+    ((r : List (List Bool)) (v : ℕ → Bool) → Follows m c s r v → AreSatisfied v cs → steps < length r → is_true v l ≡ value_of (at r steps) (bad_literal m 0)) →
+    IsCore cs (l ∷ []) core → IsUnsetAfter m steps
+core_unset m c s state e cs steps l core h times stands is r run keeps len set =
+    let found = h.exists r run keeps (omega (arith, times, len)) in
+    let v : ℕ → Bool = found.0 in
+    let last : steps ≡ length r - 1 = omega (arith, len) in
+    let on : is_true v l ≡ true = stands r v found.1 found.2 (omega (arith, len)) ∙ ap (λ t. value_of (at r t) (bad_literal m 0)) last ∙ set in
+    let assumed : All (λ x. is_true v x ≡ true) (l ∷ []) = All-cons (λ x. is_true v x ≡ true) l [] on (All-nil (λ x. is_true v x ≡ true)) in
+    is.refuted v found.2 (λ i d i_in. All-contains (λ x. is_true v x ≡ true) (l ∷ []) (get_or core i d) assumed (is.among i d i_in))
 
--- what is read off a model shows the bad literal
-pub run_shown : (m : Parts) (b : List Bool) (k vars : ℕ) → IsWellFormed m → IsForBad m → IsModel vars (unroll_clauses m k) (literal m.max_var (k * (m.max_var + 1)) (bad_literal m 0) ∷ []) b →
-    ShowsBad m (Violated (Bad 0) (state_at m b 0) (lines_of m b (k + 1)))
-run_shown m b k vars well for_bad model =
-    let some = some_bad m for_bad in
-    let r : List (List Bool) = first_times m b (suc k) in
-    let is = found m b k vars well some model in
-    let times : suc k ≡ k + 1 = omega arith in
-    let last : length r - 1 ≡ k = omega (arith, times_length m b (suc k)) in
-    let first : 0 * (m.max_var + 1) ≡ 0 = omega arith in
-    let begins : state_of m (valuation_at m b (0 * (m.max_var + 1))) ≡ state_at m b 0 = rw first (state_same m b 0 well) in
+-- the values of a model follow the run that is read from them
+model_follows : (m : Parts) (c : Cone) (s : Leaves) (b : List Bool) (lines : List (List Bool)) (r : List (List Bool)) → IsWellFormed m → IsConeOf m c → length s.initial ≡ length m.latches → IsRun m r →
+    AreLines m c b s.firsts lines → map (inputs_of m) r ≡ lines → state_of m (at r 0) ≡ map (is_true (values b)) s.initial → Follows m c s r (values b)
+model_follows m c s b lines r well cone whole run are has_inputs begins = record {
+  runs = run;
+  state = λ k k_in.
+      let p : ℕ = get_or c.latches.items k 0 in
+      let p_in : p < length m.latches = cone.latches k 0 k_in in
+      let even = (latches_even m well p no_latch p_in).1 in
+      sym (get_or-map (is_true (values b)) s.initial p (negsuc 0) false (omega (arith, p_in, whole))) ∙ ap (λ q. get_or q p false) (sym begins) ∙ get_or-map (λ (l : Latch). value_of (at r 0) l.lit) m.latches p no_latch false p_in
+      ∙ value_of-even (at r 0) (latch_of m c k) even;
+  inputs = λ t k t_in t_r k_in.
+      let p : ℕ = get_or c.inputs.items k 0 in
+      let p_in : p < length m.inputs = cone.inputs k 0 k_in in
+      let blank : Lit = record { 0 = 0 } in
+      let even = (inputs_even m well p blank p_in).1 in
+      let line : inputs_of m (at r t) ≡ get_or lines t [] = sym (get_or-map (inputs_of m) r t [] [] t_r) ∙ ap (λ q. get_or q t []) has_inputs in
+      sym ((are.each t t_in).inputs k k_in) ∙ ap (λ q. get_or q p false) (sym line) ∙ get_or-map (value_of (at r t)) m.inputs p blank false p_in ∙ value_of-even (at r t) (get_or m.inputs p blank) even;
+}
+
+begins_of : (m : Parts) (st : List Bool) (r : List (List Bool)) → 0 < length r → state_of m (at r 0) ≡ st → Begins m st r
+begins_of m st [] some is = absurd (omega (arith, some))
+begins_of m st (w ∷ r) some is = is
+
+-- what is read from a model shows the bad literal
+pub model_shows : (m : Parts) (c : Cone) (s : Leaves) (state : List ℤ) (e : Encoder) (cs : List (List ℤ)) (steps vars : ℕ) (l : ℤ) (b : List Bool) (lines : List (List Bool)) → IsWellFormed m → IsForBad m → ExistenceLaw m →
+    IsConeOf m c → IsUnrolled m c s state e cs → length s.firsts ≡ steps + 1 →
+    ((r : List (List Bool)) (v : ℕ → Bool) → Follows m c s r v → AreSatisfied v cs → steps < length r → is_true v l ≡ value_of (at r steps) (bad_literal m 0)) →
+    IsModel vars cs (l ∷ []) b → AreLines m c b s.firsts lines → ShowsBad m (Violated (Bad 0) (map (is_true (values b)) s.initial) lines)
+model_shows m c s state e cs steps vars l b lines well for_bad exist cone h times stands model are =
+    let v : ℕ → Bool = values b in
+    let st : List Bool = map (is_true v) s.initial in
+    let st_long : length st ≡ length m.latches = length-map s.initial (is_true v) ∙ h.initial.whole in
+    let rep = replayed m st lines exist st_long (λ t d t_in. ap length (sym (get_or_default lines t [] d t_in)) ∙ (are.each t (omega (arith, t_in, are.whole))).whole) in
+    let r : List (List Bool) = rep.replay in
+    let r_long : length r ≡ steps + 1 = sym (length-map r (inputs_of m)) ∙ ap length rep.has_inputs ∙ are.whole ∙ times in
+    let begins : state_of m (at r 0) ≡ st = rep.begins (omega (arith, r_long)) in
+    let value_at_latch : (k : ℕ) → k < length m.latches → value_of (at r 0) (latch_at m.latches k).lit ≡ is_true v (literal_at s.initial k) = λ k k_in.
+    sym (get_or-map (λ (x : Latch). value_of (at r 0) x.lit) m.latches k no_latch false k_in) ∙ ap (λ q. get_or q k false) begins ∙ get_or-map (is_true v) s.initial k (negsuc 0) false (omega (arith, k_in, h.initial.whole)) in
+    let initial : IsInitial m (at r 0) = λ k d k_in.
+    let same : latch_at m.latches k ≡ get_or m.latches k d = get_or_default m.latches k no_latch d k_in in
+    subst (λ (x : Latch). IsReset (at r 0) x) same (record {
+      low = λ low. value_at_latch k k_in ∙ ap (is_true v) (h.initial.low k k_in low) ∙ ap not (h.encoding.truth v model.satisfied);
+      high = λ high. value_at_latch k k_in ∙ ap (is_true v) (h.initial.high k k_in high) ∙ h.encoding.truth v model.satisfied;
+    }) in
+    let run : IsRun m r = record { agrees = rep.agrees; starts = Starts-from m r (omega (arith, r_long)) initial; steps = rep.steps } in
+    let follows : Follows m c s r v = model_follows m c s b lines r well cone h.initial.whole run are rep.has_inputs begins in
+    let last : length r - 1 ≡ steps = omega (arith, r_long) in
+    let on : is_true v l ≡ true = All-head (λ x. is_true v x ≡ true) l [] model.assumed in
     record {
       bad = bad_literal m 0;
       replay = r;
-      watched = slice_get-get_or m.bad 0 (record { 0 = 0 }) some;
-      replays = record {
-        agrees = is.runs.agrees;
-        begins = begins;
-        has_inputs = lines_same m b (range_with_len 0 (suc k)) well ∙ ap (lines_of m b) times;
-        steps = is.runs.steps;
-      };
-      runs = is.runs;
-      keeps = is.keeps;
-      sets = ap (λ t. value_of (at r t) (bad_literal m 0)) last ∙ is.sets;
+      watched = slice_get-get_or m.bad 0 (record { 0 = 0 }) (some_bad m for_bad);
+      replays = record { agrees = rep.agrees; begins = begins_of m st r (omega (arith, r_long)) begins; has_inputs = rep.has_inputs; steps = rep.steps };
+      runs = run;
+      keeps = λ t d t_in. subst (λ w. All (λ a. value_of w a ≡ true) m.constraints) (get_or_default r t [] d t_in) (h.keeps r v follows model.satisfied t (omega (arith, t_in, r_long, times)) t_in);
+      sets = ap (λ t. value_of (at r t) (bad_literal m 0)) last ∙ sym (stands r v follows model.satisfied (omega (arith, r_long))) ∙ on;
     }

@@ -1,6 +1,12 @@
 pub mod Depths
-pub mod Placed
+pub mod Negated
+pub mod Satisfied
+pub mod Added
+pub mod Encoded
+pub mod Tabled
+pub mod Closed
+pub mod Coned
+pub mod Unrolled
+pub mod Opening
 pub mod Found
-pub mod Stood
-pub mod Said
-pub mod Stated
+pub mod Lined

@@ -1,5 +1,5 @@
 -- What a bounded search finds (Biere, Cimatti, Clarke, Zhu 1999).
-use Rattle.std.specs.Prelude.{◌≡◌, ℕ, zero, suc, ◌+◌, ◌-◌, ◌≤◌, true, List, [], length, ℤ, Option, None, Some}
+use Rattle.std.specs.Prelude.{◌≡◌, ℕ, ◌+◌, ◌-◌, ◌≤◌, true, List, length, Option, None, Some}
 use Rattle.base.specs.Budget.{Steps}
 use Rattle.graph.specs.declared.circuit.Property.TheVariants.{Bad}
 use Rattle.graph.specs.declared.parts.Parts.{Parts}
@@ -8,13 +8,10 @@ use Rattle.graph.specs.Runs.{IsRun, KeepsConstraints}
 use Rattle.stimulus.specs.declared.value.Stimulus.TheVariants as stimulus
 use Rattle.stimulus.specs.Shown.{ShowsBad, last_of}
 use Rattle.cnf.specs.Formulas.{bad_literal}
-use Rattle.cnf.specs.Unrolled.{unroll_clauses}
 use Rattle.engine.specs.Bounds.{IsUnsetFor}
 use Rattle.engine.specs.declared.finding.Finding.{Finding}
 use Rattle.engine.specs.declared.finding.Finding.TheVariants.{Invariant, Run, Unknown}
 use Rattle.engine.specs.declared.finding.Reason.TheVariants.{Budget, Depth, NoEvidence}
-use Rattle.bmc.specs.declared.planned.Reached.{Reached}
-use Rattle.bmc.specs.declared.planned.Reached.TheVariants.{Nothing, Ends, Unclear}
 
 -- no run of fewer times than the one found that keeps the constraints sets the bad literal
 abbrev pub IsShortest : Parts → Finding → Type 0
@@ -47,14 +44,3 @@ EndsAt m steps after (Unknown NoEvidence) = ⊥
 abbrev pub IsOfSteps : Parts → ℕ → Steps → Option Finding → Type 0
 IsOfSteps m steps after (Some finding) = EndsAt m steps after finding
 IsOfSteps m steps after None = IsUnsetAfter m steps
-
--- what came of the runs of so many steps: none sets the bad literal, what ends the search, or nothing is known
-abbrev pub IsReached : Parts → ℕ → Steps → Reached → Type 0
-IsReached m steps after Nothing = IsUnsetAfter m steps
-IsReached m steps after (Ends finding) = EndsAt m steps after finding
-IsReached m steps after Unclear = Unit {0}
-
--- the clauses of the unrolling of one step less
-abbrev pub clauses_before : Parts → ℕ → List (List ℤ)
-clauses_before m zero = []
-clauses_before m (suc k) = unroll_clauses m k

@@ -1,4 +1,6 @@
 pub mod Depths
+pub mod Encodings
+pub mod Cones
+pub mod Unrollings
 pub mod Times
-pub mod Statements
-pub mod Standing
+pub mod Lines

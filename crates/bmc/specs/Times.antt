@@ -1,32 +1,41 @@
--- The values of an assignment at the times of an unrolling.
-use Rattle.std.specs.Prelude.{ℕ, ◌+◌, ◌*◌, ◌≤◌, Bool, false, List, [], ◌∷◌, map, slice_index_or}
-use Rattle.std.specs.List.{range_with_len}
-use Rattle.graph.specs.declared.circuit.Lit.{Lit}
+-- The times of a circuit in a solver.
+use Rattle.std.specs.Prelude.{◌≡◌, ℕ, ◌+◌, ◌*◌, ◌<◌, ◌≤◌, Bool, List, [], ◌∷◌, length, All, ℤ}
 use Rattle.graph.specs.declared.parts.Parts.{Parts}
-use Rattle.graph.specs.Valuation.{variable}
-use Rattle.cnf.specs.Clauses.{literal}
+use Rattle.lrat.specs.Literals.{IsLiteral}
+use Rattle.bmc.specs.declared.cone.Cone.{Cone}
+use Rattle.bmc.specs.declared.unrolling.Unrolling.{Unrolling}
+use Rattle.graph.specs.Valuation.{Valuation, value_of}
+use Rattle.graph.specs.Justice.{at}
+use Rattle.lrat.specs.Literals.{is_true}
 use Rattle.cnf.specs.Formulas.{bad_literal}
-use Rattle.cnf.specs.Unrolled.{unroll_clauses}
+use Rattle.cnf.specs.Meaning.{AreSatisfied}
 use Rattle.solver.specs.Answers.{IsModel}
+use Rattle.bmc.specs.Unrollings.{Leaves, Follows, IsUnrolled}
 
--- the value of the literal's variable at the time after the first o variables
-abbrev pub value_at : List Bool → ℕ → Lit → Bool
-value_at values o a = slice_index_or values (o + variable a) false
+abbrev pub leaves_of : Unrolling → Leaves
+leaves_of u = record { initial = u.initial.items; firsts = u.firsts.items }
 
--- the values of the latches at that time
-abbrev pub state_at : Parts → List Bool → ℕ → List Bool
-state_at m values o = map (λ l. value_at values o l.lit) m.latches
+-- the clauses are those of the times so far, and the table has room for the next
+pub record IsAt (m : Parts) (c : Cone) (u : Unrolling) (cs : List (List ℤ)) : Type 0 where
+  pub unrolled : IsUnrolled m c (leaves_of u) u.state.items u.encoder cs
+  pub whole : length u.table.items ≡ m.max_var + 1
+  pub literals : All (IsLiteral u.encoder.variables) u.table.items
 
--- the values of the inputs at that time
-abbrev pub inputs_at : Parts → List Bool → ℕ → List Bool
-inputs_at m values o = map (value_at values o) m.inputs
+-- there are variables for so many times more
+abbrev pub HasRoom : Cone → ℕ → Unrolling → ℕ → Type 0
+HasRoom c times u vars = u.encoder.variables + times * (length c.inputs.items + length c.gates.items) ≤ vars
 
--- the values of the inputs at each of the first times
-abbrev pub lines_of : Parts → List Bool → ℕ → List (List Bool)
-lines_of m values times = map (λ t. inputs_at m values (t * (m.max_var + 1))) (range_with_len 0 times)
+-- the literal has the bad literal's value at that time of each run that an assignment follows which satisfies the clauses
+abbrev pub StandsForBad : Parts → Cone → Leaves → List (List ℤ) → ℕ → ℤ → Type 0
+StandsForBad m c s cs steps l = (r : List Valuation) (v : ℕ → Bool) → Follows m c s r v → AreSatisfied v cs → steps < length r → is_true v l ≡ value_of (at r steps) (bad_literal m 0)
 
--- a model of the unrolling of so many steps, by which the bad literal is true at the last time
-pub record IsBadModel (m : Parts) (steps : ℕ) (values : List Bool) : Type 0 where
+-- a model of the clauses by which the bad literal is true at the last time
+pub record IsBadModel (m : Parts) (c : Cone) (u : Unrolling) (steps : ℕ) (b : List Bool) : Type 0 where
+  pub clauses : List (List ℤ)
   pub vars : ℕ
-  pub enough : (steps + 1) * (m.max_var + 1) ≤ vars
-  pub model : IsModel vars (unroll_clauses m steps) (literal m.max_var (steps * (m.max_var + 1)) (bad_literal m 0) ∷ []) values
+  pub literal : ℤ
+  pub unrolled : IsUnrolled m c (leaves_of u) u.state.items u.encoder clauses
+  pub times : length u.firsts.items ≡ steps + 1
+  pub few : u.encoder.variables ≤ vars
+  pub stands : StandsForBad m c (leaves_of u) clauses steps literal
+  pub model : IsModel vars clauses (literal ∷ []) b

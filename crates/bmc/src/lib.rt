@@ -4,21 +4,20 @@
 //! constraints and set the bad literal at their last time. So the first run that it finds has the
 //! least number of times; where it finds none, no run of up to the depth sets the bad literal.
 //!
-//! The clauses of a circuit over several times only grow: each time's are added to the solver
-//! once, and the bad literal is what is assumed. They say multiplexers as such and leave out the
-//! gates within (`plan`), and what satisfies them is replayed before it is answered. Where a
-//! replay shows nothing, the search begins anew with the whole unrolling (`cnf::extension`). Any
+//! Each time adds its clauses to the solver once, and the bad literal is what is assumed. Only the cone of
+//! the bad literal and the constraints is encoded. A table has the literal of clauses for each of
+//! its variables: a latch has that of its next literal at the time before, or the constant that it
+//! is reset to; a gate has a constant, another literal or one that it shares with all gates of equal
+//! right sides, at any time (structural hashing). What satisfies the clauses is a run, by proof. Any
 //! solver that keeps to `Sat` will do.
 #![tactic(auto)]
 
-mod held;
-mod multiplexer;
-mod plan;
-mod planned;
-mod reach;
+mod clauses;
+mod cone;
+mod encoder;
+mod frame;
 mod reading;
 mod search;
-mod shown;
-mod stating;
+mod unrolling;
 
 pub use search::Bmc;

@@ -1,98 +1,73 @@
-//! Runs, read off the values of an unrolling.
+//! Runs, read from the values of a model.
 
-ghost use Rattle.std.specs.Prelude.{◌≡◌, ◌+◌, ◌*◌, ◌<◌, ◌≤◌, length, IfOk};
-ghost use Rattle.base.specs.Budget.{Steps};
-ghost use Rattle.cnf.specs.Formulas.{IsInRange};
-ghost use Rattle.engine.specs.Findings.{IsForBad};
-ghost use Rattle.bmc.specs.Depths.{EndsAt};
-ghost use Rattle.bmc.specs.Times.{value_at, state_at as state_of_values, inputs_at as inputs_of_values, lines_of, IsBadModel};
+ghost use Rattle.std.specs.Prelude.{◌≡◌, ◌+◌, ◌<◌, ◌≤◌, length, map, All, IfOk, unsigned_abs};
+ghost use Rattle.lrat.specs.Literals.{IsLiteral, is_true};
+ghost use Rattle.solver.specs.Answers.{values as values_of};
+ghost use Rattle.bmc.specs.Cones.{IsConeOf};
+ghost use Rattle.bmc.specs.Lines.{IsLine, AreLines};
 
-use base::Refused;
-use cnf::TimeFrame;
-use engine::Finding;
-use graph::{Lit, Model, Seq};
+use crate::cone::Cone;
+use base::{Refused, filled};
+use graph::{Model, Seq};
 use std::alloc::Global;
 
-/// The value of a literal's variable at a time.
-fn value(values: &[bool], time: TimeFrame, lit: Lit) -> bool
-    requires fits { time.offset + time.max_var < length values.now }
-    requires in_range { IsInRange time.max_var lit }
-    ensures { result ≡ value_at values.now time.offset lit }
+/// Whether the literal is true.
+fn value(values: &[bool], literal: i32) -> bool
+    requires literal { IsLiteral (length values.now) literal }
+    requires inside { unsigned_abs literal < length values.now }
+    ensures { result ≡ is_true (values_of values.now) literal }
 {
-    values[time.offset as usize + lit.variable() as usize]
+    values[literal.unsigned_abs() as usize] == (literal > 0)
 }
 
-/// The values of the latches at a time.
-pub(crate) fn state_at(
-    alloc: Global,
-    circuit: &Model,
-    values: &[bool],
-    time: TimeFrame,
-) -> Result<Seq<bool>, Refused>
-    requires max_var { time.max_var ≡ circuit.now.max_var }
-    requires fits { time.offset + time.max_var < length values.now }
-    ensures { IfOk result (λ s. s ≡ state_of_values circuit.now values.now time.offset) }
+/// The values of the literals.
+pub fn state_of(alloc: Global, values: &[bool], literals: &[i32]) -> Result<Seq<bool>, Refused>
+    requires { All (λ l. IsLiteral (length values.now) l × (unsigned_abs l < length values.now)) literals.now }
+    ensures { IfOk result (λ s. s ≡ map (is_true (values_of values.now)) literals.now) }
 {
-    circuit.parts();
     let mut state = Seq::new(alloc);
-    for latch in circuit.latches() {
-        state.push(value(values, time, latch.lit))?;
+    for literal in literals {
+        state.push(value(values, *literal))?;
     }
     Ok(state)
 }
 
-/// The values of the inputs at a time.
-fn inputs_at(
+/// The values of the circuit's inputs at the time whose inputs have the variables behind the first
+/// ones. An input outside of the cone is false.
+fn line(
     alloc: Global,
     circuit: &Model,
+    cone: &Cone,
     values: &[bool],
-    time: TimeFrame,
+    first: u32,
 ) -> Result<Seq<bool>, Refused>
-    requires max_var { time.max_var ≡ circuit.now.max_var }
-    requires fits { time.offset + time.max_var < length values.now }
-    ensures { IfOk result (λ s. s ≡ inputs_of_values circuit.now values.now time.offset) }
+    requires cone { IsConeOf circuit.now cone.now }
+    requires fits { first + length cone.now.inputs.items < length values.now }
+    ensures { IfOk result (IsLine circuit.now cone.now values.now first) }
 {
     circuit.parts();
-    let mut inputs = Seq::new(alloc);
-    for lit in circuit.inputs() {
-        inputs.push(value(values, time, *lit))?;
+    let mut line = filled(alloc, false, circuit.inputs().len())?;
+    for (index, position) in cone.inputs.iter().enumerate() {
+        line[*position as usize] = values[first as usize + 1 + index];
     }
-    Ok(inputs)
+    Ok(Seq::from_vec(line))
 }
 
-/// The values of the inputs at each of the first times.
-pub(crate) fn lines(
+/// The values of the circuit's inputs at each time.
+pub fn lines(
     alloc: Global,
     circuit: &Model,
+    cone: &Cone,
     values: &[bool],
-    times: u32,
+    firsts: &[u32],
 ) -> Result<Seq<Seq<bool>>, Refused>
-    requires small { times ≤ 256 }
-    requires fits { times * (circuit.now.max_var + 1) < length values.now }
-    ensures { IfOk result (λ s. s ≡ lines_of circuit.now values.now times) }
+    requires cone { IsConeOf circuit.now cone.now }
+    requires fits { All (λ first. first + length cone.now.inputs.items < length values.now) firsts.now }
+    ensures { IfOk result (AreLines circuit.now cone.now values.now firsts.now) }
 {
     let mut lines = Seq::new(alloc);
-    for steps in 0..times {
-        let time = TimeFrame::after(circuit, steps);
-        lines.push(inputs_at(alloc, circuit, values, time)?)?;
+    for first in firsts {
+        lines.push(line(alloc, circuit, cone, values, *first)?)?;
     }
     Ok(lines)
-}
-
-/// The run of so many steps that a model of its unrolling is.
-pub(crate) fn run_of(
-    alloc: Global,
-    circuit: &Model,
-    values: &[bool],
-    steps: u32,
-) -> Result<Finding, Refused>
-    requires small { steps ≤ 255 }
-    requires for_bad { IsForBad circuit.now }
-    requires model { IsBadModel circuit.now steps values.now }
-    ensures { (after : Steps) → IfOk result (EndsAt circuit.now steps after) }
-{
-    circuit.parts();
-    let initial = state_at(alloc, circuit, values, TimeFrame::first(circuit))?;
-    let inputs = lines(alloc, circuit, values, steps + 1)?;
-    Ok(Finding::Run { initial, inputs })
 }

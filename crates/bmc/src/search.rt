@@ -1,15 +1,22 @@
 //! The search through one number of steps after the other.
 
-ghost use Rattle.std.specs.Prelude.{◌≡◌, ◌≤◌, IfOk};
-ghost use Rattle.base.specs.Budget.{Spends};
+ghost use Rattle.std.specs.Prelude.{◌≡◌, ◌+◌, ◌≤◌, length, IfOk, None};
+ghost use Rattle.base.specs.Budget.{Spends, Steps};
+ghost use Rattle.cnf.specs.Tables.{IsTableOf};
 ghost use Rattle.engine.specs.Findings.{IsForBad, IsSo};
-ghost use Rattle.bmc.specs.Depths.{IsShortest, IsWithinDepth};
+ghost use Rattle.bmc.specs.Cones.{IsConeOf};
+ghost use Rattle.bmc.specs.Depths.{EndsAt, IsOfSteps, IsShortest, IsWithinDepth};
+ghost use Rattle.bmc.specs.Times.{IsAt, HasRoom, IsBadModel};
 
-use crate::planned::search_planned;
-use crate::reach::reach;
+use crate::cone::{Cone, cone_of};
+use crate::frame::literal;
+use crate::reading::{lines, state_of};
+use crate::unrolling::{Unrolling, begin};
+use base::Refused;
+use cnf::NextTable;
 use engine::{Engine, EngineError, Finding, Reason};
 use graph::{Budget, Model};
-use solver::Sat;
+use solver::{Answer, Sat};
 use std::alloc::Global;
 
 /// Bounded search (Biere, Cimatti, Clarke, Zhu 1999) through runs of 0 steps, 1 step, up to a
@@ -30,6 +37,68 @@ impl<S> std::marker::Model for Bmc<S> {
     ghost invariant = { λ b. b.depth ≤ 255 };
 }
 
+/// The run that a model is.
+fn run_of(
+    alloc: Global,
+    circuit: &Model,
+    cone: &Cone,
+    unrolling: &Unrolling,
+    values: &[bool],
+    steps: u32,
+) -> Result<Finding, Refused>
+    requires for_bad { IsForBad circuit.now }
+    requires cone { IsConeOf circuit.now cone.now }
+    requires model { IsBadModel circuit.now cone.now unrolling.now steps values.now }
+    ensures { (after : Steps) → IfOk result (EndsAt circuit.now steps after) }
+{
+    circuit.parts();
+    circuit.order();
+    let initial = state_of(alloc, values, unrolling.initial.as_slice())?;
+    let inputs = lines(alloc, circuit, cone, values, unrolling.firsts.as_slice())?;
+    Ok(Finding::Run { initial, inputs })
+}
+
+/// Looks for a run of one step more that sets the bad literal at its last time.
+fn reach<S: Sat>(
+    solver: &mut S,
+    alloc: Global,
+    circuit: &Model,
+    cone: &Cone,
+    nexts: &NextTable,
+    unrolling: &mut Unrolling,
+    steps: u32,
+    budget: &mut Budget,
+) -> Result<Option<Finding>, EngineError>
+    requires for_bad { IsForBad circuit.now }
+    requires cone { IsConeOf circuit.now cone.now }
+    requires nexts { IsTableOf circuit.now.latches nexts.now }
+    requires at { IsAt circuit.now cone.now unrolling.old (S.clauses solver.old) }
+    requires times { length unrolling.old.firsts.items ≡ steps }
+    requires room { HasRoom cone.now 1 unrolling.old (S.vars solver.old) }
+    requires small { S.vars solver.old ≤ 2147483647 }
+    ensures vars { S.vars solver.new ≡ S.vars solver.old }
+    ensures spends { Spends budget.old budget.new }
+    ensures at { IfOk result (λ found. found ≡ None → IsAt circuit.now cone.now unrolling.new (S.clauses solver.new)) }
+    ensures times { IfOk result (λ found. found ≡ None → length unrolling.new.firsts.items ≡ steps + 1) }
+    ensures few { IfOk result (λ found. found ≡ None →
+        unrolling.new.encoder.variables ≤ unrolling.old.encoder.variables + (length cone.now.inputs.items + length cone.now.gates.items)) }
+    ensures lawful { IfOk result (IsOfSteps circuit.now steps budget.new) }
+{
+    if !budget.tick() {
+        return Ok(Some(Finding::Unknown(Reason::Budget)));
+    }
+    circuit.parts();
+    unrolling.encode(solver, alloc, circuit, cone, nexts)?;
+    let bad = literal(unrolling.table.as_slice(), circuit.bad()[0]);
+    match solver.solve(alloc, &[bad], budget)? {
+        Answer::Model(values) => {
+            Ok(Some(run_of(alloc, circuit, cone, unrolling, values.as_slice(), steps)?))
+        },
+        Answer::Core(_) => Ok(None),
+        Answer::Spent => Ok(Some(Finding::Unknown(Reason::Budget))),
+    }
+}
+
 /// Looks through runs of 0 steps, 1 step, up to `depth` steps.
 fn search_up_to<S: Sat>(
     solver: &mut S,
@@ -46,9 +115,20 @@ fn search_up_to<S: Sat>(
     ensures depth { IfOk result (IsWithinDepth depth) }
 {
     circuit.parts();
-    solver.reset(alloc, (depth + 1) * (circuit.max_var() + 1))?;
+    let nexts = NextTable::new(alloc, circuit)?;
+    let cone = cone_of(alloc, circuit, &nexts)?;
+    let mut unrolling = begin(solver, alloc, circuit, &cone, depth + 1)?;
     'deepening: for steps in 0..depth + 1 {
-        match reach(solver, alloc, circuit, steps, budget)? {
+        match reach(
+            solver,
+            alloc,
+            circuit,
+            &cone,
+            &nexts,
+            &mut unrolling,
+            steps,
+            budget,
+        )? {
             Some(finding) => return Ok(finding),
             None => {}
         }
@@ -84,9 +164,6 @@ impl<S: Sat> Engine for Bmc<S> {
         ensures shortest { IfOk result (IsShortest circuit.now) }
         ensures depth { IfOk result (IsWithinDepth self.old) }
     {
-        match search_planned(&mut self.solver, alloc, circuit, self.depth, budget)? {
-            Some(finding) => Ok(finding),
-            None => search_up_to(&mut self.solver, alloc, circuit, self.depth, budget),
-        }
+        search_up_to(&mut self.solver, alloc, circuit, self.depth, budget)
     }
 }

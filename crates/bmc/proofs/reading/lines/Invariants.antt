@@ -1,6 +1,6 @@
-use Rattle.std.proofs.Common.{◌≡◌}
-use Rattle.bmc.specs.Times.{lines_of}
+use Rattle.std.proofs.Common.{take}
+use Rattle.bmc.specs.Lines.{AreLines}
 use Rattle.bmc.proofs.reading.lines.Given as goal
 
-abbrev pub invariant-loop-steps : goal.invariant-loop-steps
-invariant-loop-steps l = l.lines ≡ lines_of l.circuit l.values l.steps
+abbrev pub invariant-loop-first : goal.invariant-loop-first
+invariant-loop-first l = AreLines l.circuit l.cone l.values (take l.first-index l.firsts) l.lines

@@ -1,14 +1,16 @@
-use Rattle.std.proofs.Common.{◌≡◌, ◌+◌, ◌*◌}
+use Rattle.std.proofs.Common.{◌≡◌, ◌+◌, ◌-◌, ◌≤◌, length}
 use Rattle.base.specs.Budget.{Spends}
 use Rattle.graph.specs.declared.circuit.Property.TheVariants.{Bad}
 use Rattle.engine.specs.Bounds.{IsUnsetFor}
-use Rattle.bmc.specs.Depths.{clauses_before}
+use Rattle.bmc.specs.Times.{IsAt, HasRoom}
 use Rattle.bmc.proofs.search.search_up_to.Given as goal
 
 abbrev pub invariant-deepening : goal.invariant-deepening
 invariant-deepening g l = record {
-  vars : g.S.Sat.vars l.solver ≡ (l.depth + 1) * (l.circuit.max_var + 1);
-  clauses : g.S.Sat.clauses l.solver ≡ clauses_before l.circuit l.steps;
+  small : g.S.Sat.vars l.solver ≤ 2147483647;
+  room : HasRoom l.cone (l.depth + 1 - l.steps) l.unrolling (g.S.Sat.vars l.solver);
+  at : IsAt l.circuit l.cone l.unrolling (g.S.Sat.clauses l.solver);
+  times : length l.unrolling.firsts.items ≡ l.steps;
   spends : Spends l.initial.budget l.budget;
   unset : IsUnsetFor l.circuit (Bad 0) l.steps;
 }

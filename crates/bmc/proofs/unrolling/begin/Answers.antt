@@ -1,0 +1,27 @@
+use Rattle.std.proofs.Common.{rules, ◌≡◌, ◌+◌, ◌++◌, ◌∷◌, [], length, map, get_or, replicate, pos, negsuc, sym, ◌∙◌, ap, subst, arith}
+use Rattle.std.proofs.lemmas.List.{get_or-replicate, length-replicate}
+use Rattle.lrat.specs.Literals.{IsLiteral}
+use Rattle.bmc.specs.Unrollings.{literal_at}
+use Rattle.bmc.proofs.Encoded.{false_literal}
+use Rattle.bmc.proofs.Unrolled.{unrolled_begins}
+use Rattle.bmc.proofs.unrolling.begin.Goals as goal
+
+pub returns-clause-at : goal.returns-clause-at
+returns-clause-at g c =
+    let m = c.args.circuit.now in
+    let cone = c.args.cone.now in
+    let initial = c.in_ok-initial.initial.items in
+    let e = c.new-encoder.result in
+    let cs = g.S.Sat.clauses c.add_one.new.solver in
+    let count : e.variables ≡ length cone.latches.items + 1 = search rules in
+    let cs_is : cs ≡ (pos 1 ∷ []) ∷ [] = c.in_ok-add_one.ensures.clauses ∙ ap (λ q. q ++ (pos 1 ∷ []) ∷ []) c.in_ok-reset.ensures.clauses in
+    let state_is : c.in_ok-state.state.items ≡ map (literal_at initial) cone.latches.items = c.in_ok-state.ensures ∙ ap (λ q. map (literal_at q) cone.latches.items) c.deref.ensures.value in
+    let begins = unrolled_begins m cone initial e cs c.parts.ensures.well_formed c.requires.cone c.in_ok-initial.ensures count c.new-encoder.ensures.none cs_is in
+    let n = c.max_var.result + 1 in
+    let table_is : c.in_ok-table.table.items ≡ replicate n (negsuc 0) = c.in_ok-table.ensures in
+    let whole : length c.in_ok-table.table.items ≡ n = ap length table_is ∙ length-replicate n (negsuc 0) in
+    record {
+      unrolled = rw (c.new.ensures.items, state_is) begins;
+      whole = whole ∙ ap (λ q. q + 1) c.max_var.ensures;
+      literals = λ k d k_in. subst (IsLiteral e.variables) (sym (ap (λ q. get_or q k d) table_is ∙ get_or-replicate n k (negsuc 0) d (omega (arith, k_in, whole)))) (false_literal e cs begins.encoding);
+    }

@@ -1,0 +1,60 @@
+use Rattle.std.proofs.Common.{rules, ◌≡◌, ◌+◌, ◌<◌, ℕ, List, ℤ, All, length, set, negsuc, get_or-set_same, ◌∙◌, refl, arith, length-set}
+use Rattle.std.proofs.lemmas.List.Elements.{All-weaker}
+use Rattle.lrat.specs.Literals.{IsLiteral}
+use Rattle.cnf.specs.Formulas.{IsInRange}
+use Rattle.cnf.proofs.CaseLaws.{constraints_in_range}
+use Rattle.bmc.specs.declared.encoder.Encoder.{Encoder}
+use Rattle.bmc.specs.Encodings.{IsEncoding}
+use Rattle.bmc.specs.Unrollings.{AreStates, later}
+use Rattle.bmc.proofs.Encoded.{false_literal}
+use Rattle.bmc.proofs.Negated.{literal_up}
+use Rattle.bmc.proofs.Tabled.{literals_set}
+use Rattle.bmc.proofs.Unrolled.{encoding_later, fresh_later, next_small, states_later, table_begins, unrolled_more}
+use Rattle.bmc.proofs.unrolling.encode_frame.Goals as goal
+
+pub encode_gates-requires-clause-literals : goal.encode_gates-requires-clause-literals
+encode_gates-requires-clause-literals g c =
+    let n : ℕ = c.args.encoder.now.variables in
+    let k : ℕ = n + c.len.result in
+    let long : c.len.result ≡ length c.args.cone.now.inputs.items = search rules in
+    let up : (ls : List ℤ) → All (IsLiteral n) ls → All (IsLiteral k) ls = All-weaker (IsLiteral n) (IsLiteral k) (λ l is. literal_up n k l is (omega arith)) in
+    c.fill_latches.ensures.literals k (up c.args.state.now c.requires.states)
+    (c.fill_inputs.ensures.literals k (omega (arith, long))
+    (literals_set n k c.args.table.now 0 (negsuc 0) c.requires.literals (omega arith) (omega (arith, c.requires.whole)) (literal_up n k (negsuc 0) (false_literal c.args.encoder.now (g.S.Sat.clauses c.args.solver.now) c.requires.encoding) (omega arith))))
+
+pub add_units-requires-clause-range : goal.add_units-requires-clause-range
+add_units-requires-clause-range g c = λ k d k_in.
+    let m = c.args.circuit.now in
+    let all : All (IsInRange m.max_var) c.constraints.result.now = rw c.constraints.ensures (constraints_in_range m c.parts.ensures.well_formed) in
+    let p = all k d k_in in
+    let w1 = c.in_ok-encode_gates.ensures.whole in
+    let w2 = c.fill_latches.ensures.whole in
+    let w3 = c.fill_inputs.ensures.whole in
+    let w4 = length-set c.args.table.now 0 (negsuc 0) in
+    omega (arith, p, w1, w2, w3, w4, c.requires.whole)
+
+pub returns-clause-next : goal.returns-clause-next
+returns-clause-next g c = λ s h.
+    let m = c.args.circuit.now in
+    let cone = c.args.cone.now in
+    let e : Encoder = c.args.encoder.now in
+    let cs = g.S.Sat.clauses c.args.solver.now in
+    let ds = g.S.Sat.clauses c.encode_gates.new.solver in
+    let long : c.len.result ≡ length cone.inputs.items = search rules in
+    let k : ℕ = e.variables + c.len.result in
+    let e1 : Encoder = record { variables = k; conjunctions = e.conjunctions } in
+    let encoding : IsEncoding e1 cs = encoding_later e e1 cs (omega arith) refl c.requires.encoding in
+    let t0 = set c.args.table.now 0 (negsuc 0) in
+    let zero_in : 0 < length c.args.table.now = omega (arith, c.requires.whole) in
+    let literals0 : All (IsLiteral k) t0 =
+    literals_set e.variables k c.args.table.now 0 (negsuc 0) c.requires.literals (omega arith) zero_in (literal_up e.variables k (negsuc 0) (false_literal e cs c.requires.encoding) (omega arith)) in
+    let begins = table_begins m cone (later s e.variables) cs (length s.firsts) e1 t0 encoding (length-set c.args.table.now 0 (negsuc 0) ∙ c.requires.whole) literals0 (get_or-set_same c.args.table.now 0 (negsuc 0) (negsuc 0) zero_in) in
+    let inputs = c.fill_inputs.ensures.table (later s e.variables) cs (length s.firsts) k (omega (arith, long)) (fresh_later m cone s e.variables) begins in
+    let states : AreStates m cone (later s e.variables) cs (length s.firsts) k c.args.state.now = states_later m cone s cs (length s.firsts) e.variables k e.variables c.args.state.now (omega arith) h.states in
+    let latches = c.fill_latches.ensures.table (later s e.variables) cs (length s.firsts) k states inputs in
+    let gates = c.in_ok-encode_gates.ensures.table (later s e.variables) (length s.firsts) latches in
+    let grown = c.in_ok-encode_gates.ensures.grown in
+    let es_is = rw c.constraints.ensures at c.in_ok-add_units.ensures.clauses in
+    rw c.next_state.ensures
+    (unrolled_more m cone s c.args.state.now c.encode_gates.new.table e c.encode_gates.new.encoder cs ds (g.S.Sat.clauses c.add_units.new.solver) c.parts.ensures.well_formed c.requires.cone h
+    (record { grown = rw long at grown.extended; encoding = grown.encoding; stands = gates }) es_is (λ i i_in. next_small m cone i c.parts.ensures.well_formed c.requires.cone i_in))

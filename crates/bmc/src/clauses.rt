@@ -1,0 +1,90 @@
+//! Clauses of few literals, and those of a conjunction.
+
+ghost use Rattle.std.specs.Prelude.{◌≡◌, ◌<◌, ◌≤◌, ◌^◌, ◌++◌, ◌∷◌, [], OnOk, neg_ℤ, pos, unsigned_abs};
+ghost use Rattle.lrat.specs.Literals.{IsLiteral};
+ghost use Rattle.bmc.specs.Encodings.{conjunction_clauses};
+
+use engine::EngineError;
+use solver::Sat;
+use std::alloc::Global;
+
+/// The other literal of a variable.
+pub fn negated(literal: i32) -> i32
+    requires { unsigned_abs literal < 2 ^ 31 }
+    ensures { result ≡ neg_ℤ literal }
+{
+    -literal
+}
+
+/// The literal that is true where its variable is.
+pub fn positive(variable: u32) -> i32
+    requires { variable < 2 ^ 31 }
+    ensures { result ≡ pos variable }
+{
+    variable as i32
+}
+
+/// Adds a clause of one literal.
+pub fn add_one<S: Sat>(solver: &mut S, alloc: Global, literal: i32) -> Result<(), EngineError>
+    requires literal { IsLiteral (S.vars solver.old) literal }
+    ensures vars { S.vars solver.new ≡ S.vars solver.old }
+    ensures clauses { OnOk result (S.clauses solver.new ≡ S.clauses solver.old ++ (literal ∷ []) ∷ []) }
+{
+    solver.add(alloc, &[literal])?;
+    Ok(())
+}
+
+/// Adds a clause of two literals.
+fn add_two<S: Sat>(
+    solver: &mut S,
+    alloc: Global,
+    first: i32,
+    second: i32,
+) -> Result<(), EngineError>
+    requires first { IsLiteral (S.vars solver.old) first }
+    requires second { IsLiteral (S.vars solver.old) second }
+    ensures vars { S.vars solver.new ≡ S.vars solver.old }
+    ensures clauses { OnOk result (S.clauses solver.new ≡ S.clauses solver.old ++ (first ∷ second ∷ []) ∷ []) }
+{
+    solver.add(alloc, &[first, second])?;
+    Ok(())
+}
+
+/// Adds a clause of three literals.
+fn add_three<S: Sat>(
+    solver: &mut S,
+    alloc: Global,
+    first: i32,
+    second: i32,
+    third: i32,
+) -> Result<(), EngineError>
+    requires first { IsLiteral (S.vars solver.old) first }
+    requires second { IsLiteral (S.vars solver.old) second }
+    requires third { IsLiteral (S.vars solver.old) third }
+    ensures vars { S.vars solver.new ≡ S.vars solver.old }
+    ensures clauses { OnOk result (S.clauses solver.new ≡ S.clauses solver.old ++ (first ∷ second ∷ third ∷ []) ∷ []) }
+{
+    solver.add(alloc, &[first, second, third])?;
+    Ok(())
+}
+
+/// Adds the clauses by which the literal is the conjunction of two (Tseitin 1968).
+pub fn add_conjunction<S: Sat>(
+    solver: &mut S,
+    alloc: Global,
+    literal: i32,
+    one: i32,
+    other: i32,
+) -> Result<(), EngineError>
+    requires literal { IsLiteral (S.vars solver.old) literal }
+    requires one { IsLiteral (S.vars solver.old) one }
+    requires other { IsLiteral (S.vars solver.old) other }
+    requires small { S.vars solver.old ≤ 2147483647 }
+    ensures vars { S.vars solver.new ≡ S.vars solver.old }
+    ensures clauses { OnOk result (S.clauses solver.new ≡ S.clauses solver.old ++ conjunction_clauses literal one other) }
+{
+    let denial = negated(literal);
+    add_two(solver, alloc, denial, one)?;
+    add_two(solver, alloc, denial, other)?;
+    add_three(solver, alloc, literal, negated(one), negated(other))
+}

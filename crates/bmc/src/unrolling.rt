@@ -1,0 +1,227 @@
+//! The times of a circuit in a solver, one after the other.
+
+ghost use Rattle.std.specs.Prelude.{◌≡◌, ◌+◌, ◌<◌, ◌≤◌, [], length, map, All, IfOk, OnOk};
+ghost use Rattle.lrat.specs.Literals.{IsLiteral};
+ghost use Rattle.cnf.specs.Clauses.{next_of};
+ghost use Rattle.cnf.specs.Tables.{IsTableOf};
+ghost use Rattle.bmc.specs.Cones.{IsConeOf, latch_at};
+ghost use Rattle.bmc.specs.Encodings.{IsEncoding};
+ghost use Rattle.bmc.specs.Unrollings.{Leaves, IsTable, IsUnrolled, later, constant_of, AreInitial, literal_at, literal_of};
+ghost use Rattle.bmc.specs.Times.{IsAt, HasRoom, leaves_of};
+
+use crate::clauses::{add_one, positive};
+use crate::cone::Cone;
+use crate::encoder::Encoder;
+use crate::frame::{add_units, encode_gates, fill_inputs, fill_latches, literal};
+use base::{Refused, filled, push};
+use cnf::NextTable;
+use engine::EngineError;
+use graph::{Latch, Model};
+use solver::Sat;
+use std::alloc::Global;
+
+/// What is known of the times that were encoded.
+#[derive(Drop)]
+pub struct Unrolling {
+    pub encoder: Encoder,
+    /// the literals of the latches at the first time, by their positions
+    pub initial: Vec<i32>,
+    /// for each time, how many variables come before those of its inputs
+    pub firsts: Vec<u32>,
+    /// the literals of the cone's latches at the next time
+    pub state: Vec<i32>,
+    /// the literals of the cone's variables at the time that was encoded last
+    pub table: Vec<i32>,
+}
+
+/// The constant that the latch is reset to, or what is false.
+fn constant(latch: Latch) -> i32
+    ensures { result ≡ constant_of latch }
+{
+    if latch.reset.0 == 1 { 1 } else { -1 }
+}
+
+/// The literal at a place.
+fn entry(literals: &[i32], place: u32) -> i32
+    requires { place < length literals.now }
+    ensures { result ≡ literal_at literals.now place }
+{
+    literals[place as usize]
+}
+
+/// The constants that the latches are reset to, and what is false for the others.
+fn resets(alloc: Global, latches: &[Latch]) -> Result<Vec<i32>, Refused>
+    ensures { IfOk result (λ initial. initial.items ≡ map constant_of latches.now) }
+{
+    let mut initial = Vec::new(alloc);
+    for latch in latches {
+        push(&mut initial, constant(*latch))?;
+    }
+    Ok(initial)
+}
+
+/// Gives a variable to each of the cone's latches that is reset to no constant: the k-th latch has
+/// the variable k + 2.
+fn open_latches(circuit: &Model, cone: &Cone, initial: &mut [i32])
+    requires cone { IsConeOf circuit.now cone.now }
+    requires constants { initial.old ≡ map constant_of circuit.now.latches }
+    ensures { AreInitial circuit.now cone.now initial.new }
+{
+    circuit.parts();
+    let latches = circuit.latches();
+    for (index, position) in cone.latches.iter().enumerate() {
+        if latches[*position as usize].reset.0 > 1 {
+            initial[*position as usize] = positive(index as u32 + 2);
+        }
+    }
+}
+
+/// The literals of the latches at the first time.
+fn initial_of(alloc: Global, circuit: &Model, cone: &Cone) -> Result<Vec<i32>, Refused>
+    requires cone { IsConeOf circuit.now cone.now }
+    ensures { IfOk result (λ initial. AreInitial circuit.now cone.now initial.items) }
+{
+    circuit.parts();
+    let mut initial = resets(alloc, circuit.latches())?;
+    open_latches(circuit, cone, &mut initial);
+    Ok(initial)
+}
+
+/// The literals of the cone's latches at the first time, among those of all latches.
+fn first_state(alloc: Global, cone: &Cone, initial: &[i32]) -> Result<Vec<i32>, Refused>
+    requires { All (λ i. i < length initial.now) cone.now.latches.items }
+    ensures { IfOk result (λ state. state.items ≡ map (literal_at initial.now) cone.now.latches.items) }
+{
+    let mut state = Vec::new(alloc);
+    for position in &cone.latches {
+        push(&mut state, entry(initial, *position))?;
+    }
+    Ok(state)
+}
+
+/// The literals of the cone's latches at the next time.
+fn next_state(circuit: &Model, cone: &Cone, nexts: &NextTable, table: &[i32], state: &mut [i32])
+    requires cone { IsConeOf circuit.now cone.now }
+    requires nexts { IsTableOf circuit.now.latches nexts.now }
+    requires whole { length table.now ≡ circuit.now.max_var + 1 }
+    requires small { All (IsLiteral 2147483647) table.now }
+    requires lengths { length state.old ≡ length cone.now.latches.items }
+    ensures { state.new ≡ map (λ i. literal_of table.now (next_of circuit.now.latches (latch_at circuit.now.latches i).lit)) cone.now.latches.items }
+{
+    circuit.parts();
+    let latches = circuit.latches();
+    for (index, position) in cone.latches.iter().enumerate() {
+        state[index] = literal(table, nexts.next_of(latches[*position as usize].lit));
+    }
+}
+
+/// No time yet. The solver begins anew with room for so many.
+pub fn begin<S: Sat>(
+    solver: &mut S,
+    alloc: Global,
+    circuit: &Model,
+    cone: &Cone,
+    times: u32,
+) -> Result<Unrolling, EngineError>
+    requires cone { IsConeOf circuit.now cone.now }
+    requires few { times ≤ 256 }
+    ensures at { IfOk result (λ u. IsAt circuit.now cone.now u (S.clauses solver.new)) }
+    ensures none { IfOk result (λ u. u.firsts.items ≡ []) }
+    ensures room { IfOk result (λ u. HasRoom cone.now times u (S.vars solver.new)) }
+    ensures small { OnOk result (S.vars solver.new ≤ 2147483647) }
+{
+    circuit.parts();
+    let used = cone.latches.len() as u32 + 1;
+    let each = cone.inputs.len() as u32 + cone.gates.len() as u32;
+    solver.reset(alloc, used + times * each)?;
+    add_one(solver, alloc, 1)?;
+    let initial = initial_of(alloc, circuit, cone)?;
+    let state = first_state(alloc, cone, &initial)?;
+    let table = filled(alloc, -1, circuit.max_var() as usize + 1)?;
+    let encoder = Encoder::new(alloc, used);
+    Ok(Unrolling {
+        encoder,
+        initial,
+        firsts: Vec::new(alloc),
+        state,
+        table,
+    })
+}
+
+/// Makes the literals of one time and adds its constraints. The state is then that of the next time.
+fn encode_frame<S: Sat>(
+    solver: &mut S,
+    alloc: Global,
+    circuit: &Model,
+    cone: &Cone,
+    nexts: &NextTable,
+    encoder: &mut Encoder,
+    state: &mut [i32],
+    table: &mut [i32],
+) -> Result<(), EngineError>
+    requires cone { IsConeOf circuit.now cone.now }
+    requires nexts { IsTableOf circuit.now.latches nexts.now }
+    requires whole { length table.old ≡ circuit.now.max_var + 1 }
+    requires literals { All (IsLiteral encoder.old.variables) table.old }
+    requires lengths { length state.old ≡ length cone.now.latches.items }
+    requires states { All (IsLiteral encoder.old.variables) state.old }
+    requires encoding { IsEncoding encoder.old (S.clauses solver.old) }
+    requires room { encoder.old.variables + (length cone.now.inputs.items + length cone.now.gates.items) ≤ S.vars solver.old }
+    requires small { S.vars solver.old ≤ 2147483647 }
+    ensures vars { S.vars solver.new ≡ S.vars solver.old }
+    ensures whole { length table.new ≡ length table.old }
+    ensures lengths { length state.new ≡ length state.old }
+    ensures literals { OnOk result (All (IsLiteral encoder.new.variables) table.new) }
+    ensures few { OnOk result (encoder.new.variables ≤ encoder.old.variables + (length cone.now.inputs.items + length cone.now.gates.items)) }
+    ensures next { (s : Leaves) → IsUnrolled circuit.now cone.now s state.old encoder.old (S.clauses solver.old) →
+        OnOk result (IsUnrolled circuit.now cone.now (later s encoder.old.variables) state.new encoder.new (S.clauses solver.new)
+        × IsTable circuit.now cone.now (later s encoder.old.variables) (S.clauses solver.new) (length s.firsts) encoder.new.variables
+        (length cone.now.inputs.items) (length cone.now.latches.items) (length cone.now.gates.items) table.new) }
+{
+    circuit.parts();
+    let first = encoder.variables;
+    encoder.variables += cone.inputs.len() as u32;
+    table[0] = -1;
+    fill_inputs(circuit, cone, first, table);
+    fill_latches(circuit, cone, state, table);
+    encode_gates(solver, alloc, circuit, cone, encoder, table)?;
+    add_units(solver, alloc, table, circuit.constraints())?;
+    next_state(circuit, cone, nexts, table, state);
+    Ok(())
+}
+
+impl Unrolling {
+    /// Makes the literals of the next time, and adds its constraints.
+    pub fn encode<S: Sat>(
+        &mut self,
+        solver: &mut S,
+        alloc: Global,
+        circuit: &Model,
+        cone: &Cone,
+        nexts: &NextTable,
+    ) -> Result<(), EngineError>
+        requires cone { IsConeOf circuit.now cone.now }
+        requires nexts { IsTableOf circuit.now.latches nexts.now }
+        requires at { IsAt circuit.now cone.now self.old (S.clauses solver.old) }
+        requires room { HasRoom cone.now 1 self.old (S.vars solver.old) }
+        requires small { S.vars solver.old ≤ 2147483647 }
+        ensures vars { S.vars solver.new ≡ S.vars solver.old }
+        ensures at { OnOk result (IsAt circuit.now cone.now self.new (S.clauses solver.new)) }
+        ensures stands { OnOk result (IsTable circuit.now cone.now (leaves_of self.new) (S.clauses solver.new) (length self.old.firsts.items) self.new.encoder.variables
+            (length cone.now.inputs.items) (length cone.now.latches.items) (length cone.now.gates.items) self.new.table.items) }
+        ensures more { OnOk result (length self.new.firsts.items ≡ length self.old.firsts.items + 1) }
+        ensures few { OnOk result (self.new.encoder.variables ≤ self.old.encoder.variables + (length cone.now.inputs.items + length cone.now.gates.items)) }
+    {
+        push(&mut self.firsts, self.encoder.variables)?;
+        encode_frame(
+            solver,
+            alloc,
+            circuit,
+            cone,
+            nexts,
+            &mut self.encoder,
+            self.state.as_mut_slice(),
+            self.table.as_mut_slice(),
+        )
+    }
+}
