@@ -14,7 +14,7 @@ use crate::reading::{lines, state_of};
 use crate::unrolling::{Unrolling, begin};
 use base::Refused;
 use cnf::NextTable;
-use engine::{Engine, EngineError, Finding, Reason};
+use engine::{Engine, EngineError, Finding, Progress, Reason, Silent};
 use graph::{Budget, Model};
 use solver::{Answer, Sat};
 use std::alloc::Global;
@@ -22,12 +22,14 @@ use std::alloc::Global;
 /// Bounded search (Biere, Cimatti, Clarke, Zhu 1999) through runs of 0 steps, 1 step, up to a
 /// depth, by any solver. A contract sees the depth alone.
 #[derive(Drop)]
-pub struct Bmc<S> {
+pub struct Bmc<S, P> {
     solver: S,
     depth: u32,
+    /// what hears of each search
+    progress: P,
 }
 
-impl<S> std::marker::Model for Bmc<S> {
+impl<S, P> std::marker::Model for Bmc<S, P> {
     ghost use Rattle.std.specs.Prelude.{ℕ, ◌≤◌};
 
     ghost Value = { ℕ };
@@ -100,11 +102,12 @@ fn reach<S: Sat>(
 }
 
 /// Looks through runs of 0 steps, 1 step, up to `depth` steps.
-fn search_up_to<S: Sat>(
+fn search_up_to<S: Sat, P: Progress>(
     solver: &mut S,
     alloc: Global,
     circuit: &Model,
     depth: u32,
+    progress: &mut P,
     budget: &mut Budget,
 ) -> Result<Finding, EngineError>
     requires small { depth ≤ 255 }
@@ -119,6 +122,7 @@ fn search_up_to<S: Sat>(
     let cone = cone_of(alloc, circuit, &nexts)?;
     let mut unrolling = begin(solver, alloc, circuit, &cone, depth + 1)?;
     'deepening: for steps in 0..depth + 1 {
+        progress.begun(steps, unrolling.encoder.variables, budget);
         match reach(
             solver,
             alloc,
@@ -136,18 +140,35 @@ fn search_up_to<S: Sat>(
     Ok(Finding::Unknown(Reason::Depth(depth)))
 }
 
-impl<S: Sat> Bmc<S> {
+impl<S: Sat> Bmc<S, Silent> {
     /// A search of up to so many steps, at most 255.
-    pub fn new(solver: S, depth: u32) -> Bmc<S>
+    pub fn new(solver: S, depth: u32) -> Bmc<S, Silent>
         requires { depth ≤ 255 }
         ensures { result ≡ depth }
     {
-        Bmc { solver, depth }
+        Bmc {
+            solver,
+            depth,
+            progress: Silent,
+        }
+    }
+
+    /// The same search, of which this hears: each number of steps with which it begins.
+    pub fn with_progress<P: Progress>(self, progress: P) -> Bmc<S, P>
+        ensures { result ≡ self }
+    {
+        Bmc {
+            solver: self.solver,
+            depth: self.depth,
+            progress,
+        }
     }
 }
 
-impl<S: Sat> Engine for Bmc<S> {
+impl<S: Sat, P: Progress> Engine for Bmc<S, P> {
     ghost honest = { λ _. Unit {0} };
+
+    ghost answers = { λ depth m _ r after. IfOk r (IsSo m after) × IfOk r (IsShortest m) × IfOk r (IsWithinDepth depth) };
 
     /// Looks for the shortest run that sets the bad literal. Each number of steps costs a step of
     /// the budget, and what the solver spends.
@@ -164,6 +185,13 @@ impl<S: Sat> Engine for Bmc<S> {
         ensures shortest { IfOk result (IsShortest circuit.now) }
         ensures depth { IfOk result (IsWithinDepth self.old) }
     {
-        search_up_to(&mut self.solver, alloc, circuit, self.depth, budget)
+        search_up_to(
+            &mut self.solver,
+            alloc,
+            circuit,
+            self.depth,
+            &mut self.progress,
+            budget,
+        )
     }
 }

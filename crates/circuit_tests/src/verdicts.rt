@@ -45,6 +45,8 @@ fn invariant(alloc: Global, literal: u32) -> Result<Finding, Refused> {
 impl Engine for Insists {
     ghost honest = { λ _. ⊥ };
 
+    ghost answers = { λ _ _ _ _ _. Unit {0} };
+
     fn find(
         &mut self,
         alloc: Global,

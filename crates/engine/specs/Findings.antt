@@ -1,13 +1,11 @@
 -- What an honest engine's finding says.
-use Rattle.std.specs.Prelude.{◌≡◌, ◌≢◌, List, [], ◌∷◌, map, Option, None, Some, All, AllPairs}
+use Rattle.std.specs.Prelude.{◌≡◌, ◌≢◌, List, [], ◌∷◌, map, All, AllPairs}
 use Rattle.base.specs.Budget.{Steps}
 use Rattle.graph.specs.declared.circuit.Lit.{Lit}
 use Rattle.graph.specs.declared.circuit.Property.TheVariants.{Bad}
 use Rattle.graph.specs.declared.parts.Parts.{Parts}
 use Rattle.graph.specs.Valuation.{variable}
-use Rattle.stimulus.specs.declared.value.Stimulus.{Stimulus}
-use Rattle.stimulus.specs.declared.value.Stimulus.TheVariants as stimulus
-use Rattle.stimulus.specs.declared.value.Stimulus.TheVariants.{Violated, Holds}
+use Rattle.stimulus.specs.declared.value.Stimulus.TheVariants.{Violated}
 use Rattle.stimulus.specs.Shown.{ShowsBad}
 use Rattle.cnf.specs.Formulas.{IsOverLatches, bad_literal}
 use Rattle.cnf.specs.Invariants.{IsInductive}
@@ -44,9 +42,3 @@ abbrev pub IsSo : Parts → Steps → Finding → Type 0
 IsSo m after (Run initial inputs) = ShowsBad m (Violated (Bad 0) initial inputs)
 IsSo m after (Invariant inv) = IsInvariant m inv
 IsSo m after (Unknown reason) = IsHonest m after reason
-
--- the run that a stimulus tells of
-abbrev pub told : Stimulus → Option Finding
-told (Violated property initial inputs) = Some (Run initial inputs)
-told (Holds property) = None
-told (stimulus.Unknown property) = None

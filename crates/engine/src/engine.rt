@@ -1,8 +1,11 @@
 //! What every engine keeps to.
 
-ghost use Rattle.std.specs.Prelude.{IfOk};
-ghost use Rattle.base.specs.Budget.{Spends};
+ghost use Rattle.std.specs.Prelude.{IfOk, Result};
+ghost use Rattle.base.specs.Budget.{Spends, Steps};
+ghost use Rattle.graph.specs.declared.parts.Parts.{Parts};
 ghost use Rattle.engine.specs.Findings.{IsForBad, IsSo};
+ghost use Rattle.engine.specs.declared.engine_error.EngineError.{EngineError};
+ghost use Rattle.engine.specs.declared.finding.Finding.{Finding};
 
 use crate::engine_error::EngineError;
 use crate::finding::Finding;
@@ -13,6 +16,9 @@ use std::alloc::Global;
 pub trait Engine: Drop {
     /// what this engine answers is so
     ghost honest: { Self → Type 0 };
+
+    /// what this engine may answer when it is asked: about a circuit, with so much of the budget, so, with so much left
+    ghost answers: { Self → Parts → Steps → Result Finding EngineError → Steps → Type 0 };
 
     /// Looks for a run that sets the circuit's bad literal, or for an invariant that excludes it. It
     /// begins anew each time, after a refusal too.
@@ -25,5 +31,6 @@ pub trait Engine: Drop {
         requires { IsForBad circuit.now }
         ensures spends { Spends budget.old budget.new }
         ensures stays { honest self.old → honest self.new }
-        ensures so { honest self.old → IfOk result (IsSo circuit.now budget.new) };
+        ensures so { honest self.old → IfOk result (IsSo circuit.now budget.new) }
+        ensures answered { answers self.old circuit.now budget.old result budget.new };
 }

@@ -11,7 +11,7 @@ use thiserror::Error;
 /// Why an engine gave up.
 #[derive(Clone, Copy, Debug, PartialEq, Eq, Error)]
 pub enum EngineError {
-    /// its solver has used up its ids
+    /// its solver has used up its ids, or has not as many variables as it needs
     #[error("over a limit")]
     Limit,
     /// out of memory

@@ -4,15 +4,16 @@
 //! - `Engine` is what every engine keeps to. Its meaning says of each object whether it is honest;
 //!   what an honest one answers is so (`IsSo`): its run shows the bad literal, its invariant is
 //!   inductive, its unknown means what it says. A caller's own engine may be dishonest, so
-//!   whoever asks it checks what it answers.
+//!   whoever asks it checks what it answers. Each engine also says itself what it may answer (`answers`).
+//! - `Progress` hears how far a search has come, and `Silent` is one that does nothing.
 #![tactic(auto)]
 
 mod engine;
 mod engine_error;
 mod finding;
-mod replay;
+mod progress;
 
 pub use engine::Engine;
 pub use engine_error::EngineError;
 pub use finding::{Finding, Reason};
-pub use replay::shown_run;
+pub use progress::{Progress, Silent};

@@ -47,7 +47,11 @@ impl Random {
 }
 
 impl Engine for Random {
+    ghost use Rattle.engine.specs.declared.engine_error.EngineError.TheVariants.{OutOfMemory};
+
     ghost honest = { λ _. Unit {0} };
+
+    ghost answers = { λ _ m _ r after. IfOk r (IsSo m after) × IfOk r IsRunOrSpent × IfErr r (λ e. e ≡ OutOfMemory witness) };
 
     /// Plays batch after batch of 256 runs, from the seed on, and answers the first run that sets the
     /// bad literal.

@@ -1,12 +1,12 @@
 //! Worked circuits: IC3 by backtracking finds an invariant that is certified, or a run that shows the bad
-//! literal, and wastes no budget. `cases/texts.tsv` has the same by the solver of `aigmc`.
+//! literal, wastes no budget, and tells how far it has come. `cases/texts.tsv` has the same by the solver of `aigmc`.
 
 ghost use Rattle.engine.specs.Findings.{IsForBad};
 
 use crate::bounded::circuit;
 use certify::{Certified, certify};
 use checker::check;
-use engine::{Engine, Finding};
+use engine::{Engine, Finding, Progress};
 use graph::{Budget, Lit, Model, Property, Seq};
 use ic3::Ic3;
 use solver::{Plain, Sat};
@@ -84,5 +84,48 @@ fn by_backtracking(rt: HostRuntime) -> Result<(), Fail> {
     for (text, safe) in &WORKED {
         assert!(rt; is_found(rt.alloc(), text, *safe)?, "{text:?}");
     }
+    Ok(())
+}
+
+/// What was heard of a search: the last frame, how many clauses the frames had then, and how many questions.
+#[derive(Drop)]
+struct Heard {
+    frame: u32,
+    clauses: usize,
+    questions: u32,
+}
+
+impl Progress for Heard {
+    fn opened(&mut self, frame: u32, clauses: usize, _budget: &Budget) {
+        self.frame = frame;
+        self.clauses = clauses;
+    }
+
+    fn begun(&mut self, _steps: u32, _variables: u32, _budget: &Budget) {}
+
+    fn asked(&mut self, _budget: &Budget) {
+        self.questions = self.questions.saturating_add(1);
+    }
+}
+
+/// What is heard of the search in the circuit of a text.
+fn heard_of(alloc: Global, text: &[u8]) -> Result<Heard, Fail> {
+    let circuit = circuit(alloc, text)?;
+    let nothing = Heard {
+        frame: 0,
+        clauses: 0,
+        questions: 0,
+    };
+    let mut engine = Ic3::new(Plain::new(alloc)).with_progress(nothing);
+    engine.find(alloc, &circuit, &mut Budget::new(STEPS))?;
+    Ok(engine.into_progress())
+}
+
+/// A latch that holds: frame 0 excludes the bad literal. In frame 1 the state with the latch set is blocked, by one
+/// clause; asked again, it excludes the bad literal. Frame 2 has the clause too.
+#[test]
+fn tells_how_far_it_has_come(rt: HostRuntime) -> Result<(), Fail> {
+    let heard = heard_of(rt.alloc(), WORKED[0].0)?;
+    assert!(rt; heard.frame == 2 && heard.clauses == 1 && heard.questions == 4);
     Ok(())
 }

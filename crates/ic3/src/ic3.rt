@@ -1,30 +1,33 @@
 //! The engine.
 
-ghost use Rattle.std.specs.Prelude.{IfOk};
+ghost use Rattle.std.specs.Prelude.{◌≡◌, IfOk};
 ghost use Rattle.base.specs.Budget.{Spends};
 ghost use Rattle.engine.specs.Findings.{IsForBad, IsSo};
 ghost use Rattle.ic3.specs.Answers.{IsDecided};
 
 use crate::frame_solver::FrameSolver;
-use engine::{Engine, EngineError, Finding};
+use engine::{Engine, EngineError, Finding, Progress, Silent};
 use graph::{Budget, Lit, Model, Seq};
 use solver::Sat;
 use std::alloc::Global;
 
 /// IC3 (Bradley 2011) by any solver.
 #[derive(Drop)]
-pub struct Ic3<S: Sat> {
+pub struct Ic3<S: Sat, P: Progress> {
     frame_solver: FrameSolver<S>,
     /// clauses that are tried first
     candidates: Option<Seq<Seq<Lit>>>,
+    /// what hears of each search
+    progress: P,
 }
 
-impl<S: Sat> Ic3<S> {
+impl<S: Sat> Ic3<S, Silent> {
     /// An engine that asks this solver.
-    pub fn new(solver: S) -> Ic3<S> {
+    pub fn new(solver: S) -> Ic3<S, Silent> {
         Ic3 {
             frame_solver: FrameSolver::new(solver),
             candidates: None,
+            progress: Silent,
         }
     }
 
@@ -32,16 +35,42 @@ impl<S: Sat> Ic3<S> {
     /// clause of the first frame if it has a literal that every initial state sets, and it holds after each step from
     /// such a state; from there it is propagated like any other. So an invariant of the circuit is found again at once. A
     /// clause that is over other variables, or has a latch twice, is passed over.
-    pub fn with_candidates(solver: S, candidates: Seq<Seq<Lit>>) -> Ic3<S> {
+    pub fn with_candidates(solver: S, candidates: Seq<Seq<Lit>>) -> Ic3<S, Silent> {
         Ic3 {
             frame_solver: FrameSolver::new(solver),
             candidates: Some(candidates),
+            progress: Silent,
+        }
+    }
+
+    /// The same engine, whose searches this hears of: each frame that is opened, and each question about the bad
+    /// literal and about states that are to be blocked.
+    pub fn with_progress<P: Progress>(self, progress: P) -> Ic3<S, P>
+        ensures solver { result.frame_solver ≡ self.frame_solver }
+        ensures candidates { result.candidates ≡ self.candidates }
+        ensures progress { result.progress ≡ progress }
+    {
+        Ic3 {
+            frame_solver: self.frame_solver,
+            candidates: self.candidates,
+            progress,
         }
     }
 }
 
-impl<S: Sat> Engine for Ic3<S> {
+impl<S: Sat, P: Progress> Ic3<S, P> {
+    /// What heard of the searches.
+    pub fn into_progress(self) -> P
+        ensures { result ≡ self.progress }
+    {
+        self.progress
+    }
+}
+
+impl<S: Sat, P: Progress> Engine for Ic3<S, P> {
     ghost honest = { λ _. Unit {0} };
+
+    ghost answers = { λ _ m _ r after. IfOk r (IsSo m after) × IfOk r IsDecided };
 
     /// Looks for an invariant that excludes the bad literal, or for a run that sets it. It knows
     /// nothing only where the budget is exhausted. Each candidate, each frame that is opened, each time
@@ -62,6 +91,8 @@ impl<S: Sat> Engine for Ic3<S> {
             Some(clauses) => clauses.as_slice(),
             None => &[],
         };
-        self.frame_solver.search(alloc, circuit, candidates, budget)
+        let progress = &mut self.progress;
+        self.frame_solver
+            .search(alloc, circuit, candidates, progress, budget)
     }
 }

@@ -16,7 +16,7 @@ use crate::lift::Lifting;
 use crate::obligation::{Obligation, obligation_at, obligation_before};
 use crate::run::run_of;
 use base::{Refused, push};
-use engine::{EngineError, Finding, Reason};
+use engine::{EngineError, Finding, Progress, Reason};
 use graph::{Budget, Model};
 use ic3_frames::Frames;
 use ic3_step::Assignment;
@@ -37,7 +37,7 @@ impl<S: Sat> FrameSolver<S> {
     /// does. What is blocked is taken up again in the frames above, so that all of a long way to the
     /// bad literal is blocked at once (Een, Mishchenko, Brayton 2011). Each obligation that is looked
     /// at costs a step of the budget.
-    pub(crate) fn block_obligations(
+    pub(crate) fn block_obligations<P: Progress>(
         &mut self,
         alloc: Global,
         circuit: &Model,
@@ -45,6 +45,7 @@ impl<S: Sat> FrameSolver<S> {
         lifting: &mut Lifting,
         level: u32,
         time: Assignment,
+        progress: &mut P,
         budget: &mut Budget,
     ) -> Result<Option<Finding>, EngineError>
         requires for_bad { IsForBad circuit.now }
@@ -60,6 +61,7 @@ impl<S: Sat> FrameSolver<S> {
         let mut earlier: Vec<Obligation> = Vec::new(alloc);
         let mut now = obligation_at(alloc, circuit, lifting, time, level)?;
         'blocking: while budget.tick() {
+            progress.asked(budget);
             let level = now.level;
             let clause = now.clause.as_slice();
             match self.block(alloc, circuit, frames, level, clause, budget)? {

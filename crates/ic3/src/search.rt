@@ -13,7 +13,7 @@ use crate::bad::AtBad;
 use crate::failures::Failures;
 use crate::frame_solver::FrameSolver;
 use crate::lift::Lifting;
-use engine::{EngineError, Finding, Reason};
+use engine::{EngineError, Finding, Progress, Reason};
 use graph::{Budget, Lit, Model, Seq};
 use ic3_frames::Frames;
 use solver::Sat;
@@ -49,13 +49,14 @@ impl<S: Sat> FrameSolver<S> {
 
     /// Opens the next frame, the first with the candidates, and propagates clauses, until one frame is the same as the
     /// next: that one is an invariant.
-    fn advance(
+    fn advance<P: Progress>(
         &mut self,
         alloc: Global,
         circuit: &Model,
         frames: &mut Frames,
         failures: &mut Failures,
         candidates: &[Seq<Lit>],
+        progress: &mut P,
         budget: &mut Budget,
     ) -> Result<Option<Seq<Seq<Lit>>>, EngineError>
         requires sound { IsSound circuit.now self.old frames.old }
@@ -65,19 +66,22 @@ impl<S: Sat> FrameSolver<S> {
         ensures invariant { IfOk result (λ r. IfSome r (IsInvariant circuit.now)) }
     {
         self.open_next(alloc, circuit, frames)?;
+        progress.opened(frames.top(), frames.entries().len(), budget);
         self.try_candidates(alloc, circuit, frames, candidates, budget)?;
         self.propagate(alloc, circuit, frames, failures, budget)
     }
 
     /// Looks for an invariant that excludes the bad literal, or for a run that sets it, from frames
     /// whose clauses the solver has.
-    fn search_from(
+    fn search_from<P: Progress>(
         &mut self,
         alloc: Global,
         circuit: &Model,
         frames: &mut Frames,
         lifting: &mut Lifting,
+        failures: &mut Failures,
         candidates: &[Seq<Lit>],
+        progress: &mut P,
         budget: &mut Budget,
     ) -> Result<Finding, EngineError>
         requires for_bad { IsForBad circuit.now }
@@ -86,20 +90,22 @@ impl<S: Sat> FrameSolver<S> {
         ensures spends { Spends budget.old budget.new }
         ensures found { IfOk result (IsFound circuit.now budget.new) }
     {
-        let mut failures = Failures::new(alloc);
         'searching: while budget.tick() {
+            progress.asked(budget);
             match self.at_bad(alloc, circuit, frames, budget)? {
                 AtBad::Set(time) => {
                     let top = frames.top();
                     match self.block_obligations(
-                        alloc, circuit, frames, lifting, top, time, budget,
+                        alloc, circuit, frames, lifting, top, time, progress, budget,
                     )? {
                         Some(finding) => return Ok(finding),
                         None => {}
                     }
                 }
                 AtBad::Excluded => {
-                    match self.advance(alloc, circuit, frames, &mut failures, candidates, budget)? {
+                    match self.advance(
+                        alloc, circuit, frames, failures, candidates, progress, budget,
+                    )? {
                         Some(clauses) => return Ok(Finding::Invariant(clauses)),
                         None => {}
                     }
@@ -112,11 +118,12 @@ impl<S: Sat> FrameSolver<S> {
 
     /// Looks for an invariant that excludes the bad literal, or for a run that sets it. The candidates are
     /// tried first.
-    pub(crate) fn search(
+    pub(crate) fn search<P: Progress>(
         &mut self,
         alloc: Global,
         circuit: &Model,
         candidates: &[Seq<Lit>],
+        progress: &mut P,
         budget: &mut Budget,
     ) -> Result<Finding, EngineError>
         requires { IsForBad circuit.now }
@@ -126,12 +133,16 @@ impl<S: Sat> FrameSolver<S> {
         let mut frames = Frames::first(alloc, circuit)?;
         self.load(alloc, circuit, &frames, LEVELS)?;
         let mut lifting = Lifting::new(alloc, circuit)?;
+        let mut failures = Failures::new(alloc);
+        progress.opened(frames.top(), frames.entries().len(), budget);
         self.search_from(
             alloc,
             circuit,
             &mut frames,
             &mut lifting,
+            &mut failures,
             candidates,
+            progress,
             budget,
         )
     }

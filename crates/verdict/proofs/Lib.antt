@@ -1,2 +1,3 @@
+mod Asked
 mod Heard
 mod OnlyBad

@@ -1,3 +1,4 @@
+pub mod Asked
 pub mod Causes
 pub mod Numbers
 pub mod Reasons

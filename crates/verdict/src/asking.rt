@@ -1,6 +1,6 @@
 //! Asking one engine.
 
-ghost use Rattle.std.specs.Prelude.{◌≡◌, IfOk, IfErr};
+ghost use Rattle.std.specs.Prelude.{◌≡◌, IfOk, IfErr, MatchResult};
 ghost use Rattle.std.specs.List.{All};
 ghost use Rattle.checker.specs.Accepted.{IsAcceptedCertificate, IsGood, bad_of, circuit_of};
 ghost use Rattle.cnf.specs.Invariants.{IsInductive};
@@ -9,8 +9,11 @@ ghost use Rattle.stimulus.specs.Shown.{Shows};
 ghost use Rattle.stimulus.specs.Texts.{property_of};
 ghost use Rattle.graph.specs.Properties.{HasProperty};
 ghost use Rattle.engine.specs.Findings.{IsForBad, IsSo};
+ghost use Rattle.base.specs.Witness.{witness};
+ghost use Rattle.verdict.specs.Asked.{IsHeard, IsOfClauses, IsOfReplay, Stops};
 ghost use Rattle.verdict.specs.Causes.{HasCause, of_certify};
 ghost use Rattle.verdict.specs.Verdicts.{IsAsked, IsBacked, IsMeant, IsUnsafe, IsViolation};
+ghost use Rattle.verdict.specs.declared.decide_error.DecideError.TheVariants.{OutOfMemory};
 ghost use Rattle.verdict.specs.declared.verdict.Verdict.TheVariants.{Safe};
 
 use crate::decide_error::DecideError;
@@ -35,6 +38,7 @@ fn ask(
     ensures spends { Spends budget.old budget.new }
     ensures stays { honest engine.old → honest engine.new }
     ensures so { honest engine.old → IfOk result (IsSo circuit.now budget.new) }
+    ensures answered { answers engine.old circuit.now budget.old result budget.new }
 {
     engine.find(alloc, circuit, budget)
 }
@@ -50,6 +54,8 @@ fn judged(
     requires named { property_of stimulus ≡ property }
     ensures backed { IfOk result (IsBacked model.now property) }
     ensures shown { Shows model.now stimulus → IfOk result IsUnsafe }
+    ensures replayed { IfOk result IsOfReplay }
+    ensures memory { IfErr result (λ e. e ≡ OutOfMemory witness) }
     ensures refused { IfErr result (HasCause model.now property) }
 {
     match judge(alloc, model, &stimulus) {
@@ -71,6 +77,8 @@ fn ran(
     requires there { HasProperty model.now property }
     ensures backed { IfOk result (IsBacked model.now property) }
     ensures shown { IsViolation model.now property initial inputs → IfOk result IsUnsafe }
+    ensures replayed { IfOk result IsOfReplay }
+    ensures memory { IfErr result (λ e. e ≡ OutOfMemory witness) }
     ensures refused { IfErr result (HasCause model.now property) }
 {
     match property {
@@ -102,7 +110,7 @@ fn checked(
     requires there { HasProperty model.now property }
     requires named { certificate.property ≡ property }
     ensures backed { IfOk result (IsBacked model.now property) }
-    ensures accepted { IsAcceptedCertificate model.now certificate → IfOk result (λ v. v ≡ Safe certificate) }
+    ensures accepted { IsAcceptedCertificate model.now certificate → MatchResult result (λ v. v ≡ Safe certificate) (λ e. e ≡ OutOfMemory witness) }
     ensures refused { IfErr result (HasCause model.now property) }
 {
     match check(alloc, model, &certificate) {
@@ -126,6 +134,8 @@ fn certified(
     ensures spends { Spends budget.old budget.new }
     ensures backed { IfOk result (IsBacked model.now property) }
     ensures meant { All (IsGood (circuit_of model.now property)) invariant.now → IsInductive (circuit_of model.now property) invariant.now (bad_of model.now property) → IfOk result (IsMeant model.now property budget.new) }
+    ensures comes { IfOk result (IsOfClauses model.now property invariant.now budget.new) }
+    ensures stopped { IfErr result (Stops model.now property invariant.now) }
     ensures refused { IfErr result (HasCause model.now property) }
 {
     match certify(alloc, model, property, invariant, budget) {
@@ -164,6 +174,7 @@ pub fn hear(
     ensures stays { honest engine.old → honest engine.new }
     ensures backed { IfOk result (IsBacked model.now property) }
     ensures meant { honest engine.old → IfOk result (IsMeant model.now property budget.new) }
+    ensures heard { IsHeard (answers engine.old circuit.now) model.now property budget.old result budget.new }
     ensures refused { IfErr result (HasCause model.now property) }
 {
     model.parts();

@@ -13,7 +13,7 @@ pub enum DecideError {
     /// the circuit has no property of this position
     #[error("there is no property {0}")]
     NoProperty(u32),
-    /// an engine is over a limit
+    /// the shadow circuit has too many variables, an engine is over a limit, or `certify` is, of clauses that one found
     #[error("over a limit")]
     Limit,
     /// out of memory

@@ -6,6 +6,7 @@ ghost use Rattle.base.specs.Budget.{Spends};
 ghost use Rattle.checker.specs.Accepted.{circuit_of};
 ghost use Rattle.graph.specs.Properties.{HasProperty};
 ghost use Rattle.engine.specs.declared.finding.Reason.TheVariants.{NoEvidence};
+ghost use Rattle.verdict.specs.Asked.{AskedInOrder, Asks};
 ghost use Rattle.verdict.specs.Causes.{HasCause};
 ghost use Rattle.verdict.specs.Verdicts.{IsAsked, IsBacked, IsMeant};
 ghost use Rattle.verdict.specs.declared.decide_error.DecideError.TheVariants.{Limit};
@@ -13,7 +14,7 @@ ghost use Rattle.verdict.specs.declared.verdict.Verdict.TheVariants.{Unknown};
 
 use crate::asking::hear;
 use crate::decide_error::DecideError;
-use crate::reasons::weightier;
+use crate::reasons::{reason, weightier};
 use crate::verdict::Verdict;
 use engine::{Engine, Reason};
 use graph::{Budget, Model, Property, ReadError};
@@ -73,14 +74,16 @@ fn hear_each(
     ensures spends { Spends budget.old budget.new }
     ensures backed { IfOk result (IsBacked model.now property) }
     ensures honest { All (λ e. honest e) engines.old → 0 < length engines.old → IfOk result (IsMeant model.now property budget.new) }
+    ensures asked { AskedInOrder (λ e. answers e circuit.now) model.now property engines.old engines.new budget.old result budget.new }
     ensures refused { IfErr result (HasCause model.now property) }
     ensures none { length engines.old ≡ 0 → (budget.new ≡ budget.old) × MatchResult result (λ v. v ≡ Unknown NoEvidence) (λ e. e ≡ Limit → ⊥) }
 {
     let mut told = Reason::NoEvidence;
     for engine in engines.iter_mut() {
-        match hear(engine, alloc, model, property, circuit, budget)? {
-            Verdict::Unknown(found) => told = weightier(told, found),
-            verdict => return Ok(verdict),
+        let answer = hear(engine, alloc, model, property, circuit, budget);
+        match reason(&answer) {
+            Some(found) => told = weightier(told, found),
+            None => return answer,
         }
     }
     Ok(Verdict::Unknown(told))
@@ -111,6 +114,9 @@ pub fn decide(
     ensures backed { IfOk result (IsBacked model.now property) }
     // Where all of them are honest, and there is one, the unknown means what it says.
     ensures honest { All (λ e. honest e) engines.old → 0 < length engines.old → IfOk result (IsMeant model.now property budget.new) }
+    // The engines are asked once each, in order, about the circuit that is meant, up to the first that has evidence or refuses. Over a
+    // limit is the shadow circuit, with no engine asked; else an engine said so, or `certify` of clauses that one found.
+    ensures asked { Asks (λ e. answers e) model.now property engines.old engines.new budget.old result budget.new }
     // What is answered is of a property that the circuit has, and what is refused as none is not.
     ensures exists { OnOk result (HasProperty model.now property) }
     ensures refused { IfErr result (HasCause model.now property) }

@@ -1,6 +1,6 @@
 //! What is answered of a property, when engines are asked.
 //!
-//! - `decide` asks each engine once, in order. Whoever wrote the engines, a violation is answered only
+//! - `decide` asks each engine once, in order, up to the first that has evidence or refuses (`Asks`). Whoever wrote the engines, a violation is answered only
 //!   where its replay shows it, and that a property holds only with a certificate that is accepted
 //!   (`IsBacked`). If all of them are honest, what is not known means what
 //!   it says (`IsMeant`): that the budget is exhausted, or how far no run sets the bad literal.

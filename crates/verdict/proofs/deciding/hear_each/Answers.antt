@@ -1,12 +1,30 @@
-use Rattle.std.proofs.Common.{rules}
+use Rattle.std.proofs.Common.{◌≡◌, None, Some, rules, subst}
+use Rattle.verdict.specs.Reasons.{reason_of}
+use Rattle.verdict.proofs.Asked.{all_told, ends_here, rest_more, told_more, why_unknown}
 use Rattle.verdict.proofs.Heard.{weightier_why}
 use Rattle.verdict.proofs.deciding.hear_each.Goals as goal
 
 pub loop-engine-preserved : goal.loop-engine-preserved
-loop-engine-preserved g c = record {
-  spends = search rules;
-  none = search rules;
-  stays = search rules;
-  meant = λ all above. weightier_why c.args.model.now c.args.property c.loop-engine.engine-index c.loop-engine.budget c.hear.new.budget c.loop-engine.told c.in-Unknown.found c.weightier-told.result c.hear.ensures.spends
-      (λ at. (c.loop-engine.invariant.none at).1) (λ after. c.loop-engine.invariant.meant all after) (search rules) c.weightier-told.ensures;
-}
+loop-engine-preserved g c =
+    let unknown : reason_of c.hear-answer.result ≡ Some c.in-Some.found = subst (λ o. o ≡ Some c.in-Some.found) c.reason.ensures c.in-Some.is in
+    record {
+      spends = search rules;
+      none = search rules;
+      stays = search rules;
+      meant = λ all above. weightier_why c.args.model.now c.args.property c.loop-engine.engine-index c.loop-engine.budget c.hear-answer.new.budget c.loop-engine.told c.in-Some.found c.weightier-told.result c.hear-answer.ensures.spends
+          (λ at. (c.loop-engine.invariant.none at).1) (λ after. c.loop-engine.invariant.meant all after)
+          (why_unknown c.args.model.now c.args.property c.hear-answer.new.budget c.hear-answer.result c.in-Some.found unknown (c.hear-answer.ensures.meant (search rules))) c.weightier-told.ensures;
+      heard = told_more _ _ _ _ c.loop-engine.engines c.loop-engine.engine-index c.engine-item.result _ c.loop-engine.told c.in-Some.found c.weightier-told.result c.hear-answer.result
+          c.args.budget.now c.loop-engine.budget c.hear-answer.new.budget c.loop-engine.invariant.behind c.loop-engine-test.true c.loop-engine.invariant.heard c.hear-answer.ensures.heard unknown c.weightier-told.ensures;
+      behind = rest_more _ c.loop-engine.engines c.loop-engine.engine-index c.hear-answer.new.engine c.loop-engine.invariant.behind;
+    }
+
+pub returns-in-None-clause-asked : goal.returns-in-None-clause-asked
+returns-in-None-clause-asked g c =
+    ends_here _ _ _ _ c.loop-engine.engines c.loop-engine.engine-index c.engine-item.result c.hear-answer.new.engine c.loop-engine.told c.hear-answer.result
+    c.args.budget.now c.loop-engine.budget c.hear-answer.new.budget c.loop-engine.invariant.behind c.loop-engine-test.true c.loop-engine.invariant.heard c.hear-answer.ensures.heard
+    (subst (λ o. o ≡ None) c.reason.ensures c.in-None.is)
+
+pub returns-clause-asked : goal.returns-clause-asked
+returns-clause-asked g c =
+    all_told _ _ _ _ _ c.loop-engine.engine-index c.loop-engine.told c.args.budget.now c.loop-engine.budget c.loop-engine-test.false c.loop-engine.invariant.heard

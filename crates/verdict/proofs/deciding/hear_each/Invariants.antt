@@ -1,6 +1,7 @@
-use Rattle.std.proofs.Common.{◌≡◌, ◌<◌, All}
+use Rattle.std.proofs.Common.{◌≡◌, ◌<◌, All, drop, take}
 use Rattle.base.specs.Budget.{Spends}
 use Rattle.engine.specs.declared.finding.Reason.TheVariants.{NoEvidence}
+use Rattle.verdict.specs.Asked.{HaveTold}
 use Rattle.verdict.specs.Verdicts.{IsWhy}
 use Rattle.verdict.proofs.deciding.hear_each.Given as goal
 
@@ -11,4 +12,6 @@ invariant-loop-engine g l =
       none : l.engine-index ≡ 0 → (l.budget ≡ l.initial.budget) × (l.told ≡ NoEvidence);
       stays : All (λ b. (goal.Engine-dyn g (b.vtable, b.value)).honest b.value) l.initial.engines → All (λ b. (goal.Engine-dyn g (b.vtable, b.value)).honest b.value) l.engines;
       meant : All (λ b. (goal.Engine-dyn g (b.vtable, b.value)).honest b.value) l.initial.engines → 0 < l.engine-index → IsWhy l.model l.property l.budget l.told;
+      heard : HaveTold (λ b. (goal.Engine-dyn g (b.vtable, b.value)).answers b.value l.circuit) l.model l.property (take l.engine-index l.initial.engines) NoEvidence l.initial.budget l.told l.budget;
+      behind : drop l.engine-index l.engines ≡ drop l.engine-index l.initial.engines;
     }
