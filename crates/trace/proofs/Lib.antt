@@ -4,3 +4,8 @@ pub mod NameLaws
 pub mod SignalLaws
 pub mod ColumnLaws
 pub mod TraceLaws
+pub mod TextLaws
+pub mod ScopeLaws
+pub mod VariableLaws
+pub mod ChangeLaws
+pub mod WaveLaws

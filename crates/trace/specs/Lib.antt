@@ -3,3 +3,7 @@ pub mod Bits
 pub mod Signals
 pub mod Columns
 pub mod Traces
+pub mod Scopes
+pub mod Variables
+pub mod Changes
+pub mod Waves

@@ -4,16 +4,22 @@
 //!   symbol's name, or where it has none `i0`, `l3`, `o1` and so on.
 //! - A *signal* is a bit, or the bits `a[l]`, `a[l + 1]`, .. of one kind, which are shown as one number.
 //! - `put_trace` puts a line for each signal with its value at each time of a stimulus's replay (`trace_text`).
+//! - `put_vcd` puts the same replay as a waveform: a value change dump of IEEE 1364, with a variable for each signal (`wave_text`).
 //!
 //! Replaying costs the gates for each time, and the order of the names n log n. The memory is that of the bits, and a value
-//! of each bit at each time.
+//! of each bit at each time; a waveform's text is in memory too before it is put.
 #![tactic(auto)]
 
 mod bits;
+mod changes;
 mod columns;
 mod names;
 mod numbers;
+mod scopes;
 mod signals;
 mod table;
+mod variables;
+mod waves;
 
 pub use table::put_trace;
+pub use waves::put_vcd;

@@ -58,7 +58,7 @@ pub fn signals_of(alloc: Global, bits: &[Bit<'_>]) -> Result<Vec<Signal>, Refuse
 }
 
 /// The letter of a kind.
-fn letter(kind: SymbolKind) -> &'static [u8]
+pub fn letter(kind: SymbolKind) -> &'static [u8]
     ensures { result.now ≡ letter_of kind }
 {
     match kind {

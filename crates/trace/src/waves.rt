@@ -1,0 +1,112 @@
+//! Waveforms: a replay as a value change dump.
+
+ghost use Rattle.std.specs.Prelude.{◌≡◌, ◌≢◌, ◌≤◌, ◌+◌, ◌-◌, ◌^◌, ◌<◌, ◌++◌, List, All, length, IfOk, IfErr, OnOk};
+ghost use Rattle.std.specs.List.{flat_map};
+ghost use Rattle.graph.specs.Valuation.{Valuation};
+ghost use Rattle.trace.specs.Columns.{AreValues, values_at};
+ghost use Rattle.trace.specs.Waves.{HasWaveCause, HasWaveCauseIn, PutsWave, PutsWaveIn, head_text, wave_text};
+
+use crate::bits::{Bit, sorted_bits};
+use crate::changes::push_times;
+use crate::columns::play;
+use crate::signals::{Signal, signals_of};
+use crate::variables::push_variables;
+use base::{Refused, extend};
+use graph::{AigerFile, Seq, Sink, put_all};
+use simulate::Replay;
+use std::alloc::Global;
+use stimulus::{SimError, Stimulus, check_playable};
+
+/// Adds what comes before the first time.
+fn push_head(text: &mut Vec<u8>, bits: &[Bit<'_>], signals: &[Signal]) -> Result<(), Refused>
+    requires { All (λ s. (s.first < s.end) × (s.end ≤ length bits.now)) signals.now }
+    ensures { OnOk result (text.new.items ≡ text.old.items ++ head_text bits.now signals.now) }
+{
+    extend(text, b"$timescale 1 ns $end\n")?;
+    push_variables(text, bits, signals)?;
+    extend(text, b"$enddefinitions $end\n")?;
+    Ok(())
+}
+
+/// The waveform of the values of all bits at so many times, time after time.
+fn wave(
+    alloc: Global,
+    bits: &[Bit<'_>],
+    signals: &[Signal],
+    values: &[bool],
+    times: usize,
+) -> Result<Vec<u8>, Refused>
+    requires inside { All (λ s. (s.first < s.end) × (s.end ≤ length bits.now)) signals.now }
+    requires values { AreValues bits.now times values.now }
+    ensures { IfOk result (λ v. (r : List Valuation) → values.now ≡ flat_map (values_at bits.now) r → length r ≡ times → v.items ≡ wave_text bits.now signals.now r) }
+{
+    let mut text = Vec::new(alloc);
+    push_head(&mut text, bits, signals)?;
+    push_times(&mut text, bits, signals, values, times)?;
+    Ok(text)
+}
+
+/// Puts the waveform of these lines.
+fn put_violated<W: Sink>(
+    alloc: Global,
+    file: &AigerFile,
+    initial: &[bool],
+    inputs: &[Seq<bool>],
+    all: bool,
+    out: &mut W,
+) -> Result<(), SimError>
+    requires { W.failed out.old < 2 ^ 64 - 1 }
+    ensures put { OnOk result (PutsWaveIn file.now all initial.now inputs.now (W.contents out.old) (W.contents out.new)) }
+    ensures refused { IfErr result (HasWaveCauseIn file.now all initial.now inputs.now (W.contents out.old) (W.contents out.new)) }
+    ensures kept { OnOk result (W.failed out.new ≡ W.failed out.old) }
+    ensures device { IfErr result (λ e. e ≡ SimError.Device → W.failed out.new ≡ W.failed out.old + 1) }
+    ensures untouched { IfErr result (λ e. e ≢ SimError.Device → out.new ≡ out.old) }
+{
+    let model = file.model();
+    check_playable(model.parts(), initial, inputs)?;
+    let mut replay = Replay::new(alloc, model, initial)?;
+    let bits = sorted_bits(alloc, file, all)?;
+    let signals = signals_of(alloc, &bits)?;
+    let values = play(alloc, &mut replay, &bits, inputs)?;
+    let text = wave(alloc, &bits, &signals, &values, inputs.len())?;
+    put_all(out, text.as_slice())?;
+    Ok(())
+}
+
+/// Puts a stimulus's replay as a value change dump (IEEE 1364), which viewers of waveforms read. It has a variable for each
+/// signal, in the order of `put_trace`, and without `all` none whose name begins with a dollar sign.
+///
+/// A name `a.b.c` is the variable `c` in the scope `b` of the scope `a`. A vector has its indices behind its name, the greatest
+/// first. The code of a variable is the letter of its kind and the position of its lowest bit, as `l3`; where there is no symbol it
+/// is the name too. In names a byte that is no printable character of ASCII is put as `_`, an empty part as `_`, and a part that begins
+/// with a dollar sign gets a backslash before it.
+///
+/// Time `t` of the replay is time `t` of the dump, a nanosecond each; at time 0 each variable has its value, and at each later time
+/// those that changed. The last line is the time after the last, so that the last values last as long as the others. It has no date.
+/// It looks neither at the constraints nor at the property.
+///
+/// The text is made in memory and then put. It refuses the first of no violation (65), a line's length (66), no input line (64)
+/// and a latch against its reset (60), with nothing put. After a failure of the sink a beginning was put.
+pub fn put_vcd<W: Sink>(
+    alloc: Global,
+    file: &AigerFile,
+    stimulus: &Stimulus,
+    all: bool,
+    out: &mut W,
+) -> Result<(), SimError>
+    requires { W.failed out.old < 2 ^ 64 - 1 }
+    ensures wave { OnOk result (PutsWave file.now all stimulus.now (W.contents out.old) (W.contents out.new)) }
+    ensures refused { IfErr result (HasWaveCause file.now all stimulus.now (W.contents out.old) (W.contents out.new)) }
+    ensures kept { OnOk result (W.failed out.new ≡ W.failed out.old) }
+    ensures device { IfErr result (λ e. e ≡ SimError.Device → W.failed out.new ≡ W.failed out.old + 1) }
+    ensures untouched { IfErr result (λ e. e ≢ SimError.Device → out.new ≡ out.old) }
+{
+    match stimulus {
+        Stimulus::Violated {
+            initial,
+            inputs,
+            ..
+        } => put_violated(alloc, file, initial.as_slice(), inputs.as_slice(), all, out),
+        _ => Err(SimError::NotViolated),
+    }
+}
