@@ -1,0 +1,4 @@
+pub mod ClauseLaws
+pub mod LiteralLoop
+pub mod LineLoop
+pub mod Begun

@@ -1,0 +1,18 @@
+//! The clauses of an invariant, as other engines hand them over.
+//!
+//! - `read` answers the clauses that a text spells: a line for each, with the literals of the circuit's
+//!   latches; or a certificate, of which the clauses alone are taken. It answers Ok exactly on the texts that spell
+//!   clauses so (`SpellsInvariant`), with those; only want of memory can keep it from them. Every other
+//!   text is refused at its first fault, by the byte.
+//!
+//! Nothing is believed of the clauses: whether they are an inductive invariant of a circuit, and over its latches, is
+//! for `certify::certify` to find out.
+#![tactic(auto)]
+
+mod invariant_error;
+mod lines;
+mod reading;
+mod refusal;
+
+pub use invariant_error::InvariantError;
+pub use reading::read;

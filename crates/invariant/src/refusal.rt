@@ -1,0 +1,41 @@
+//! Why a text is refused.
+
+ghost use Rattle.std.specs.Prelude.{◌≡◌};
+ghost use Rattle.invariant.specs.Refusals.{error_of};
+
+use crate::invariant_error::InvariantError;
+use scan::{Fault, Kinds, place};
+
+/// What is wrong in a text, before its place is known as a byte of the whole.
+#[derive(Clone, Copy, Debug, PartialEq, Eq)]
+pub enum Refusal {
+    /// No number, or one over its limit.
+    Number,
+    /// Another byte than the line needs.
+    Byte,
+    /// A byte that is needed is missing.
+    Truncated,
+}
+
+/// The faults of a line.
+pub const IN_LINE: Kinds<Refusal> = Kinds {
+    truncated: Refusal::Truncated,
+    number: Refusal::Number,
+    over: Refusal::Number,
+    byte: Refusal::Byte,
+};
+
+/// The error that a fault is in a text of `length` bytes.
+pub fn error(length: usize, fault: Fault<Refusal>) -> InvariantError
+    ensures { result ≡ error_of length fault }
+{
+    let (kind, place) = match fault {
+        Fault::Memory(refused) => return InvariantError::OutOfMemory(refused),
+        Fault::Text { kind, left } => (kind, place(length, left)),
+    };
+    match kind {
+        Refusal::Number => InvariantError::Number { place },
+        Refusal::Byte => InvariantError::Byte { place },
+        Refusal::Truncated => InvariantError::Truncated { place },
+    }
+}
