@@ -7,6 +7,7 @@ use graph::{
     AigerFile, FromBytes, FromRead, Property, ReadError, ReadToEndError, Sink, ToVec, ToWrite,
     put_all, read_to_end,
 };
+use inputs::open;
 use properties::{Evidence, all_properties, evidence_name, property_name};
 use std::fs::File;
 use std::io::{ErrorKind, Read};
@@ -140,7 +141,7 @@ impl Folder<'_> {
 // Its buffer is off the stack before anything is judged.
 #[inline(never)]
 fn text_of(rt: &HostRuntime, name: &str) -> Result<Vec<u8>, NoAnswer> {
-    let file = given(File::open(rt, name))?;
+    let file = given(open(rt, name))?;
     match read_to_end(rt.alloc(), &mut FromRead::new(file.take(MOST))) {
         Ok(text) => Ok(text),
         Err(ReadToEndError::OutOfMemory(refused)) => Err(NoAnswer::from(refused)),

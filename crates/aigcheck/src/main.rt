@@ -12,6 +12,8 @@
 //! neither; and last how many properties have a yes, and how many not. A FILE that is no circuit gets `no`
 //! with the number alone.
 //!
+//! FILE, CERT or STIM may be `-`, which is the standard input.
+//!
 //! The status is 0 for yes, of `all` for a yes to each property; 1 for no; and 3 where there is no answer.
 //!
 //! Nothing is decided here: the answers are those of `checker::run_safe` and `checker::run_stimulus`,
@@ -27,9 +29,9 @@ use clap::error::ErrorKind;
 use clap::{Arg, ArgAction, ArgMatches, Command, Error};
 use folder::all;
 use graph::{FromRead, ToWrite};
+use inputs::{Input, is_standard, open};
 use no_answer::{FAULT, NoAnswer, fault, given};
 use std::alloc::{AllocError, Global};
-use std::fs::File;
 use std::process::ExitCode;
 use std::{env, io};
 
@@ -115,15 +117,23 @@ fn command<'a>(alloc: Global) -> Result<Command<'a>, AllocError> {
         .subcommand(all_command(alloc)?)
 }
 
-/// Opens the file that a word names.
-fn open(rt: &HostRuntime, words: &ArgMatches<'_>, word: &str) -> Result<File, NoAnswer> {
-    given(File::open(rt, words.get_str(word).unwrap_or("")))
+/// Opens the circuit and the second file, of which one may be the standard input, and not both.
+fn open_both(
+    rt: &HostRuntime,
+    words: &ArgMatches<'_>,
+    second: &str,
+) -> Result<(Input, Input), NoAnswer> {
+    let circuit = words.get_str("FILE").unwrap_or("");
+    let second = words.get_str(second).unwrap_or("");
+    if is_standard(circuit) && is_standard(second) {
+        return Err(NoAnswer::BadArgument);
+    }
+    Ok((given(open(rt, circuit))?, given(open(rt, second))?))
 }
 
 /// Opens both files, and then says whether the second shows that the first is safe.
 fn safe(rt: &HostRuntime, words: &ArgMatches<'_>) -> Result<bool, NoAnswer> {
-    let circuit = open(rt, words, "FILE")?;
-    let certificate = open(rt, words, "CERT")?;
+    let (circuit, certificate) = open_both(rt, words, "CERT")?;
     let yes = run_safe(
         rt.alloc(),
         &mut FromRead::new(circuit),
@@ -135,8 +145,7 @@ fn safe(rt: &HostRuntime, words: &ArgMatches<'_>) -> Result<bool, NoAnswer> {
 
 /// Opens both files, and then says whether the second shows a violation in the first.
 fn run(rt: &HostRuntime, words: &ArgMatches<'_>) -> Result<bool, NoAnswer> {
-    let circuit = open(rt, words, "FILE")?;
-    let stimulus = open(rt, words, "STIM")?;
+    let (circuit, stimulus) = open_both(rt, words, "STIM")?;
     let yes = run_stimulus(
         rt.alloc(),
         &mut FromRead::new(circuit),

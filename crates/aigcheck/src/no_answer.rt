@@ -11,6 +11,8 @@ pub const FAULT: u8 = 3;
 /// Why there is no answer.
 #[derive(Clone, Copy, Debug)]
 pub enum NoAnswer {
+    /// Both files are the standard input.
+    BadArgument,
     /// There is no memory for the words, or for the system at a file.
     Memory,
     /// The call that was asked gave none.
@@ -49,6 +51,7 @@ pub fn given<T>(got: io::Result<T>) -> Result<T, NoAnswer> {
 /// Tells a fault, and the status of one.
 pub fn fault(rt: &HostRuntime, why: NoAnswer) -> ExitCode {
     let _ = match why {
+        NoAnswer::BadArgument => eprintln!(rt; "aigcheck: bad argument"),
         NoAnswer::Memory => eprintln!(rt; "aigcheck: out of memory"),
         NoAnswer::Call(error) => eprintln!(rt; "aigcheck: {error}"),
     };

@@ -1,9 +1,10 @@
 //! The commands `check` and `all`.
 
-use crate::files::{circuit, keep, print};
+use crate::files::{circuit, keep, path_of, print};
 use crate::making::{expect_folder, is_same};
+use crate::progress::{Reporter, Shown, conclude};
 use crate::relevant::relevant_clauses;
-use crate::stop::{DONE, Stop};
+use crate::stop::{DONE, Has, NO_PROPERTY, Role, Stop, about, at};
 use arguments::{EngineKind, Search};
 use base::{boxed, push};
 use bmc::Bmc;
@@ -11,31 +12,36 @@ use cdcl::Cdcl;
 use cli::{CliError, Verdict, decide, property_named};
 use engine::Engine;
 use engine_random::Random;
-use graph::{AigerFile, Budget, Lit, Property, Seq};
+use graph::{AigerFile, Budget, Lit, Model, Property, Seq};
 use ic3::Ic3;
+use inputs::is_standard;
 use properties::{Evidence, all_properties, evidence_name};
 use std::alloc::Global;
 
 /// The status of a violation.
 const VIOLATED: u8 = 1;
 
-/// Asks the engines for evidence about the property. IC3 tries these clauses first.
-fn ask(
-    alloc: Global,
+/// Asks the engines for evidence about the property. IC3 tries these clauses first. Where it is asked for, or standard error is a
+/// terminal, that says how far they are.
+pub fn ask(
+    rt: &HostRuntime,
     file: &AigerFile,
     property: Property,
     search: Search,
     candidates: Seq<Seq<Lit>>,
-) -> Result<Verdict, CliError> {
+) -> Result<Verdict, Stop> {
+    let alloc = rt.alloc();
+    let shown = Shown::new(rt, search.verbose);
     let depth = u32::from(search.depth);
     let mut engines: Vec<Box<dyn Engine>> = Vec::new(alloc);
     if search.engine.has_bounded() {
-        let bounded = Bmc::new(Cdcl::new(alloc), depth);
+        let bounded = Bmc::new(Cdcl::new(alloc), depth).with_progress(Reporter::new(rt, shown));
         let engine: Box<dyn Engine> = boxed(alloc, bounded)?;
         push(&mut engines, engine)?;
     }
     if search.engine.has_inductive() {
         let inductive = Ic3::with_candidates(Cdcl::new(alloc), candidates);
+        let inductive = inductive.with_progress(Reporter::new(rt, shown));
         let engine: Box<dyn Engine> = boxed(alloc, inductive)?;
         push(&mut engines, engine)?;
     }
@@ -46,13 +52,65 @@ fn ask(
     }
     let mut budget = Budget::new(search.budget);
     let engines = engines.as_mut_slice();
-    let verdict = decide(alloc, file.model(), property, engines, &mut budget)?;
+    let decided = decide(alloc, file.model(), property, engines, &mut budget);
+    shown.wipe(rt);
+    let verdict = decided.map_err(CliError::from)?;
     Ok(verdict)
 }
 
+/// The properties that a circuit has.
+fn properties_of(alloc: Global, model: &Model) -> Result<Has, Stop> {
+    let properties = all_properties(alloc, model)?;
+    let mut has = Has {
+        bad: 0,
+        justice: 0,
+        outputs: 0,
+    };
+    for property in properties {
+        match property {
+            Property::Bad(_) => has.bad = has.bad.saturating_add(1),
+            Property::Justice(_) => has.justice = has.justice.saturating_add(1),
+            Property::Output(_) => has.outputs = has.outputs.saturating_add(1),
+        }
+    }
+    Ok(has)
+}
+
+/// The fault of a search, with the properties that the circuit has where there is no such one.
+fn fault_of(alloc: Global, model: &Model, property: Property, stop: Stop) -> Stop {
+    let Stop::At { number, place, .. } = stop else {
+        return stop;
+    };
+    if number != NO_PROPERTY {
+        return stop;
+    }
+    match properties_of(alloc, model) {
+        Ok(has) => Stop::NoProperty {
+            property,
+            place,
+            has,
+        },
+        Err(stop) => stop,
+    }
+}
+
 /// Whether a file for evidence would be the circuit's, or the one that standard output goes to.
-fn is_taken(rt: &HostRuntime, circuit: &str, out: &str) -> bool {
-    is_same(rt, out, circuit) || is_same(rt, out, "/dev/stdout")
+pub fn is_taken(rt: &HostRuntime, circuit: &str, out: &str) -> bool {
+    is_standard(out) || is_same(rt, out, path_of(circuit)) || is_same(rt, out, "/dev/stdout")
+}
+
+/// Prints a verdict, and says on standard error what was found where that is asked for.
+fn print_verdict(
+    rt: &HostRuntime,
+    property: Property,
+    verdict: &Verdict,
+    search: Search,
+) -> Result<u8, Stop> {
+    let status = print(rt, property, verdict)?;
+    if search.verbose {
+        conclude(rt, property, verdict);
+    }
+    Ok(status)
 }
 
 /// Looks for evidence about the property of this name, and prints the verdict. A certificate goes to the
@@ -70,11 +128,15 @@ pub fn check(
     }
     let file = circuit(rt, name)?;
     let candidates = Seq::new(rt.alloc());
-    let verdict = ask(rt.alloc(), &file, property, search, candidates)?;
+    let asked = about(Role::Circuit, ask(rt, &file, property, search, candidates));
+    let verdict = match asked {
+        Ok(verdict) => verdict,
+        Err(stop) => return Err(fault_of(rt.alloc(), file.model(), property, stop)),
+    };
     if let (Verdict::Safe(_), Some(out)) = (&verdict, certificate) {
         keep(rt, out, property, &verdict)?;
     }
-    print(rt, property, &verdict)
+    print_verdict(rt, property, &verdict, search)
 }
 
 /// Makes the folder's file with the verdict's evidence, where it has some.
@@ -130,11 +192,11 @@ fn check_next(
     clauses: &mut Seq<Seq<Lit>>,
 ) -> Result<u8, Stop> {
     let candidates = relevant_clauses(rt.alloc(), file.model(), property, clauses.as_slice())?;
-    let verdict = ask(rt.alloc(), file, property, search, candidates)?;
+    let verdict = about(Role::Circuit, ask(rt, file, property, search, candidates))?;
     if let Some(folder) = folder {
         keep_in(rt, name, folder, property, &verdict)?;
     }
-    let status = print(rt, property, &verdict)?;
+    let status = print_verdict(rt, property, &verdict, search)?;
     if let Some(found) = clauses_of(property, verdict) {
         *clauses = found;
     }
@@ -152,7 +214,7 @@ pub fn check_all(
     search: Search,
 ) -> Result<u8, Stop> {
     if let Some(folder) = folder {
-        expect_folder(rt, folder)?;
+        at(Role::Made, expect_folder(rt, folder))?;
     }
     let file = circuit(rt, name)?;
     let properties = all_properties(rt.alloc(), file.model()).map_err(CliError::from)?;

@@ -258,6 +258,14 @@ static ROWS: [Row; 49] = [
     },
 ];
 
+/// What the number means, or nothing.
+pub fn meaning(number: u8) -> &'static str {
+    match ROWS.iter().find(|row| row.number == number) {
+        Some(row) => row.meaning,
+        None => "",
+    }
+}
+
 /// Prints what the number means, and what to do about it.
 pub fn explain(rt: &HostRuntime, number: u8) -> Result<u8, Stop> {
     let Some(row) = ROWS.iter().find(|row| row.number == number) else {

@@ -1,30 +1,50 @@
 //! The files that commands read and make.
 
 use crate::making::Making;
-use crate::stop::{Stop, finished};
+use crate::stop::{Role, Stop, about, at, finished, read_of};
 use base::buffered;
 use cli::{
     CliError, Layout, Verdict, load, load_stimulus, put_certificate, put_file, put_table, show,
 };
 use graph::{AigerFile, FromRead, Property, ToWrite};
+use inputs::{is_standard, open};
 use std::fs::File;
 use std::io;
 use std::io::{BufWriter, Write};
 use stimulus::Stimulus;
-use trace::put_trace;
+use trace::{put_trace, put_vcd};
 
-/// The circuit's file of this name.
-pub fn circuit(rt: &HostRuntime, name: &str) -> Result<AigerFile, Stop> {
-    let file = finished(File::open(rt, name))?;
+/// What the system calls the file that is read by this name.
+pub fn path_of(name: &str) -> &str {
+    if is_standard(name) {
+        "/dev/stdin"
+    } else {
+        name
+    }
+}
+
+/// The circuit that the file of this name spells.
+fn read_circuit(rt: &HostRuntime, name: &str) -> Result<AigerFile, Stop> {
+    let file = finished(open(rt, name))?;
     let file = load(rt.alloc(), &mut FromRead::new(file)).map_err(CliError::Load)?;
     Ok(file)
 }
 
-/// The stimulus in the file of this name.
-pub fn stimulus_of(rt: &HostRuntime, name: &str) -> Result<Stimulus, Stop> {
-    let file = finished(File::open(rt, name))?;
+/// The circuit's file of this name.
+pub fn circuit(rt: &HostRuntime, name: &str) -> Result<AigerFile, Stop> {
+    read_of(Role::Circuit, read_circuit(rt, name))
+}
+
+/// The stimulus that the file of this name spells.
+fn read_stimulus(rt: &HostRuntime, name: &str) -> Result<Stimulus, Stop> {
+    let file = finished(open(rt, name))?;
     let stimulus = load_stimulus(rt.alloc(), &mut FromRead::new(file))?;
     Ok(stimulus)
+}
+
+/// The stimulus in the file of this name.
+pub fn stimulus_of(rt: &HostRuntime, name: &str) -> Result<Stimulus, Stop> {
+    read_of(Role::Stimulus, read_stimulus(rt, name))
 }
 
 /// What a call put to the buffered writer, once all of it stands with the device. After a failure nothing
@@ -44,10 +64,10 @@ fn settled<W: Write + Drop, T: Drop>(
     settled
 }
 
-/// Writes the circuit's text to the file.
-fn write_circuit(
+/// Writes the circuit's text.
+fn write_circuit<W: Write + Drop>(
     rt: &HostRuntime,
-    out: File,
+    out: W,
     file: &AigerFile,
     layout: Layout,
 ) -> Result<(), Stop> {
@@ -59,9 +79,12 @@ fn write_circuit(
 
 /// Makes the file of this name with the circuit's text.
 pub fn make(rt: &HostRuntime, name: &str, file: &AigerFile, layout: Layout) -> Result<(), Stop> {
-    let (making, out) = Making::begin(rt, name)?;
+    if is_standard(name) {
+        return write_circuit(rt, io::writer(rt), file, layout);
+    }
+    let (making, out) = at(Role::Made, Making::begin(rt, name))?;
     let written = write_circuit(rt, out, file, layout);
-    making.end(rt, written)
+    at(Role::Made, making.end(rt, written))
 }
 
 /// Writes a verdict's evidence to the file: the certificate, or what is printed.
@@ -91,9 +114,9 @@ pub fn keep(
     property: Property,
     verdict: &Verdict,
 ) -> Result<(), Stop> {
-    let (making, out) = Making::begin(rt, name)?;
+    let (making, out) = at(Role::Made, Making::begin(rt, name))?;
     let written = write_evidence(rt, out, property, verdict);
-    making.end(rt, written)
+    at(Role::Made, making.end(rt, written))
 }
 
 /// Prints the values in the replay of a stimulus.
@@ -101,7 +124,7 @@ pub fn print_table(rt: &HostRuntime, file: &AigerFile, stimulus: &Stimulus) -> R
     let out = buffered(rt.alloc(), io::writer(rt))?;
     let mut out = ToWrite::new(out);
     let put = put_table(rt.alloc(), file.model(), stimulus, &mut out).map_err(CliError::from);
-    settled(out, put.map_err(Stop::from))
+    settled(out, about(Role::Stimulus, put.map_err(Stop::from)))
 }
 
 /// Prints the replay of a stimulus by the names of its signals.
@@ -114,7 +137,37 @@ pub fn print_trace(
     let out = buffered(rt.alloc(), io::writer(rt))?;
     let mut out = ToWrite::new(out);
     let put = put_trace(rt.alloc(), file, stimulus, all, &mut out).map_err(CliError::from);
-    settled(out, put.map_err(Stop::from))
+    settled(out, about(Role::Stimulus, put.map_err(Stop::from)))
+}
+
+/// Writes the waveform of a stimulus's replay.
+fn write_waveform<W: Write + Drop>(
+    rt: &HostRuntime,
+    out: W,
+    file: &AigerFile,
+    stimulus: &Stimulus,
+    all: bool,
+) -> Result<(), Stop> {
+    let out = buffered(rt.alloc(), out)?;
+    let mut out = ToWrite::new(out);
+    let put = put_vcd(rt.alloc(), file, stimulus, all, &mut out).map_err(CliError::from);
+    settled(out, about(Role::Stimulus, put.map_err(Stop::from)))
+}
+
+/// Makes the file of this name with the waveform of a stimulus's replay.
+pub fn make_waveform(
+    rt: &HostRuntime,
+    name: &str,
+    file: &AigerFile,
+    stimulus: &Stimulus,
+    all: bool,
+) -> Result<(), Stop> {
+    if is_standard(name) {
+        return write_waveform(rt, io::writer(rt), file, stimulus, all);
+    }
+    let (making, out) = at(Role::Made, Making::begin(rt, name))?;
+    let written = write_waveform(rt, out, file, stimulus, all);
+    at(Role::Made, making.end(rt, written))
 }
 
 /// Prints a verdict, and answers its status.

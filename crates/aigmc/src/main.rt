@@ -1,8 +1,8 @@
 //! `aigmc`: evidence about circuits.
 //!
 //! `aigmc convert FILE OUT` writes the circuit FILE (AIGER 1.9, binary where its second byte is `i`,
-//! else ASCII) to OUT: in ASCII where that ends in `.aag`, and in binary where it ends in `.aig`. For
-//! the binary layout a circuit that is not in its numbering is made smaller by structural hashing. OUT
+//! else ASCII) to OUT: in ASCII where that ends in `.aag`, and in binary where it ends in `.aig`, or else as `--ascii` or
+//! `--binary` says. For the binary layout a circuit that is not in its numbering is made smaller by structural hashing. OUT
 //! is the old file until the new one is whole.
 //!
 //! `aigmc sim FILE STIM` prints the values in the replay of the stimulus STIM, a line for each time:
@@ -10,7 +10,9 @@
 //! constraints nor the property.
 //!
 //! `aigmc trace FILE STIM` prints the same replay by the names of the circuit's symbols, a line for each signal with its value at
-//! each time. Names that begin with `$` are left out without `--all`.
+//! each time. Names that begin with `$` are left out without `--all`. With `--vcd OUT` nothing is printed, and the replay goes to
+//! OUT as a waveform (VCD): a variable for each signal, in the scopes of its name. OUT may name neither the circuit's nor the
+//! stimulus's file.
 //!
 //! `aigmc explain NUMBER` says what the number of a fault means, and what to do.
 //!
@@ -29,29 +31,49 @@
 //! `--out DIR` the evidence about each is written to the folder DIR before its verdict is printed: a
 //! certificate to `P.cert`, a stimulus to `P.stim`.
 //!
+//! `aigmc certify FILE -p P --invariant INV --cert OUT` makes a certificate of the clauses that INV has (a line for each, or a
+//! certificate): `certify::certify` proves each case of them, and believes nothing. `--budget` is how many steps the proofs may
+//! cost. Where the clauses are no inductive invariant that excludes the property's literal, or the budget is exhausted,
+//! nothing is written, standard error says so, and the status is 1 or 2. With `--strengthen` IC3 looks for an invariant where the
+//! clauses are none, and begins with those of them that it can use.
+//!
+//! `aigmc to-safety FILE -p jN OUT` writes the shadow circuit of a justice property to OUT, in the layouts of
+//! `convert`.
+//!
+//! FILE, STIM and INV may be `-`, the standard input, but one of them alone. OUT of `convert` and `trace` may be `-`, the standard output.
+//!
 //! The status of `check` is 0 where the property holds, 1 for a violation and 2 where nothing is known. That
 //! of `all` is 1 where a property is violated, else 2 where nothing is known of one, and else 0. Else the
 //! status is 0, and 3 where the command failed.
 #![tactic(auto)]
 
+mod adopting;
 mod checking;
+mod detail;
 mod explaining;
 mod files;
 mod making;
+mod progress;
 mod relevant;
+mod shadow;
 mod stop;
+mod tracing;
 
-use arguments::{Request, Wrong, parse};
+use adopting::{certify_clauses, make_shadow};
+use arguments::{AskedLayout, Request, Wrong, parse};
 use base::push;
 use checking::{check, check_all};
 use cli::{CliError, Layout, ready};
+use detail::tell_detail;
 use explaining::explain;
-use files::{circuit, make, print_table, print_trace, stimulus_of};
+use files::{circuit, make, print_table, stimulus_of};
 use graph::AigerFile;
+use inputs::is_standard;
 use std::alloc::Global;
 use std::env;
 use std::process::ExitCode;
 use stop::{DONE, FAULT, Stop, finished, tell};
+use tracing::trace;
 
 /// The circuit as the layout takes it: for the binary one in its numbering.
 fn fitting(alloc: Global, file: AigerFile, layout: Layout) -> Result<AigerFile, CliError> {
@@ -61,9 +83,18 @@ fn fitting(alloc: Global, file: AigerFile, layout: Layout) -> Result<AigerFile, 
     }
 }
 
-/// Writes a circuit in the layout that the name of the file to make asks for.
-fn convert(rt: &HostRuntime, name: &str, out: &str) -> Result<u8, Stop> {
-    let layout = Layout::of_name(out).ok_or(Stop::BadArgument)?;
+/// The layout that is asked for, by itself or by the name of the file to make.
+fn layout_of(asked: AskedLayout, out: &str) -> Option<Layout> {
+    match asked {
+        AskedLayout::Named => Layout::of_name(out),
+        AskedLayout::Ascii => Some(Layout::Ascii),
+        AskedLayout::Binary => Some(Layout::Binary),
+    }
+}
+
+/// Writes a circuit in the layout that is asked for.
+fn convert(rt: &HostRuntime, name: &str, out: &str, asked: AskedLayout) -> Result<u8, Stop> {
+    let layout = layout_of(asked, out).ok_or(Stop::BadArgument)?;
     let file = circuit(rt, name)?;
     let file = fitting(rt.alloc(), file, layout)?;
     make(rt, out, &file, layout)?;
@@ -72,31 +103,34 @@ fn convert(rt: &HostRuntime, name: &str, out: &str) -> Result<u8, Stop> {
 
 /// Prints the values in the replay of a stimulus.
 fn sim(rt: &HostRuntime, name: &str, stimulus: &str) -> Result<u8, Stop> {
+    if is_standard(name) && is_standard(stimulus) {
+        return Err(Stop::BadArgument);
+    }
     let file = circuit(rt, name)?;
     let stimulus = stimulus_of(rt, stimulus)?;
     print_table(rt, &file, &stimulus)?;
     Ok(DONE)
 }
 
-/// Prints the replay of a stimulus by the names of its signals.
-fn trace(rt: &HostRuntime, name: &str, stimulus: &str, all: bool) -> Result<u8, Stop> {
-    let file = circuit(rt, name)?;
-    let stimulus = stimulus_of(rt, stimulus)?;
-    print_trace(rt, &file, &stimulus, all)?;
-    Ok(DONE)
-}
-
 /// Does what is asked for.
 fn done(rt: &HostRuntime, request: &Request) -> Result<u8, Stop> {
     match request {
-        Request::Convert { file, out } => convert(rt, file.as_str(), out.as_str()),
+        Request::Convert { file, out, layout } => {
+            convert(rt, file.as_str(), out.as_str(), *layout)
+        }
         Request::Sim { file, stimulus } => sim(rt, file.as_str(), stimulus.as_str()),
         Request::Trace {
             file,
             stimulus,
             all,
-        } => trace(rt, file.as_str(), stimulus.as_str(), *all),
+            waveform,
+        } => {
+            let waveform = waveform.as_ref().map(|name| name.as_str());
+            trace(rt, file.as_str(), stimulus.as_str(), *all, waveform)
+        }
         Request::Explain { number } => explain(rt, *number),
+        Request::Certify(asked) => certify_clauses(rt, asked),
+        Request::ToSafety(asked) => make_shadow(rt, asked),
         Request::Check {
             file,
             property,
@@ -139,7 +173,11 @@ fn answer(rt: &HostRuntime, words: &[String]) -> ExitCode {
     };
     match done(rt, &request) {
         Ok(status) => ExitCode::from(status),
-        Err(stop) => tell(rt, stop),
+        Err(stop) => {
+            let status = tell(rt, stop);
+            tell_detail(rt, &request, stop);
+            status
+        }
     }
 }
 

@@ -1,7 +1,11 @@
 //! Why a command was not done.
 
 use base::Refused;
+use certify::CertifyError;
 use cli::CliError;
+use graph::{Property, ReadError};
+use invariant::InvariantError;
+use live_safe::LiveError;
 use std::io;
 use std::process::ExitCode;
 
@@ -13,6 +17,32 @@ pub const FAULT: u8 = 3;
 const OUT_OF_MEMORY: u8 = 20;
 /// The number of a device's fault.
 const DEVICE: u8 = 21;
+/// The number of a property that the circuit has not.
+pub const NO_PROPERTY: u8 = 30;
+
+/// What a file is to a command.
+#[derive(Clone, Copy, Debug, PartialEq, Eq)]
+pub enum Role {
+    /// The circuit that is read.
+    Circuit,
+    /// The stimulus that is read.
+    Stimulus,
+    /// The clauses that are read.
+    Invariant,
+    /// What is made: a file, or a folder's files.
+    Made,
+}
+
+/// The properties that a circuit has.
+#[derive(Clone, Copy, Debug)]
+pub struct Has {
+    /// how many bad literals
+    pub bad: usize,
+    /// how many justice properties
+    pub justice: usize,
+    /// how many outputs that are taken as bad literals
+    pub outputs: usize,
+}
 
 /// Why a command was not done.
 #[derive(Clone, Copy, Debug)]
@@ -23,6 +53,35 @@ pub enum Stop {
     Memory,
     /// A call refused.
     Refused(CliError),
+    /// A call beside those of `cli` refused, with this number and place.
+    Fault {
+        /// the refusal's number
+        number: u8,
+        /// the refusal's place
+        place: u64,
+    },
+    /// The system refused a file, in this word.
+    System(&'static str),
+    /// The file of this role was refused.
+    At {
+        /// which file
+        role: Role,
+        /// the refusal's number
+        number: u8,
+        /// the refusal's place
+        place: u64,
+        /// the system's word, or nothing
+        word: &'static str,
+    },
+    /// The circuit has no such property, but these.
+    NoProperty {
+        /// the property
+        property: Property,
+        /// the refusal's place
+        place: u64,
+        /// the properties that it has
+        has: Has,
+    },
 }
 
 impl From<CliError> for Stop {
@@ -37,14 +96,138 @@ impl From<Refused> for Stop {
     }
 }
 
+impl From<InvariantError> for Stop {
+    fn from(e: InvariantError) -> Stop {
+        Stop::Fault {
+            number: e.number(),
+            place: e.place(),
+        }
+    }
+}
+
+impl From<CertifyError> for Stop {
+    fn from(e: CertifyError) -> Stop {
+        Stop::Fault {
+            number: e.number(),
+            place: e.place(),
+        }
+    }
+}
+
+impl From<LiveError> for Stop {
+    fn from(e: LiveError) -> Stop {
+        Stop::Fault {
+            number: e.number(),
+            place: e.place(),
+        }
+    }
+}
+
+impl From<ReadError> for Stop {
+    fn from(e: ReadError) -> Stop {
+        Stop::Fault {
+            number: e.number(),
+            place: e.place(),
+        }
+    }
+}
+
+/// The system's word for what it refused.
+fn word_of(kind: io::ErrorKind) -> &'static str {
+    match kind {
+        io::ErrorKind::NotFound => "no such file or folder",
+        io::ErrorKind::PermissionDenied => "permission denied",
+        io::ErrorKind::IsADirectory => "it is a folder",
+        io::ErrorKind::NotADirectory => "a part of the name is no folder",
+        io::ErrorKind::AlreadyExists => "it is there already",
+        io::ErrorKind::ReadOnlyFilesystem => "read-only file system",
+        io::ErrorKind::StorageFull => "no space left on the device",
+        io::ErrorKind::FileTooLarge => "file too large",
+        io::ErrorKind::BrokenPipe => "broken pipe",
+        _ => "the system refused it",
+    }
+}
+
 /// What a file's call gave, or the fault of a file that was not opened, made or finished.
 pub fn finished<T>(given: io::Result<T>) -> Result<T, Stop> {
     match given {
         Ok(value) => Ok(value),
         Err(error) => Err(match error.kind() {
             io::ErrorKind::OutOfMemory => Stop::Memory,
-            _ => Stop::Refused(CliError::Device),
+            kind => Stop::System(word_of(kind)),
         }),
+    }
+}
+
+/// A refusal of the file with this role.
+fn refused_at(role: Role, number: u8, place: u64) -> Stop {
+    Stop::At {
+        role,
+        number,
+        place,
+        word: "",
+    }
+}
+
+/// Whether a refusal with this number is about what a file has.
+fn is_of_text(number: u8) -> bool {
+    number != OUT_OF_MEMORY && number != DEVICE
+}
+
+impl Stop {
+    /// The same, where it is the system's, as that of the file with this role.
+    fn of_device(self, role: Role) -> Stop {
+        match self {
+            Stop::System(word) => Stop::At {
+                role,
+                number: DEVICE,
+                place: 0,
+                word,
+            },
+            Stop::Refused(error) if error.number() == DEVICE => refused_at(role, DEVICE, 0),
+            stop => stop,
+        }
+    }
+
+    /// The same, where it is a refusal of what a file has, as that of the file with this role.
+    fn of_text(self, role: Role) -> Stop {
+        match self {
+            Stop::Refused(error) if is_of_text(error.number()) => {
+                refused_at(role, error.number(), error.place())
+            }
+            Stop::Fault { number, place } if is_of_text(number) => refused_at(role, number, place),
+            stop => stop,
+        }
+    }
+}
+
+/// What was given, or a fault of the system at the file with this role.
+pub fn at<T>(role: Role, given: Result<T, Stop>) -> Result<T, Stop> {
+    match given {
+        Ok(value) => Ok(value),
+        Err(stop) => Err(stop.of_device(role)),
+    }
+}
+
+/// What was given, or a refusal of what the file with this role has.
+pub fn about<T>(role: Role, given: Result<T, Stop>) -> Result<T, Stop> {
+    match given {
+        Ok(value) => Ok(value),
+        Err(stop) => Err(stop.of_text(role)),
+    }
+}
+
+/// What was read of the file with this role, or its fault.
+pub fn read_of<T>(role: Role, given: Result<T, Stop>) -> Result<T, Stop> {
+    about(role, at(role, given))
+}
+
+/// Tells the number and the place of a refusal, or what stands for them.
+fn tell_fault(rt: &HostRuntime, number: u8, place: u64) -> io::Result<()> {
+    match number {
+        OUT_OF_MEMORY => eprintln!(rt; "aigmc: out of memory"),
+        DEVICE => eprintln!(rt; "aigmc: read or write failed"),
+        number => eprintln!(rt; "aigmc: fault {number} at {place}"),
     }
 }
 
@@ -53,11 +236,11 @@ pub fn tell(rt: &HostRuntime, stop: Stop) -> ExitCode {
     let _ = match stop {
         Stop::BadArgument => eprintln!(rt; "aigmc: bad argument"),
         Stop::Memory => eprintln!(rt; "aigmc: out of memory"),
-        Stop::Refused(error) => match error.number() {
-            OUT_OF_MEMORY => eprintln!(rt; "aigmc: out of memory"),
-            DEVICE => eprintln!(rt; "aigmc: read or write failed"),
-            number => eprintln!(rt; "aigmc: fault {number} at {}", error.place()),
-        },
+        Stop::Refused(error) => tell_fault(rt, error.number(), error.place()),
+        Stop::Fault { number, place } => tell_fault(rt, number, place),
+        Stop::System(_) => tell_fault(rt, DEVICE, 0),
+        Stop::At { number, place, .. } => tell_fault(rt, number, place),
+        Stop::NoProperty { place, .. } => tell_fault(rt, NO_PROPERTY, place),
     };
     ExitCode::from(FAULT)
 }

@@ -1,5 +1,8 @@
 //! The commands and their words, and what `--help` says beside them.
 
+use crate::adopting::{certify_command, to_safety_command};
+use crate::layouts::with_layout;
+use crate::words::{file, option};
 use clap::{Arg, ArgAction, Command, value_parser};
 use std::alloc::{AllocError, Global};
 
@@ -10,8 +13,8 @@ static ENGINES: [&str; 4] = ["all", "bmc", "ic3", "random"];
 static VERSION: &str = "0.1.0 (rattle-kit-13f)";
 
 static STATUSES: &str =
-    "Status: 0 done, 1 a violation (check, all), 2 nothing is known (check, all), 3 failed.
-Each command has a help of its own: aigmc check --help.";
+    "Status: 0 done, 1 a violation (check, all) or no invariant (certify), 2 nothing is known (check, all, certify), 3 failed.
+A file called - is the standard input or output. Each command has a help of its own: aigmc check --help.";
 
 static CHECK: &str = "Status: 0 holds, 1 violated, 2 unknown, 3 failed.
 Examples:
@@ -26,7 +29,8 @@ Examples:
 static CONVERT: &str = "Status: 0 done, 3 failed.
 Examples:
   aigmc convert design.aig design.aag
-  aigmc convert design.aag design.aig";
+  aigmc convert design.aag design.aig
+  aigmc convert - - --ascii < design.aig";
 
 static SIM: &str = "Status: 0 done, 3 failed.
 Examples:
@@ -36,28 +40,12 @@ Examples:
 static TRACE: &str = "Status: 0 done, 3 failed.
 Examples:
   aigmc trace design.aig b0.stim
-  aigmc trace design.aig b0.stim --all";
+  aigmc trace design.aig b0.stim --vcd b0.vcd";
 
 static EXPLAIN: &str = "Status: 0 done, 3 there is no such number.
 Examples:
   aigmc explain 30
   aigmc explain 45";
-
-/// A file that has to be named.
-fn file<'a>(alloc: Global, name: &'a str, about: &'a str) -> Arg<'a> {
-    Arg::new(alloc, name)
-        .help(about)
-        .required(true)
-        .action(ArgAction::Set)
-}
-
-/// An option with a value that is given where it is left out.
-fn option<'a>(alloc: Global, name: &'a str, about: &'a str, value: &'a str) -> Arg<'a> {
-    Arg::new(alloc, name)
-        .help(about)
-        .long(name)
-        .default_value(value)
-}
 
 /// A command with the options that say how a search is to go.
 fn with_search<'a>(alloc: Global, command: Command<'a>) -> Result<Command<'a>, AllocError> {
@@ -78,7 +66,17 @@ fn with_search<'a>(alloc: Global, command: Command<'a>) -> Result<Command<'a>, A
     let seed = option(alloc, "seed", "Where the random engine begins", "0")
         .value_name("S")
         .value_parser(value_parser!(u64));
-    command.arg(budget)?.arg(depth)?.arg(engine)?.arg(seed)
+    let verbose = Arg::new(alloc, "verbose")
+        .help("Says on standard error how far the search is, and what it found")
+        .short('v')
+        .long("verbose")
+        .action(ArgAction::SetTrue);
+    command
+        .arg(budget)?
+        .arg(depth)?
+        .arg(engine)?
+        .arg(seed)?
+        .arg(verbose)
 }
 
 /// The words of `check`.
@@ -141,7 +139,8 @@ fn convert_command<'a>(alloc: Global) -> Result<Command<'a>, AllocError> {
         "The file to make: .aag for ASCII, .aig for binary",
     );
     let about = "Writes a circuit in the other format";
-    with_files(alloc, "convert", about, CONVERT, out)
+    let command = with_files(alloc, "convert", about, CONVERT, out)?;
+    with_layout(alloc, command)
 }
 
 /// The words of `sim`.
@@ -158,8 +157,15 @@ fn trace_command<'a>(alloc: Global) -> Result<Command<'a>, AllocError> {
         .help("Signals whose names begin with $ too")
         .long("all")
         .action(ArgAction::SetTrue);
-    let about = "Prints a stimulus's replay by the names of its signals";
-    with_files(alloc, "trace", about, TRACE, stimulus)?.arg(all)
+    let waveform = Arg::new(alloc, "vcd")
+        .help("The file to make of the waveform (VCD), in place of what is printed")
+        .long("vcd")
+        .value_name("OUT")
+        .action(ArgAction::Set);
+    let about = "Prints a stimulus's replay by the names of its signals, or makes a waveform of it";
+    with_files(alloc, "trace", about, TRACE, stimulus)?
+        .arg(all)?
+        .arg(waveform)
 }
 
 /// The words of `explain`.
@@ -182,7 +188,9 @@ pub fn command<'a>(alloc: Global) -> Result<Command<'a>, AllocError> {
         .subcommand_required(true)
         .subcommand(check_command(alloc)?)?
         .subcommand(all_command(alloc)?)?
+        .subcommand(certify_command(alloc)?)?
         .subcommand(convert_command(alloc)?)?
+        .subcommand(to_safety_command(alloc)?)?
         .subcommand(sim_command(alloc)?)?
         .subcommand(trace_command(alloc)?)?
         .subcommand(explain_command(alloc)?)

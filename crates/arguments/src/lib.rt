@@ -4,9 +4,14 @@
 //! program itself handles plain values.
 #![tactic(auto)]
 
+mod adopting;
 mod grammar;
+mod layouts;
 mod request;
+mod words;
 mod wrong;
 
+pub use adopting::{Claim, Shadow};
+pub use layouts::AskedLayout;
 pub use request::{EngineKind, Request, Search, parse};
 pub use wrong::Wrong;

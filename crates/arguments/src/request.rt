@@ -1,6 +1,9 @@
 //! What the words of a command line ask for.
 
+use crate::adopting::{Claim, Shadow, asked_certify, asked_to_safety};
 use crate::grammar::command;
+use crate::layouts::{AskedLayout, asked_layout};
+use crate::words::word;
 use crate::wrong::Wrong;
 use clap::ArgMatches;
 use std::alloc::{AllocError, Global};
@@ -41,6 +44,8 @@ pub struct Search {
     pub budget: u64,
     /// where random simulation begins
     pub seed: u64,
+    /// whether standard error says how far it is
+    pub verbose: bool,
 }
 
 /// What is to be done. Files go by their names.
@@ -52,6 +57,8 @@ pub enum Request {
         file: String,
         /// the file to make
         out: String,
+        /// its layout
+        layout: AskedLayout,
     },
     /// Print the values in a stimulus's replay.
     Sim {
@@ -60,7 +67,7 @@ pub enum Request {
         /// the stimulus's file
         stimulus: String,
     },
-    /// Print a stimulus's replay by the names of its signals.
+    /// Print a stimulus's replay by the names of its signals, or make a waveform of it.
     Trace {
         /// the circuit's file
         file: String,
@@ -68,6 +75,8 @@ pub enum Request {
         stimulus: String,
         /// whether signals whose names begin with `$` are shown too
         all: bool,
+        /// the file to make of the waveform, where one is named
+        waveform: Option<String>,
     },
     /// Say what the number of a fault means.
     Explain {
@@ -85,6 +94,10 @@ pub enum Request {
         /// how the search is to go
         search: Search,
     },
+    /// Make a certificate of clauses.
+    Certify(Claim),
+    /// Write the shadow circuit of a justice property.
+    ToSafety(Shadow),
     /// Look for evidence about all properties.
     All {
         /// the circuit's file
@@ -116,12 +129,8 @@ fn asked_search(words: &ArgMatches<'_>) -> Search {
         depth,
         budget,
         seed,
+        verbose: words.get_flag("verbose"),
     }
-}
-
-/// The word given for an argument that has to be there.
-fn word(alloc: Global, words: &ArgMatches<'_>, name: &str) -> Result<String, AllocError> {
-    String::from_str(alloc, words.get_str(name).unwrap_or(""))
 }
 
 /// The word given for an argument, where there is one.
@@ -152,10 +161,15 @@ fn asked_all(alloc: Global, words: &ArgMatches<'_>) -> Result<Request, AllocErro
 }
 
 /// What `convert` asks for.
-fn asked_convert(alloc: Global, words: &ArgMatches<'_>) -> Result<Request, AllocError> {
+fn asked_convert(
+    alloc: Global,
+    words: &ArgMatches<'_>,
+    layout: AskedLayout,
+) -> Result<Request, AllocError> {
     Ok(Request::Convert {
         file: word(alloc, words, "FILE")?,
         out: word(alloc, words, "OUT")?,
+        layout,
     })
 }
 
@@ -173,6 +187,7 @@ fn asked_trace(alloc: Global, words: &ArgMatches<'_>) -> Result<Request, AllocEr
         file: word(alloc, words, "FILE")?,
         stimulus: word(alloc, words, "STIM")?,
         all: words.get_flag("all"),
+        waveform: given(alloc, words, "vcd")?,
     })
 }
 
@@ -190,7 +205,12 @@ pub fn parse(alloc: Global, words: &[String]) -> Result<Option<Request>, Wrong> 
     let request = match matches.subcommand() {
         Some(("check", words)) => asked_check(alloc, words)?,
         Some(("all", words)) => asked_all(alloc, words)?,
-        Some(("convert", words)) => asked_convert(alloc, words)?,
+        Some(("certify", words)) => Request::Certify(asked_certify(alloc, words)?),
+        Some(("to-safety", words)) => Request::ToSafety(asked_to_safety(alloc, words)?),
+        Some(("convert", words)) => match asked_layout(words) {
+            Some(layout) => asked_convert(alloc, words, layout)?,
+            None => return Ok(None),
+        },
         Some(("sim", words)) => asked_sim(alloc, words)?,
         Some(("trace", words)) => asked_trace(alloc, words)?,
         Some(("explain", words)) => asked_explanation(words),

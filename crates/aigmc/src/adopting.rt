@@ -1,0 +1,139 @@
+//! The commands `certify` and `to-safety`: what other engines found becomes evidence.
+
+use crate::checking::{ask, is_taken};
+use crate::files::{circuit, keep, make};
+use crate::fitting;
+use crate::shadow::shadow_file;
+use crate::stop::{DONE, Role, Stop, about, finished, read_of};
+use arguments::{Claim, EngineKind, Search, Shadow};
+use certify::{Certified, certify};
+use cli::{CliError, Layout, Verdict, property_named};
+use graph::{AigerFile, Budget, FromRead, Lit, Property, ReadToEndError, Seq, read_to_end};
+use inputs::{is_standard, open};
+
+/// The status of clauses that are no inductive invariant which excludes the property's literal.
+const NO_INVARIANT: u8 = 1;
+/// The status of a budget that is exhausted, and of a search that found nothing.
+const SPENT: u8 = 2;
+
+/// The clauses that the file of this name spells.
+fn read_clauses(rt: &HostRuntime, name: &str) -> Result<Seq<Seq<Lit>>, Stop> {
+    let file = finished(open(rt, name))?;
+    let text = match read_to_end(rt.alloc(), &mut FromRead::new(file)) {
+        Ok(text) => text,
+        Err(ReadToEndError::OutOfMemory(refused)) => return Err(Stop::from(refused)),
+        Err(ReadToEndError::Device) => return Err(Stop::Refused(CliError::Device)),
+    };
+    let clauses = invariant::read(rt.alloc(), text.as_slice())?;
+    Ok(clauses)
+}
+
+/// The clauses in the file of this name.
+fn clauses_of(rt: &HostRuntime, name: &str) -> Result<Seq<Seq<Lit>>, Stop> {
+    read_of(Role::Invariant, read_clauses(rt, name))
+}
+
+/// Looks by IC3 for an invariant, beginning with the clauses, of which nothing is believed.
+fn strengthened(
+    rt: &HostRuntime,
+    asked: &Claim,
+    property: Property,
+    file: &AigerFile,
+    clauses: Seq<Seq<Lit>>,
+) -> Result<u8, Stop> {
+    let search = Search {
+        engine: EngineKind::Inductive,
+        depth: 0,
+        budget: asked.budget,
+        seed: 0,
+        verbose: false,
+    };
+    let verdict = ask(rt, file, property, search, clauses)?;
+    match &verdict {
+        Verdict::Safe(_) => {
+            keep(rt, asked.certificate.as_str(), property, &verdict)?;
+            Ok(DONE)
+        }
+        Verdict::Unsafe(_) => {
+            let _ = eprintln!(rt; "aigmc: the property is violated");
+            Ok(NO_INVARIANT)
+        }
+        Verdict::Unknown(_) => {
+            let _ = eprintln!(rt; "aigmc: nothing is known of the property");
+            Ok(SPENT)
+        }
+    }
+}
+
+/// Makes a certificate of the clauses, each case of which is proved. Where none was made, standard error says why.
+fn certified(
+    rt: &HostRuntime,
+    asked: &Claim,
+    property: Property,
+    file: &AigerFile,
+    clauses: Seq<Seq<Lit>>,
+) -> Result<u8, Stop> {
+    let mut budget = Budget::new(asked.budget);
+    let outcome = certify(
+        rt.alloc(),
+        file.model(),
+        property,
+        clauses.as_slice(),
+        &mut budget,
+    )?;
+    match outcome {
+        Certified::Certificate(certificate) => {
+            keep(
+                rt,
+                asked.certificate.as_str(),
+                property,
+                &Verdict::Safe(certificate),
+            )?;
+            Ok(DONE)
+        }
+        Certified::NotInvariant if asked.strengthen => {
+            strengthened(rt, asked, property, file, clauses)
+        }
+        Certified::NotInvariant => {
+            let _ = eprintln!(rt;
+                "aigmc: the clauses are no inductive invariant that excludes the property's literal"
+            );
+            Ok(NO_INVARIANT)
+        }
+        Certified::Spent => {
+            let _ = eprintln!(rt; "aigmc: the budget is exhausted");
+            Ok(SPENT)
+        }
+    }
+}
+
+/// Makes a certificate of the clauses in a file, in the file of that name.
+pub fn certify_clauses(rt: &HostRuntime, asked: &Claim) -> Result<u8, Stop> {
+    let property = property_named(asked.property.as_str()).ok_or(Stop::BadArgument)?;
+    if is_standard(asked.file.as_str()) && is_standard(asked.invariant.as_str()) {
+        return Err(Stop::BadArgument);
+    }
+    if is_taken(rt, asked.file.as_str(), asked.certificate.as_str()) {
+        return Err(Stop::BadArgument);
+    }
+    let file = circuit(rt, asked.file.as_str())?;
+    let clauses = clauses_of(rt, asked.invariant.as_str())?;
+    about(
+        Role::Circuit,
+        certified(rt, asked, property, &file, clauses),
+    )
+}
+
+/// Makes the file of that name with the shadow circuit of a justice property.
+pub fn make_shadow(rt: &HostRuntime, asked: &Shadow) -> Result<u8, Stop> {
+    let Some(Property::Justice(position)) = property_named(asked.property.as_str()) else {
+        return Err(Stop::BadArgument);
+    };
+    let out = asked.out.as_str();
+    let layout = Layout::of_name(out).ok_or(Stop::BadArgument)?;
+    let file = circuit(rt, asked.file.as_str())?;
+    let shadow = about(Role::Circuit, shadow_file(rt.alloc(), &file, position))?;
+    let shadow = fitting(rt.alloc(), shadow, layout)?;
+    make(rt, out, &shadow, layout)?;
+    Ok(DONE)
+}

@@ -1,0 +1,184 @@
+//! What standard error says of a search: how far it is, and what it found.
+
+use cli::Verdict;
+use engine::{Progress, Reason};
+use graph::{Budget, Property};
+use std::fs;
+use std::os::unix::fs::{FileTypeExt, MetadataExt};
+use std::time::Instant;
+use stimulus::Stimulus;
+
+/// How long the one line stays as it is.
+const MILLISECONDS: u128 = 500;
+/// Steps are shown in millions, with one place behind the point.
+const MILLION: u64 = 1_000_000;
+
+const TENTH: u64 = 100_000;
+
+/// How a search is shown.
+#[derive(Clone, Copy, Debug, PartialEq, Eq)]
+pub enum Shown {
+    /// Not at all.
+    Nothing,
+    /// By a line for each frame or depth.
+    Lines,
+    /// By one line, which is written over each half second and is gone at the end.
+    OneLine,
+}
+
+/// Whether standard error is a terminal: a character device of a kind that Linux has for terminals
+/// (Documentation/admin-guide/devices.txt: 4 and 5 for consoles and lines, 136 to 143 for those of programs).
+pub fn is_terminal(rt: &HostRuntime) -> bool {
+    match fs::metadata(rt, "/dev/stderr") {
+        Ok(found) => {
+            found.file_type().is_char_device()
+                && matches!((found.rdev() >> 8) & 0xfff, 4 | 5 | 136..=143)
+        }
+        Err(_) => false,
+    }
+}
+
+impl Shown {
+    /// By lines where they are asked for, and else by one line where standard error is a terminal.
+    pub fn new(rt: &HostRuntime, verbose: bool) -> Shown {
+        if verbose {
+            Shown::Lines
+        } else if is_terminal(rt) {
+            Shown::OneLine
+        } else {
+            Shown::Nothing
+        }
+    }
+
+    /// Takes the one line away.
+    pub fn wipe(self, rt: &HostRuntime) {
+        if self == Shown::OneLine {
+            let _ = eprint!(rt; "\r\x1b[K");
+        }
+    }
+}
+
+/// Shows on standard error how far a search is. A line that cannot be written is left out.
+#[derive(Drop)]
+pub struct Reporter {
+    rt: HostRuntime,
+    shown: Shown,
+    /// the frame that was opened last
+    frame: u32,
+    /// the clauses that the frames had then
+    clauses: usize,
+    /// when the one line was written
+    written: Option<Instant>,
+}
+
+impl Reporter {
+    /// A reporter that shows a search in this way.
+    pub fn new(rt: &HostRuntime, shown: Shown) -> Reporter {
+        Reporter {
+            rt: *rt,
+            shown,
+            frame: 0,
+            clauses: 0,
+            written: None,
+        }
+    }
+
+    /// Whether the one line is due: half a second after it was written, or after the first question.
+    fn is_due(&mut self) -> bool {
+        let Ok(now) = Instant::now(&self.rt) else {
+            return false;
+        };
+        let is_due = match self.written {
+            Some(before) => now.duration_since(before).as_millis() >= MILLISECONDS,
+            None => false,
+        };
+        if is_due || self.written.is_none() {
+            self.written = Some(now);
+        }
+        is_due
+    }
+
+    /// Says in which frame the search is, between these two texts.
+    fn say_frame(&self, before: &str, behind: &str, budget: &Budget) {
+        let spent = budget.spent();
+        let all = spent.saturating_add(budget.left());
+        let _ = eprint!(self.rt;
+            "{before}ic3: frame {}, {} clauses, {}.{} of {}.{} million steps{behind}",
+            self.frame,
+            self.clauses,
+            spent / MILLION,
+            spent % MILLION / TENTH,
+            all / MILLION,
+            all % MILLION / TENTH
+        );
+    }
+
+    /// Says which depth the search has come to, between these two texts.
+    fn say_depth(&self, before: &str, depth: u32, variables: u32, behind: &str, budget: &Budget) {
+        let spent = budget.spent();
+        let all = spent.saturating_add(budget.left());
+        let _ = eprint!(self.rt;
+            "{before}bmc: depth {depth}, {variables} variables, {}.{} of {}.{} million steps{behind}",
+            spent / MILLION,
+            spent % MILLION / TENTH,
+            all / MILLION,
+            all % MILLION / TENTH
+        );
+    }
+}
+
+impl Progress for Reporter {
+    fn opened(&mut self, frame: u32, clauses: usize, budget: &Budget) {
+        self.frame = frame;
+        self.clauses = clauses;
+        if self.shown == Shown::Lines {
+            self.say_frame("", "\n", budget);
+        }
+    }
+
+    fn begun(&mut self, steps: u32, variables: u32, budget: &Budget) {
+        if self.shown == Shown::Lines {
+            self.say_depth("", steps, variables, "\n", budget);
+        } else if self.shown == Shown::OneLine && self.is_due() {
+            self.say_depth("\r", steps, variables, "\x1b[K", budget);
+        }
+    }
+
+    fn asked(&mut self, budget: &Budget) {
+        if self.shown == Shown::OneLine && self.is_due() {
+            self.say_frame("\r", "\x1b[K", budget);
+        }
+    }
+}
+
+/// Says what was found of the property, and why nothing is known of it.
+pub fn conclude(rt: &HostRuntime, property: Property, verdict: &Verdict) {
+    let (letter, number) = match property {
+        Property::Bad(number) => ('b', number),
+        Property::Justice(number) => ('j', number),
+        Property::Output(number) => ('o', number),
+    };
+    let _ = match verdict {
+        Verdict::Safe(certificate) => {
+            let clauses = certificate.invariant.as_slice().len();
+            eprintln!(rt; "{letter}{number}: holds, by an invariant of {clauses} clauses")
+        }
+        Verdict::Unsafe(Stimulus::Violated { inputs, .. }) => {
+            let times = inputs.as_slice().len();
+            eprintln!(rt; "{letter}{number}: violated, by a run of {times} times")
+        }
+        Verdict::Unsafe(_) => eprintln!(rt; "{letter}{number}: violated"),
+        Verdict::Unknown(Reason::Depth(depth)) => {
+            let times = depth.saturating_add(1);
+            eprintln!(rt;
+                "{letter}{number}: no run of at most {times} times; a greater --depth looks further"
+            )
+        }
+        Verdict::Unknown(Reason::Budget) => {
+            eprintln!(rt; "{letter}{number}: the budget is spent; a greater --budget looks further")
+        }
+        Verdict::Unknown(Reason::NoEvidence) => eprintln!(rt;
+            "{letter}{number}: no engine had evidence"
+        ),
+    };
+}

@@ -1,0 +1,104 @@
+//! The shadow circuit of a justice property as a file, with names.
+
+use crate::stop::Stop;
+use base::{Refused, extend, push};
+use graph::{AigerFile, Seq, Symbol, SymbolKind};
+use live_safe::to_safety;
+use std::alloc::Global;
+
+/// The name of the input that asks for the copy of the latches.
+const SAVE: &[u8] = b"save";
+/// The name of the latch that says whether there is one.
+const SAVED: &[u8] = b"saved";
+/// What stands before a latch's name in that of its copy.
+const COPY: &[u8] = b"copy.";
+
+/// Adds a name.
+fn add(
+    alloc: Global,
+    symbols: &mut Vec<Symbol>,
+    kind: SymbolKind,
+    position: u32,
+    name: &[u8],
+) -> Result<(), Refused> {
+    let name = Seq::from_slice(alloc, name)?;
+    push(
+        symbols,
+        Symbol {
+            kind,
+            position,
+            name,
+        },
+    )
+}
+
+/// Adds the name of a latch's copy.
+fn add_copy(
+    alloc: Global,
+    symbols: &mut Vec<Symbol>,
+    position: u32,
+    latch: &[u8],
+) -> Result<(), Refused> {
+    let mut name = Vec::new(alloc);
+    extend(&mut name, COPY)?;
+    extend(&mut name, latch)?;
+    add(alloc, symbols, SymbolKind::Latch, position, name.as_slice())
+}
+
+/// Adds what the name of something in the circuit with so many latches becomes in the shadow circuit of the
+/// justice property at the position. An output's name, and that of another property, becomes nothing.
+fn add_old(
+    alloc: Global,
+    symbols: &mut Vec<Symbol>,
+    symbol: &Symbol,
+    latches: u32,
+    justice: u32,
+) -> Result<(), Refused> {
+    let name = symbol.name.as_slice();
+    match symbol.kind {
+        SymbolKind::Input | SymbolKind::Constraint => {
+            add(alloc, symbols, symbol.kind, symbol.position, name)
+        }
+        SymbolKind::Latch => {
+            add(alloc, symbols, symbol.kind, symbol.position, name)?;
+            let copy = latches.saturating_add(1).saturating_add(symbol.position);
+            add_copy(alloc, symbols, copy, name)
+        }
+        SymbolKind::Justice if symbol.position == justice => {
+            add(alloc, symbols, SymbolKind::Bad, 0, name)
+        }
+        _ => Ok(()),
+    }
+}
+
+/// How many there are, which the limits of a circuit keep at 4,194,303 at most.
+fn count(length: usize) -> u32 {
+    if length < 4_194_303 {
+        length as u32
+    } else {
+        4_194_303
+    }
+}
+
+/// The names in the shadow circuit: those of the file, those of the copies, and the two of what is new.
+fn names(alloc: Global, file: &AigerFile, justice: u32) -> Result<Vec<Symbol>, Refused> {
+    let latches = count(file.model().latches().len());
+    let inputs = count(file.model().inputs().len());
+    let mut symbols = Vec::new(alloc);
+    for symbol in file.symbols() {
+        add_old(alloc, &mut symbols, symbol, latches, justice)?;
+    }
+    add(alloc, &mut symbols, SymbolKind::Input, inputs, SAVE)?;
+    add(alloc, &mut symbols, SymbolKind::Latch, latches, SAVED)?;
+    Ok(symbols)
+}
+
+/// The file of the shadow circuit of the justice property at the position: its inputs, latches and constraints have the
+/// names that they have in the circuit's file, the copy of a latch is called `copy.` and the latch's name, the new input
+/// `save`, the latch that it sets `saved`, and the bad literal as the justice property.
+pub fn shadow_file(alloc: Global, file: &AigerFile, position: u32) -> Result<AigerFile, Stop> {
+    let model = to_safety(alloc, file.model(), position)?;
+    let symbols = Seq::from_vec(names(alloc, file, position)?);
+    let shadow = AigerFile::new(alloc, model, symbols, None)?;
+    Ok(shadow)
+}

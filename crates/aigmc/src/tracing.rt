@@ -1,0 +1,35 @@
+//! The command `trace`.
+
+use crate::files::{circuit, make_waveform, path_of, print_trace, stimulus_of};
+use crate::making::is_same;
+use crate::stop::{DONE, Stop};
+use inputs::is_standard;
+
+/// Whether the file to make is the one that is read by that name.
+fn is_read(rt: &HostRuntime, out: &str, name: &str) -> bool {
+    !is_standard(out) && is_same(rt, out, path_of(name))
+}
+
+/// Prints the replay of a stimulus by the names of its signals, or makes the file of that name with its waveform, where one
+/// is named.
+pub fn trace(
+    rt: &HostRuntime,
+    name: &str,
+    stimulus: &str,
+    all: bool,
+    waveform: Option<&str>,
+) -> Result<u8, Stop> {
+    if is_standard(name) && is_standard(stimulus) {
+        return Err(Stop::BadArgument);
+    }
+    if waveform.is_some_and(|out| is_read(rt, out, name) || is_read(rt, out, stimulus)) {
+        return Err(Stop::BadArgument);
+    }
+    let file = circuit(rt, name)?;
+    let stimulus = stimulus_of(rt, stimulus)?;
+    match waveform {
+        None => print_trace(rt, &file, &stimulus, all)?,
+        Some(out) => make_waveform(rt, out, &file, &stimulus, all)?,
+    }
+    Ok(DONE)
+}
