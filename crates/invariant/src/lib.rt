@@ -2,7 +2,7 @@
 //!
 //! - `read` answers the clauses that a text spells: a line for each, with the literals of the circuit's
 //!   latches; or a certificate, of which the clauses alone are taken. It answers Ok exactly on the texts that spell
-//!   clauses so (`SpellsInvariant`), with those; only want of memory can keep it from them. Every other
+//!   clauses so (`SpellsInvariant`), with those; only refused memory can keep it from them. Every other
 //!   text is refused at its first fault, by the byte.
 //!
 //! Nothing is believed of the clauses: whether they are an inductive invariant of a circuit, and over its latches, is
