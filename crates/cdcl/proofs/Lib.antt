@@ -1,3 +1,5 @@
-pub mod Few
 pub mod Logged
+pub mod Sections
+pub mod Selecting
 pub mod Ended
+pub mod Few

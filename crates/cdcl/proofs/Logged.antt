@@ -1,60 +1,69 @@
 -- The lines of a log lead from the formula to the clauses as they are.
-use Rattle.std.proofs.Common.{◌≡◌, ◌≢◌, ◌==◌, ◌∙◌, ◌⊎◌, inl, inr, ℕ, zero, suc, ◌+◌, ◌<◌, ◌≤◌, Bool, true, false, cond, List, [], ◌∷◌, ◌++◌, length, slice_index_or, slice_set, map, All, Option, None, Some, IsSome, ℤ, pos, neg_ℤ, unsigned_abs, refl, sym, ap, subst, arith, length-append}
+use Rattle.std.proofs.Common.{◌≡◌, ◌≢◌, ◌==◌, ◌∙◌, inl, inr, ℕ, zero, suc, ◌+◌, ◌<◌, ◌≤◌, nat_lt, if◌then◌else◌, Bool, true, false, cond, List, [], ◌∷◌, ◌++◌, length, slice_index_or, map, All, Option, None, Some, IfSome, ℤ, pos, neg_ℤ, unsigned_abs, refl, sym, ap, subst, arith, length-append}
 use Rattle.std.specs.FinMap as fin
-use Rattle.std.specs.FinMap.{nat_cmp-IsAntisymmetric}
-use Rattle.std.specs.Ordering.{nat_cmp, is_eq, eq_by_cmp}
-use Rattle.std.specs.declared.cmp.Ordering.TheVariants.{Less, Equal, Greater}
+use Rattle.std.specs.Ordering.{nat_cmp, eq_by_cmp}
 use Rattle.std.specs.Cmp.{nat_cmp_total, eq_by_cmp_equiv}
-use Rattle.std.proofs.lemmas.List.{length-set}
+use Rattle.std.proofs.lemmas.Bool.{cases_lt}
+use Rattle.std.proofs.lemmas.Bool.Decides.{nat_tests}
 use Rattle.std.proofs.lemmas.List.Elements.{All-nil, All-cons, All-push, All-map}
 use Rattle.lrat.specs.Store.{ById}
-use Rattle.lrat.specs.Literals.{IsLiteral}
+use Rattle.lrat.specs.Literals.{Finder, IsLiteral}
 use Rattle.lrat.specs.Lines.{Leads, IsAcceptedLine}
 use Rattle.lrat.specs.Limits.{IsHint, IsLine}
-use Rattle.lrat.specs.Stages.{Stage, TakesOut, IsPositive, is_nil, Goes, GoAlong}
-use Rattle.lrat.specs.Proofs.{numbered_from, first_stage, IsAcceptedProof}
+use Rattle.lrat.specs.Stages.{Stage, IsPositive, is_nil, Goes, GoAlong}
+use Rattle.lrat.specs.Proofs.{numbered_from}
 use Rattle.lrat.specs.declared.formula.Formula.{Formula}
 use Rattle.lrat.specs.declared.line.Line.{Line}
 use Rattle.lrat.specs.declared.line.Line.TheVariants.{Add, Delete}
-use Rattle.cdcl_kernel.specs.Kept.{Kept, find_in, kept_in, live, gone, added, without}
-use Rattle.cdcl_kernel.specs.Forgotten.{GoOut}
+use Rattle.lrat.proofs.Numbered.{get_new}
+use Rattle.cdcl_kernel.specs.Kept.{Kept, find_in, kept_in, live, gone, added}
+use Rattle.cdcl_kernel.specs.Forgotten.{Forgets}
 use Rattle.cdcl_kernel.specs.Known.{Known, with_clause, IsLearned, Learns}
-use Rattle.std.proofs.lemmas.Bool.Decides.{nat_tests}
 use Rattle.cdcl_kernel.specs.declared.origin.Origin.TheVariants.{Learned}
 use Rattle.cdcl_kernel.proofs.Follow.{added_learned}
-use Rattle.cdcl_kernel.proofs.Forgetting.{by_eq, kept_other}
-use Rattle.cdcl.specs.Logged.{LeadTo, formula_of, IsLog, as_added, is_wanted}
+use Rattle.cdcl_kernel.proofs.Forgetting.{by_eq}
+use Rattle.cdcl.specs.Logged.{shifted, first_id, start, AreNumbered, AreLines, LeadTo, IsNext, clause_of, formula_of, IsLog, as_added, is_wanted}
 use Rattle.cdcl.specs.declared.logging.Logging.{Logging}
 use Rattle.cdcl.specs.declared.logging.Logging.TheVariants.{Unwanted, Open, Closed}
+use Rattle.cdcl.specs.declared.numbering.Numbering.{Numbering}
 
--- ---- clauses by their ids
+-- ---- ids
 
-apart_keys : (q k : ℕ) → q ≢ k → eq_by_cmp nat_cmp q k ≡ false
-apart_keys q k ne =
-    elim (nat_cmp q k) as (λ o. nat_cmp q k ≡ o → is_eq o ≡ false) [
-      | Less ↦ λ e. refl
-      | Equal ↦ λ e. absurd (ne (nat_cmp-IsAntisymmetric q k e))
-      | Greater ↦ λ e. refl
-    ] refl
+is_above : (a b : ℕ) → a < b → nat_lt a b ≡ true
+is_above a b lt = grind (arith, nat_tests)
+
+is_not_above : (a b : ℕ) → b ≤ a → nat_lt a b ≡ false
+is_not_above a b le = grind (arith, nat_tests)
+
+pub shifted_behind : (n : Numbering) (id : ℕ) → n.base < id → shifted n id ≡ id + n.room
+shifted_behind n id lt = ap (λ b. if b then id + n.room else id) (is_above n.base id lt)
+
+pub shifted_before : (n : Numbering) (id : ℕ) → id ≤ n.base → shifted n id ≡ id
+shifted_before n id le = ap (λ b. if b then id + n.room else id) (is_not_above n.base id le)
+
+shifted_most : (n : Numbering) (id : ℕ) → shifted n id ≤ id + n.room
+shifted_most n id =
+    elim (cases_lt n.base id) [
+      | inl lt ↦ let e = shifted_behind n id lt in omega (arith, e)
+      | inr le ↦ let e = shifted_before n id le in omega (arith, e)
+    ]
+
+shifted_least : (n : Numbering) (id : ℕ) → id ≤ shifted n id
+shifted_least n id =
+    elim (cases_lt n.base id) [
+      | inl lt ↦ let e = shifted_behind n id lt in omega (arith, e)
+      | inr le ↦ let e = shifted_before n id le in omega (arith, e)
+    ]
 
 same_keys : (q : ℕ) → eq_by_cmp nat_cmp q q ≡ true
 same_keys q = (eq_by_cmp_equiv nat_cmp_total).refl q
 
-get_new : (m : ById) (k q : ℕ) (c : List ℤ) → q ≢ k → fin.get (fin.insert m k c) q ≡ fin.get m q
-get_new m k q c ne = fin.get-insert nat_cmp_total m k c q ∙ ap (λ b. cond b (Some c) (fin.get m q)) (apart_keys q k ne)
-
-get_same : (m : ById) (q : ℕ) (c : List ℤ) → fin.get (fin.insert m q c) q ≡ Some c
+pub get_same : (m : ById) (q : ℕ) (c : List ℤ) → fin.get (fin.insert m q c) q ≡ Some c
 get_same m q c = fin.get-insert nat_cmp_total m q c q ∙ ap (λ b. cond b (Some c) (fin.get m q)) (same_keys q)
-
-get_left : (m : ById) (k q : ℕ) → q ≢ k → fin.get (fin.remove m k) q ≡ fin.get m q
-get_left m k q ne = fin.get-remove nat_cmp_total m k q ∙ ap (λ b. cond b None (fin.get m q)) (apart_keys q k ne)
-
-get_gone : (m : ById) (q : ℕ) → fin.get (fin.remove m q) q ≡ None
-get_gone m q = fin.get-remove nat_cmp_total m q q ∙ ap (λ b. cond b None (fin.get m q)) (same_keys q)
 
 -- ---- at the beginning
 
-below : (cs : List (List ℤ)) (k q : ℕ) (m : ById) → q < k → fin.get (numbered_from k cs m) q ≡ fin.get m q
+pub below : (cs : List (List ℤ)) (k q : ℕ) (m : ById) → q < k → fin.get (numbered_from k cs m) q ≡ fin.get m q
 below [] k q m lt = refl
 below (c ∷ cs) k q m lt = below cs (k + 1) q (fin.insert m k c) (omega arith) ∙ get_new m k q c (omega arith)
 
@@ -81,23 +90,9 @@ length_added : (cs : List (List ℤ)) → length (added (map as_added cs)) ≡ l
 length_added [] = refl
 length_added (c ∷ cs) = ap suc (length_added cs)
 
-pub begun : (n : ℕ) (cs : List (List ℤ)) (ks : List Kept) → ks ≡ map as_added cs → IsLog Open n ks []
-begun n cs ks e = subst (λ us. IsLog Open n us []) (sym e) (
-  All-nil IsLine,
-  record {
-    reached = first_stage (formula_of n (map as_added cs));
-    along = refl;
-    present = numbered cs;
-    top = length_added cs;
-    is_open = refl;
-  },
-)
-
--- ---- one line more
-
-along_more : (n : ℕ) (ls : List Line) (s t u : Stage) (l : Line) → GoAlong n s ls t → Goes n t l u → GoAlong n s (ls ++ l ∷ []) u
-along_more n [] s t u l same goes = (u, subst (λ w. Goes n w l u) same goes, refl)
-along_more n (k ∷ ls) s t u l along goes = (along.0, along.1, along_more n ls along.0 t u l along.2 goes)
+length_as_added : (cs : List (List ℤ)) → length (map as_added cs) ≡ length cs
+length_as_added [] = refl
+length_as_added (c ∷ cs) = ap suc (length_as_added cs)
 
 none_some : (c : List ℤ) → live gone ≡ Some c → ⊥
 none_some c e = cc
@@ -115,34 +110,149 @@ used : (ks : List Kept) (id : ℕ) (c : List ℤ) → find_in ks id ≡ Some c �
 used ks zero c e = absurd (none_some c e)
 used ks (suc i) c e = let lt = in_list ks i c e in (omega arith, omega arith)
 
+begun_all : (v : ℕ) (n : Numbering) (cs : List (List ℤ)) → n.base ≡ length cs → IsLog Open n v (map as_added cs) [] None
+begun_all v n cs base =
+    let all : length (added (map as_added cs)) ≡ length cs = length_added cs ∙ length_as_added cs in (
+      record { base = base ∙ sym all; in_limits = All-nil IsLine; numbered = tt },
+      record {
+        reached = start (formula_of v (map as_added cs)) n.room;
+        along = refl;
+        present = λ id c e.
+            let u = used (map as_added cs) id c e in
+            ap (fin.get (numbered_from 1 (added (map as_added cs)) fin.empty)) (shifted_before n id (omega (arith, u.1, length_as_added cs, base))) ∙ numbered cs id ∙ e;
+        top = ap (λ u. u + n.room) (length_added cs);
+        count = omega (arith, length_as_added cs, base);
+        is_open = refl;
+      },
+      tt,
+    )
+
+pub begun : (v : ℕ) (n : Numbering) (cs : List (List ℤ)) (ks : List Kept) → n.base ≡ length cs → ks ≡ map as_added cs → IsLog Open n v ks [] None
+begun v n cs ks base e = subst (λ us. IsLog Open n v us [] None) (sym e) (begun_all v n cs base)
+
+-- ---- one line more
+
+pub along_more : (v : ℕ) (ls : List Line) (s t u : Stage) (l : Line) → GoAlong v s ls t → Goes v t l u → GoAlong v s (ls ++ l ∷ []) u
+along_more v [] s t u l same goes = (u, subst (λ w. Goes v w l u) same goes, refl)
+along_more v (k ∷ ls) s t u l along goes = (along.0, along.1, along_more v ls along.0 t u l along.2 goes)
+
 leads_used : (ks : List Kept) (s : List ℤ) (ids : List ℕ) (t : List ℤ) → Leads (find_in ks) s ids t → All (IsUsed (length ks)) ids
 leads_used ks s [] t leads = All-nil (IsUsed (length ks))
 leads_used ks s (id ∷ ids) t leads = All-cons (IsUsed (length ks)) id ids (used ks id leads.1.clause leads.1.found) (leads_used ks (s ++ leads.0 ∷ []) ids t leads.2)
 
-hints_used : (ks : List Kept) (n : ℕ) (c : List ℤ) (hints : List ℕ) → IsAcceptedLine n (find_in ks) c hints → All (IsUsed (length ks)) hints
-hints_used ks n c hints line =
+hints_used : (ks : List Kept) (v : ℕ) (c : List ℤ) (hints : List ℕ) → IsAcceptedLine v (find_in ks) c hints → All (IsUsed (length ks)) hints
+hints_used ks v c hints line =
     let s = line.shown in
     subst (All (IsUsed (length ks))) (sym s.are)
     (All-push (IsUsed (length ks)) s.first s.last (leads_used ks (map neg_ℤ c) s.first s.reached s.leads) (used ks s.last s.conflict.clause s.conflict.found))
 
-positive : (n : ℕ) (hints : List ℕ) → All (IsUsed n) hints → All IsPositive (map pos hints)
-positive n hints all = All-map IsPositive pos hints (λ k d lt. (all k d lt).0)
+-- the ids of lines for ids of the kernel
+abbrev in_log : Numbering → List ℕ → List ℤ
+in_log n hints = map (λ h. pos (shifted n h)) hints
+
+positive : (n : Numbering) (most : ℕ) (hints : List ℕ) → All (IsUsed most) hints → All IsPositive (in_log n hints)
+positive n most hints all = All-map IsPositive (λ h. pos (shifted n h)) hints (λ k d lt. let u = all k d lt in let le = shifted_least n (slice_index_or hints k d) in omega (arith, u.0, le))
 
 pos_nonzero : (h : ℕ) → 0 < h → pos h ≢ pos 0
 pos_nonzero h lt e = let f : h ≡ 0 = ap unsigned_abs e in omega arith
 
-are_hints : (n : ℕ) (hints : List ℕ) → n ≤ 4294967295 → All (IsUsed n) hints → All IsHint (map pos hints)
-are_hints n hints le all = All-map IsHint pos hints (λ k d lt. let u = all k d lt in (pos_nonzero _ u.0, omega (arith, u.1)))
+are_hints : (n : Numbering) (most : ℕ) (hints : List ℕ) → most + n.room ≤ 4294967295 → All (IsUsed most) hints → All IsHint (in_log n hints)
+are_hints n most hints le all =
+    All-map IsHint (λ h. pos (shifted n h)) hints (λ k d lt.
+    let u = all k d lt in
+    let least = shifted_least n (slice_index_or hints k d) in
+    let greatest = shifted_most n (slice_index_or hints k d) in
+    (pos_nonzero _ (omega (arith, u.0, least)), omega (arith, u.1, greatest, le)))
 
-back : (hints : List ℕ) → map unsigned_abs (map pos hints) ≡ hints
-back [] = refl
-back (h ∷ hints) = ap (λ u. h ∷ u) (back hints)
+are_below : (n : Numbering) (most bound : ℕ) (hints : List ℕ) → most + n.room < bound → All (IsUsed most) hints → All (λ h. unsigned_abs h < bound) (in_log n hints)
+are_below n most bound hints lt all =
+    All-map (λ h. unsigned_abs h < bound) (λ h. pos (shifted n h)) hints (λ k d k_in.
+    let u = all k d k_in in
+    let greatest = shifted_most n (slice_index_or hints k d) in
+    omega (arith, u.1, greatest, lt))
 
-same_finder : (m : ById) (ks : List Kept) → ((id : ℕ) → fin.get m id ≡ find_in ks id) → find_in ks ≡ fin.get m
-same_finder m ks p = λ i id. sym (p id) i
+back : (n : Numbering) (hints : List ℕ) → map unsigned_abs (in_log n hints) ≡ map (shifted n) hints
+back n [] = refl
+back n (h ∷ hints) = ap (λ u. shifted n h ∷ u) (back n hints)
+
+-- the same clauses under other ids
+abbrev Renames : Finder → Finder → (ℕ → ℕ) → Type 0
+Renames m k f = (id : ℕ) (c : List ℤ) → m id ≡ Some c → k (f id) ≡ Some c
+
+leads_renamed : (m k : Finder) (f : ℕ → ℕ) (ids : List ℕ) (s t : List ℤ) → Renames m k f → Leads m s ids t → Leads k s (map f ids) t
+leads_renamed m k f [] s t names same = same
+leads_renamed m k f (id ∷ ids) s t names (l, one, rest) = (
+  l,
+  record { clause = one.clause; found = names id one.clause one.found; leaves = one.leaves; new_in = one.new_in },
+  leads_renamed m k f ids (s ++ l ∷ []) t names rest,
+)
+
+map_push : (f : ℕ → ℕ) (xs : List ℕ) (x : ℕ) → map f (xs ++ x ∷ []) ≡ map f xs ++ f x ∷ []
+map_push f [] x = refl
+map_push f (y ∷ xs) x = ap (λ u. f y ∷ u) (map_push f xs x)
+
+accepted_renamed : (m k : Finder) (f : ℕ → ℕ) (v : ℕ) (c : List ℤ) (hints : List ℕ) → Renames m k f → IsAcceptedLine v m c hints → IsAcceptedLine v k c (map f hints)
+accepted_renamed m k f v c hints names line =
+    let s = line.shown in
+    record {
+      proper = line.proper;
+      shown = record {
+        first = map f s.first;
+        last = f s.last;
+        are = ap (map f) s.are ∙ map_push f s.first s.last;
+        reached = s.reached;
+        leads = leads_renamed m k f s.first (map neg_ℤ c) s.reached names s.leads;
+        conflict = record { clause = s.conflict.clause; found = names s.last s.conflict.clause s.conflict.found; denied = s.conflict.denied };
+      };
+    }
+
+-- the stage behind an added line
+abbrev pub after : Stage → ℕ → List ℤ → Stage
+after s id c = record { present = fin.insert s.present id c; top = id; closed = is_nil c }
+
+-- what the kernel takes is an accepted line
+goes_add : (v : ℕ) (f : Formula) (n : Numbering) (ks : List Kept) (ls : List Line) (c : List ℤ) (hints : List ℕ) (id : ℕ) → id ≡ length ks + n.room + 1 → (l : LeadTo f n ks ls) → IsAcceptedLine v (find_in ks) c hints
+    → Goes v l.reached (Add id c (in_log n hints)) (after l.reached id c)
+goes_add v f n ks ls c hints id is l line = (
+  l.is_open,
+  omega (arith, l.top, is),
+  positive n (length ks) hints (hints_used ks v c hints line),
+  subst (IsAcceptedLine v (fin.get l.reached.present) c) (sym (back n hints)) (accepted_renamed (find_in ks) (fin.get l.reached.present) (shifted n) v c hints l.present line),
+  refl,
+)
 
 in_range : (n : ℕ) (c : List ℤ) → n ≤ 2147483647 → All (IsLiteral n) c → All (IsLiteral 2147483647) c
 in_range n c le all k d lt = let l = all k d lt in (l.0, omega (arith, l.1))
+
+is_line : (v : ℕ) (n : Numbering) (ks : List Kept) (c : List ℤ) (hints : List ℕ) (id : ℕ) → v ≤ 2147483647 → length ks + n.room < 4294967295 → id ≡ length ks + n.room + 1 → All (IsLiteral v) c → IsAcceptedLine v (find_in ks) c hints
+    → IsLine (Add id c (in_log n hints))
+is_line v n ks c hints id small few is lits line = (
+  (omega (arith, is), omega (arith, is)),
+  in_range v c small lits,
+  are_hints n (length ks) hints (omega arith) (hints_used ks v c hints line),
+)
+
+-- the line that the kernel's log goes on with
+pub next_line : (v : ℕ) (n : Numbering) (ks : List Kept) (ls : List Line) (c : List ℤ) (hints : List ℕ) (id : ℕ) → v ≤ 2147483647 → length ks + n.room < 4294967295 → id ≡ length ks + n.room + 1
+    → LeadTo (formula_of v ks) n ks ls → All (IsLiteral v) c → IsAcceptedLine v (find_in ks) c hints → IsNext (formula_of v ks) n ls c (Add id c (in_log n hints))
+next_line v n ks ls c hints id small few is l lits line = record {
+  id = id;
+  hints = in_log n hints;
+  is = refl;
+  in_limits = is_line v n ks c hints id small few is lits line;
+  below = are_below n (length ks) (first_id n + length ls) hints (omega (arith, l.count)) (hints_used ks v c hints line);
+  reached = after l.reached id c;
+  along = along_more v ls (start (formula_of v ks) n.room) l.reached (after l.reached id c) (Add id c (in_log n hints)) l.along (goes_add v (formula_of v ks) n ks ls c hints id is l line);
+}
+
+numbered_more : (k : ℕ) (ls : List Line) (id : ℕ) (c : List ℤ) (hints : List ℤ) → AreNumbered k ls → id ≡ k + length ls → is_nil c ≡ false → All (λ h. unsigned_abs h < k + length ls) hints → AreNumbered k (ls ++ Add id c hints ∷ [])
+numbered_more k [] id c hints are is some below =
+    let e : k + 0 ≡ k = omega arith in
+    (is ∙ e, some, subst (λ b. All (λ h. unsigned_abs h < b) hints) e below, tt)
+numbered_more k (Add q d others ∷ ls) id c hints are is some below =
+    let e : k + suc (length ls) ≡ k + 1 + length ls = omega arith in
+    (are.0, are.1, are.2, numbered_more (k + 1) ls id c hints are.3 (is ∙ e) some (subst (λ b. All (λ h. unsigned_abs h < b) hints) e below))
+numbered_more k (Delete q ids ∷ ls) id c hints are is some below = absurd are
 
 last_index : (ks : List Kept) (k : Kept) → slice_index_or (ks ++ k ∷ []) (length ks) gone ≡ k
 last_index [] k = refl
@@ -161,157 +271,99 @@ find_other : (ks : List Kept) (k : Kept) (q : ℕ) → q ≢ length ks + 1 → f
 find_other ks k zero ne = refl
 find_other ks k (suc i) ne = ap live (index_other ks k i (λ e. ne (omega (arith, e))))
 
--- the stage behind an added line
-abbrev after : Stage → ℕ → List ℤ → Stage
-after s id c = record { present = fin.insert s.present id c; top = id; closed = is_nil c }
+abbrev learned_clause : List ℤ → Kept
+learned_clause c = record { origin = Learned; clause = c }
 
--- the kernel's learned clause is an accepted line
-goes_add : (n : ℕ) (f : Formula) (ks : List Kept) (ls : List Line) (c : List ℤ) (hints : List ℕ) → (l : LeadTo f ks ls) → IsAcceptedLine n (find_in ks) c hints → Goes n l.reached (Add (length ks + 1) c (map pos hints)) (after l.reached (length ks + 1) c)
-goes_add n f ks ls c hints l line = (
-  l.is_open,
-  omega (arith, l.top),
-  positive (length ks) hints (hints_used ks n c hints line),
-  subst (IsAcceptedLine n (fin.get l.reached.present) c) (sym (back hints)) (subst (λ m. IsAcceptedLine n m c hints) (same_finder l.reached.present ks l.present) line),
-  refl,
-)
+present_more : (n : Numbering) (ks : List Kept) (m : ById) (c : List ℤ) (id : ℕ) → n.base ≤ length ks → id ≡ length ks + n.room + 1 → ((q : ℕ) (d : List ℤ) → find_in ks q ≡ Some d → fin.get m (shifted n q) ≡ Some d)
+    → (q : ℕ) (d : List ℤ) → find_in (ks ++ learned_clause c ∷ []) q ≡ Some d → fin.get (fin.insert m id c) (shifted n q) ≡ Some d
+present_more n ks m c id base is present q d e =
+    by_eq q (length ks + 1)
+    (λ same.
+    let new : shifted n q ≡ id = shifted_behind n q (omega (arith, same, base)) ∙ (let f : q + n.room ≡ length ks + n.room + 1 = omega (arith, same) in f ∙ sym is) in
+    let found : Some c ≡ Some d = sym (ap live (find_last ks (learned_clause c))) ∙ subst (λ p. find_in (ks ++ learned_clause c ∷ []) p ≡ Some d) same e in
+    ap (fin.get (fin.insert m id c)) new ∙ get_same m id c ∙ found)
+    (λ ne.
+    let old : find_in ks q ≡ Some d = sym (find_other ks (learned_clause c) q ne) ∙ e in
+    let u = used ks q d old in
+    let most = shifted_most n q in
+    get_new m id (shifted n q) c (λ same. omega (arith, same, most, u.1, is)) ∙ present q d old)
 
-is_line : (n v : ℕ) (ks : List Kept) (c : List ℤ) (hints : List ℕ) → v ≤ 2147483647 → length ks + 1 ≤ 4294967295 → All (IsLiteral v) c → IsAcceptedLine n (find_in ks) c hints → IsLine (Add (length ks + 1) c (map pos hints))
-is_line n v ks c hints small few lits line = (
-  (omega arith, omega arith),
-  in_range v c small lits,
-  are_hints (length ks) hints (omega arith) (hints_used ks n c hints line),
-)
-
-nil_or : (c : List ℤ) → (c ≡ []) ⊎ (is_nil c ≡ false)
-nil_or [] = inl refl
-nil_or (l ∷ c) = inr refl
+length_learned : (ks : List Kept) (c : List ℤ) → length (ks ++ learned_clause c ∷ []) ≡ length ks + 1
+length_learned ks c = length-append ks (learned_clause c ∷ [])
 
 -- a clause that is learned keeps the log open, but for the empty clause
-pub logged_open : (n : ℕ) (ks : List Kept) (ls : List Line) (c : List ℤ) (hints : List ℕ) → n ≤ 2147483647 → length ks + 1 ≤ 4294967295 → IsLog Open n ks ls → All (IsLiteral n) c → IsAcceptedLine n (find_in ks) c hints → is_nil c ≡ false
-    → IsLog Open n (ks ++ record { origin = Learned; clause = c } ∷ []) (ls ++ Add (length ks + 1) c (map pos hints) ∷ [])
-logged_open n ks ls c hints small few log lits line open_ =
+logged_open : (v : ℕ) (n : Numbering) (ks : List Kept) (ls : List Line) (end : Option Line) (c : List ℤ) (hints : List ℕ) (id : ℕ) → v ≤ 2147483647 → length ks + n.room < 4294967295 → id ≡ length ks + n.room + 1
+    → IsLog Open n v ks ls end → All (IsLiteral v) c → IsAcceptedLine v (find_in ks) c hints → is_nil c ≡ false
+    → IsLog Open n v (ks ++ learned_clause c ∷ []) (ls ++ Add id c (in_log n hints) ∷ []) None
+unfolding next_line
+logged_open v n ks ls end c hints id small few is log lits line open_ =
+    let are = log.0 in
     let l = log.1 in
-    let k : Kept = record { origin = Learned; clause = c } in (
-      All-push IsLine ls _ log.0 (is_line n n ks c hints small few lits line),
+    let next = next_line v n ks ls c hints id small few is l lits line in
+    let same : formula_of v (ks ++ learned_clause c ∷ []) ≡ formula_of v ks = ap (λ cs. record { vars = v; clauses = cs }) (added_learned ks c) in
+    subst (λ (f : Formula). AreLines f n (ls ++ Add id c (in_log n hints) ∷ []) × LeadTo f n (ks ++ learned_clause c ∷ []) (ls ++ Add id c (in_log n hints) ∷ []) × Unit {0}) (sym same) (
       record {
-        reached = after l.reached (length ks + 1) c;
-        along = subst (λ cs. GoAlong n (first_stage (record { vars = n; clauses = cs })) (ls ++ Add (length ks + 1) c (map pos hints) ∷ []) (after l.reached (length ks + 1) c)) (sym (added_learned ks c))
-            (along_more n ls (first_stage (formula_of n ks)) l.reached (after l.reached (length ks + 1) c) (Add (length ks + 1) c (map pos hints)) l.along (goes_add n (formula_of n ks) ks ls c hints l line));
-        present = λ q. by_eq q (length ks + 1)
-            (λ e. subst (λ p. fin.get (fin.insert l.reached.present (length ks + 1) c) p ≡ find_in (ks ++ k ∷ []) p) (sym e) (get_same l.reached.present (length ks + 1) c ∙ sym (ap live (find_last ks k))))
-            (λ ne. get_new l.reached.present (length ks + 1) q c ne ∙ l.present q ∙ sym (find_other ks k q ne));
-        top = omega (arith, length-append ks (k ∷ []));
+        base = are.base;
+        in_limits = All-push IsLine ls _ are.in_limits next.in_limits;
+        numbered = numbered_more (first_id n) ls id c (in_log n hints) are.numbered (omega (arith, is, l.count)) open_ next.below;
+      },
+      record {
+        reached = after l.reached id c;
+        along = next.along;
+        present = present_more n ks l.reached.present c id (omega (arith, l.count)) is l.present;
+        top = omega (arith, is, length_learned ks c);
+        count = omega (arith, l.count, length_learned ks c, length-append ls (Add id c (in_log n hints) ∷ []));
         is_open = open_;
       },
-    )
-
--- the empty clause ends it
-pub logged_closed : (n : ℕ) (ks : List Kept) (ls : List Line) (c : List ℤ) (hints : List ℕ) → n ≤ 2147483647 → length ks + 1 ≤ 4294967295 → IsLog Open n ks ls → All (IsLiteral n) c → IsAcceptedLine n (find_in ks) c hints → c ≡ []
-    → IsLog Closed n ks (ls ++ Add (length ks + 1) c (map pos hints) ∷ [])
-logged_closed n ks ls c hints small few log lits line nil =
-    let l = log.1 in (
-      All-push IsLine ls _ log.0 (is_line n n ks c hints small few lits line),
-      (
-        after l.reached (length ks + 1) c,
-        along_more n ls (first_stage (formula_of n ks)) l.reached (after l.reached (length ks + 1) c) (Add (length ks + 1) c (map pos hints)) l.along (goes_add n (formula_of n ks) ks ls c hints l line),
-        ap is_nil nil,
-      ),
+      tt,
     )
 
 -- ---- clauses that are forgotten
 
-set_gone : (ks : List Kept) (i : ℕ) → slice_index_or (slice_set ks i gone) i gone ≡ gone
-set_gone [] i = refl
-set_gone (k ∷ ks) zero = refl
-set_gone (k ∷ ks) (suc i) = set_gone ks i
+find_kept : (ks now : List Kept) (reasons ids : List ℕ) (id : ℕ) (c : List ℤ) → Forgets ks now reasons ids → find_in now id ≡ Some c → find_in ks id ≡ Some c
+find_kept ks now reasons ids id c out e =
+    elim (out.each id) [
+      | inl went ↦ absurd (none_some c (sym (ap live went.1) ∙ e))
+      | inr stays ↦ sym (ap live stays.1) ∙ e
+    ]
 
-find_gone : (ks : List Kept) (id : ℕ) → find_in (without ks id) id ≡ None
-find_gone ks zero = refl
-find_gone ks (suc i) = ap live (set_gone ks i)
-
-length_without : (ks : List Kept) (id : ℕ) → length (without ks id) ≡ length ks
-length_without ks zero = refl
-length_without ks (suc i) = length-set ks i gone
-
--- without the ids, the clauses are still the same
-record Taken (m : ById) (ids : List ℕ) (ks : List Kept) : Type 0 where
-  left : ById
-  takes : TakesOut m ids left
-  present : (q : ℕ) → fin.get left q ≡ find_in ks q
-
-taken : (ids : List ℕ) (m : ById) (ks now : List Kept) → ((q : ℕ) → fin.get m q ≡ find_in ks q) → GoOut ks ids now → Taken m ids now
-taken [] m ks now p out = record { left = m; takes = refl; present = λ q. p q ∙ ap (λ us. find_in us q) (sym out) }
-taken (id ∷ ids) m ks now p out =
-    let rest = taken ids (fin.remove m id) (without ks id) now
-    (λ q. by_eq q id
-    (λ e. subst (λ r. fin.get (fin.remove m id) r ≡ find_in (without ks id) r) (sym e) (get_gone m id ∙ sym (find_gone ks id)))
-    (λ ne. get_left m id q ne ∙ p q ∙ sym (ap live (kept_other ks id q ne))))
-    out.1 in
-    record { left = rest.left; takes = (subst (λ o. IsSome o) (sym (p id)) out.0, rest.takes); present = rest.present }
-
-some_of : (o : Option (List ℤ)) → IsSome o → (c : List ℤ) × (o ≡ Some c)
-some_of None e = absurd (let f : false ≡ true = e in cc)
-some_of (Some c) e = (c, refl)
-
-out_used : (ids : List ℕ) (ks now : List Kept) (n : ℕ) → length ks ≡ n → GoOut ks ids now → All (IsUsed n) ids
-out_used [] ks now n e out = All-nil (IsUsed n)
-out_used (id ∷ ids) ks now n e out =
-    let at = some_of (find_in ks id) out.0 in
-    All-cons (IsUsed n) id ids (subst (λ i. IsUsed i id) e (used ks id at.0 at.1)) (out_used ids (without ks id) now n (length_without ks id ∙ e) out.1)
-
-out_length : (ids : List ℕ) (ks now : List Kept) → GoOut ks ids now → length now ≡ length ks
-out_length [] ks now out = ap length out
-out_length (id ∷ ids) ks now out = out_length ids (without ks id) now out.1 ∙ length_without ks id
-
-out_some : (ids : List ℕ) (ks now : List Kept) → GoOut ks ids now → (ids ≡ [] → ⊥) → 0 < length ks
-out_some [] ks now out ne = absurd (ne refl)
-out_some (id ∷ ids) ks now out ne =
-    let at = some_of (find_in ks id) out.0 in
-    let u = used ks id at.0 at.1 in
-    omega (arith, u.0, u.1)
-
--- what went is a line that deletes it
-pub logged_gone : (n : ℕ) (ks now : List Kept) (ls : List Line) (ids : List ℕ) → length ks ≤ 4294967295 → IsLog Open n ks ls → added now ≡ added ks → GoOut ks ids now → (ids ≡ [] → ⊥) → IsLog Open n now (ls ++ Delete (length now) ids ∷ [])
-logged_gone n ks now ls ids few log same out ne =
-    let l = log.1 in
-    let t = taken ids l.reached.present ks now l.present out in
-    let u : Stage = record { present = t.left; top = l.reached.top; closed = false } in
-    let long : length now ≡ length ks = out_length ids ks now out in
-    let some : 0 < length ks = out_some ids ks now out ne in
-    let all = out_used ids ks now (length ks) refl out in (
-      All-push IsLine ls _ log.0 ((omega arith, omega arith), λ k d lt. let w = all k d lt in (w.0, omega (arith, w.1))),
+-- the log stands where clauses were forgotten
+pub logged_forgets : (log : Logging) (n : Numbering) (v m : ℕ) (ks now : List Kept) (ls : List Line) (end : Option Line) (reasons ids : List ℕ) → m ≡ v → added now ≡ added ks → Forgets ks now reasons ids
+    → IsLog log n v ks ls end → IsLog log n m now ls end
+logged_forgets Unwanted n v m ks now ls end reasons ids vars same out l = tt
+logged_forgets Open n v m ks now ls end reasons ids vars same out l =
+    let f : formula_of m now ≡ formula_of v ks = ap (λ u. record { vars = u; clauses = added now }) vars ∙ ap (λ cs. record { vars = v; clauses = cs }) same in
+    subst (λ (f : Formula). AreLines f n ls × LeadTo f n now ls × IfSome end (λ l. IsNext f n ls (clause_of l) l)) (sym f) (
+      l.0,
       record {
-        reached = u;
-        along = subst (λ cs. GoAlong n (first_stage (record { vars = n; clauses = cs })) (ls ++ Delete (length now) ids ∷ []) u) (sym same)
-            (along_more n ls (first_stage (formula_of n ks)) l.reached u (Delete (length now) ids) l.along (l.is_open, refl, refl, t.takes));
-        present = t.present;
-        top = l.top ∙ sym long;
-        is_open = refl;
+        reached = l.1.reached;
+        along = l.1.along;
+        present = λ id c e. l.1.present id c (find_kept ks now reasons ids id c out e);
+        top = l.1.top ∙ ap (λ k. k + n.room) (sym out.same_ids);
+        count = out.same_ids ∙ l.1.count;
+        is_open = l.1.is_open;
       },
+      l.2,
     )
-
--- nothing went
-pub logged_still : (n : ℕ) (ks now : List Kept) (ls : List Line) (ids : List ℕ) → IsLog Open n ks ls → GoOut ks ids now → ids ≡ [] → IsLog Open n now ls
-logged_still n ks now ls ids log out e =
-    let same : now ≡ ks = subst (λ u. GoOut ks u now) e out in
-    subst (λ us. IsLog Open n us ls) (sym same) log
+logged_forgets Closed n v m ks now ls end reasons ids vars same out l =
+    let f : formula_of m now ≡ formula_of v ks = ap (λ u. record { vars = u; clauses = added now }) vars ∙ ap (λ cs. record { vars = v; clauses = cs }) same in
+    subst (λ (f : Formula). AreLines f n ls × ((l : Line) × (end ≡ Some l) × IsNext f n ls [] l)) (sym f) l
 
 -- ---- where no line is written
 
-formula_same : (n : ℕ) (ks now : List Kept) (ls : List Line) → added now ≡ added ks → IsAcceptedProof (formula_of n ks) ls → IsAcceptedProof (formula_of n now) ls
-formula_same n ks now ls same p = subst (λ cs. IsAcceptedProof (record { vars = n; clauses = cs }) ls) (sym same) p
-
 -- a log that is not open stays as it is
-pub logged_not : (log : Logging) (n m : ℕ) (ks now : List Kept) (ls : List Line) → (log ≡ Open → ⊥) → m ≡ n → added now ≡ added ks → IsLog log n ks ls → IsLog log m now ls
-logged_not Unwanted n m ks now ls ne vars same l = tt
-logged_not Open n m ks now ls ne vars same l = absurd (ne refl)
-logged_not Closed n m ks now ls ne vars same l = subst (λ v. IsLog Closed v now ls) (sym vars) (l.0, formula_same n ks now ls same l.1)
+pub logged_not : (log : Logging) (n : Numbering) (v m : ℕ) (ks now : List Kept) (ls : List Line) (end : Option Line) → (log ≡ Open → ⊥) → m ≡ v → added now ≡ added ks → IsLog log n v ks ls end → IsLog log n m now ls end
+logged_not Unwanted n v m ks now ls end ne vars same l = tt
+logged_not Open n v m ks now ls end ne vars same l = absurd (ne refl)
+logged_not Closed n v m ks now ls end ne vars same l =
+    let f : formula_of m now ≡ formula_of v ks = ap (λ u. record { vars = u; clauses = added now }) vars ∙ ap (λ cs. record { vars = v; clauses = cs }) same in
+    subst (λ (f : Formula). AreLines f n ls × ((l : Line) × (end ≡ Some l) × IsNext f n ls [] l)) (sym f) l
 
 -- one that is not wanted says nothing
-pub logged_unwanted : (log : Logging) (n : ℕ) (ks : List Kept) (ls : List Line) → is_wanted log ≡ false → IsLog log n ks ls
-logged_unwanted Unwanted n ks ls e = tt
-logged_unwanted Open n ks ls e = absurd (let f : true ≡ false = e in cc)
-logged_unwanted Closed n ks ls e = absurd (let f : true ≡ false = e in cc)
+pub logged_unwanted : (log : Logging) (n : Numbering) (v : ℕ) (ks : List Kept) (ls : List Line) (end : Option Line) → is_wanted log ≡ false → IsLog log n v ks ls end
+logged_unwanted Unwanted n v ks ls end e = tt
+logged_unwanted Open n v ks ls end e = absurd (let f : true ≡ false = e in cc)
+logged_unwanted Closed n v ks ls end e = absurd (let f : true ≡ false = e in cc)
 
 pub is_unwanted : (log : Logging) → is_wanted log ≡ false → log ≡ Unwanted
 is_unwanted Unwanted e = refl
@@ -323,28 +375,46 @@ closed_of Unwanted ne e = absurd (let f : false ≡ true = e in cc)
 closed_of Open ne e = absurd (ne refl)
 closed_of Closed ne e = refl
 
-pub no_denials : (c : List ℤ) → map neg_ℤ c ≡ [] → c ≡ []
-no_denials [] e = refl
-no_denials (l ∷ c) e = absurd (let f : suc (length (map neg_ℤ c)) ≡ 0 = ap length e in omega arith)
-
 -- ---- what the calls of the kernel leave of a log
 
 pub learned_of : (old new : Known) (c : List ℤ) (hints : List ℕ) (b : Bool) → b ≡ true → Learns old new c hints b → IsLearned old c hints × (new ≡ with_clause old Learned c)
 learned_of old new c hints true e l = l
 learned_of old new c hints false e l = absurd (let f : false ≡ true = e in cc)
 
-pub learned_open : (old new : Known) (ls : List Line) (c : List ℤ) (hints : List ℕ) → old.vars ≤ 2147483647 → length old.kept < 4294967295 → IsLog Open old.vars old.kept ls → IsLearned old c hints × (new ≡ with_clause old Learned c) → is_nil c ≡ false
-    → IsLog Open new.vars new.kept (ls ++ Add (length old.kept + 1) c (map pos hints) ∷ [])
-learned_open old new ls c hints small few log l open_ =
-    subst (λ (k : Known). IsLog Open k.vars k.kept (ls ++ Add (length old.kept + 1) c (map pos hints) ∷ [])) (sym l.1)
-    (logged_open old.vars old.kept ls c hints small (omega (arith, few)) log l.0.literals l.0.accepted open_)
+pub learned_open : (old new : Known) (n : Numbering) (ls : List Line) (end : Option Line) (c : List ℤ) (hints : List ℕ) (id : ℕ) → old.vars ≤ 2147483647 → length old.kept + n.room < 4294967295 → id ≡ length old.kept + n.room + 1
+    → IsLog Open n old.vars old.kept ls end → IsLearned old c hints × (new ≡ with_clause old Learned c) → is_nil c ≡ false
+    → IsLog Open n new.vars new.kept (ls ++ Add id c (map (λ h. pos (shifted n h)) hints) ∷ []) None
+learned_open old new n ls end c hints id small few is log l open_ =
+    subst (λ (k : Known). IsLog Open n k.vars k.kept (ls ++ Add id c (in_log n hints) ∷ []) None) (sym l.1)
+    (logged_open old.vars n old.kept ls end c hints id small few is log l.0.literals l.0.accepted open_)
 
-pub learned_closed : (old new : Known) (ls : List Line) (c : List ℤ) (hints : List ℕ) → old.vars ≤ 2147483647 → length old.kept < 4294967295 → IsLog Open old.vars old.kept ls → IsLearned old c hints × (new ≡ with_clause old Learned c) → c ≡ []
-    → IsLog Closed new.vars new.kept (ls ++ Add (length old.kept + 1) c (map pos hints) ∷ [])
-learned_closed old new ls c hints small few log l nil =
-    let done = logged_closed old.vars old.kept ls c hints small (omega (arith, few)) log l.0.literals l.0.accepted nil in
-    subst (λ (k : Known). IsLog Closed k.vars k.kept (ls ++ Add (length old.kept + 1) c (map pos hints) ∷ [])) (sym l.1)
-    (done.0, formula_same old.vars old.kept (with_clause old Learned c).kept _ (added_learned old.kept c) done.1)
+pub learned_closed : (old new : Known) (n : Numbering) (ls : List Line) (end : Option Line) (c : List ℤ) (hints : List ℕ) (id : ℕ) → old.vars ≤ 2147483647 → length old.kept + n.room < 4294967295 → id ≡ length old.kept + n.room + 1
+    → IsLog Open n old.vars old.kept ls end → IsLearned old c hints × (new ≡ with_clause old Learned c) → c ≡ []
+    → IsLog Closed n new.vars new.kept ls (Some (Add id c (map (λ h. pos (shifted n h)) hints)))
+learned_closed old new n ls end c hints id small few is log l nil =
+    let same : formula_of old.vars (with_clause old Learned c).kept ≡ formula_of old.vars old.kept = ap (λ cs. record { vars = old.vars; clauses = cs }) (added_learned old.kept c) in
+    let line : Line = Add id c (in_log n hints) in
+    let next : IsNext (formula_of old.vars old.kept) n ls c line = next_line old.vars n old.kept ls c hints id small few is log.1 l.0.literals l.0.accepted in
+    subst (λ (k : Known). IsLog Closed n k.vars k.kept ls (Some line)) (sym l.1)
+    (subst (λ (f : Formula). AreLines f n ls × ((l : Line) × (Some line ≡ Some l) × IsNext f n ls [] l)) (sym same)
+    (log.0, (line, refl, subst (λ d. IsNext (formula_of old.vars old.kept) n ls d line) nil next)))
+
+-- a core's clause is a line that may follow
+pub core_open : (old new : Known) (n : Numbering) (ls : List Line) (end : Option Line) (c : List ℤ) (hints : List ℕ) (id : ℕ) → new.vars ≤ 2147483647 → length new.kept + n.room < 4294967295 → id ≡ length new.kept + n.room + 1
+    → new ≡ old → IsLog Open n old.vars old.kept ls end → IsLearned old c hints
+    → IsLog Open n new.vars new.kept ls (Some (Add id c (map (λ h. pos (shifted n h)) hints)))
+core_open old new n ls end c hints id small few is same log learned =
+    let log' : IsLog Open n new.vars new.kept ls end = subst (λ (k : Known). IsLog Open n k.vars k.kept ls end) (sym same) log in
+    let learned' : IsLearned new c hints = subst (λ (k : Known). IsLearned k c hints) (sym same) learned in
+    (log'.0, log'.1, next_line new.vars n new.kept ls c hints id small few is log'.1 learned'.literals learned'.accepted)
+
+pub if_true : (A : Type 0) (b : Bool) (x y : A) → b ≡ true → (if b then x else y) ≡ x
+if_true A true x y e = refl
+if_true A false x y e = absurd (let f : false ≡ true = e in cc)
+
+pub if_false : (A : Type 0) (b : Bool) (x y : A) → b ≡ false → (if b then x else y) ≡ y
+if_false A false x y e = refl
+if_false A true x y e = absurd (let f : true ≡ false = e in cc)
 
 pub empty_is : (c : List ℤ) (b : Bool) → b ≡ true → b ≡ (length c == 0) → c ≡ []
 empty_is [] b e f = refl
@@ -353,23 +423,3 @@ empty_is (l ∷ c) b e f = absurd (let g : (length (l ∷ c) == 0) ≡ true = sy
 pub nonempty_is : (c : List ℤ) (b : Bool) → b ≡ false → b ≡ (length c == 0) → is_nil c ≡ false
 nonempty_is [] b e f = absurd (let g : true ≡ false = sym f ∙ e in cc)
 nonempty_is (l ∷ c) b e f = refl
-
-pub not_empty : {A : Type 0} (xs : List A) (b : Bool) → b ≡ false → b ≡ (length xs == 0) → xs ≡ [] → ⊥
-not_empty [] b e f nil = let g : true ≡ false = sym f ∙ e in cc
-not_empty (x ∷ xs) b e f nil = let g : suc (length xs) ≡ 0 = ap length nil in omega arith
-
--- the kernel's answer where a clause was forgotten
-pub went : (n m : ℕ) (ks now : List Kept) (ls : List Line) (ids : List ℕ) → length ks ≤ 4294967295 → m ≡ n → IsLog Open n ks ls → added now ≡ added ks → GoOut ks ids now → (ids ≡ [] → ⊥) → IsLog Open m now (ls ++ Delete (length now) ids ∷ [])
-went n m ks now ls ids few vars log same out ne =
-    subst (λ v. IsLog Open v now (ls ++ Delete (length now) ids ∷ [])) (sym vars) (logged_gone n ks now ls ids few log same out ne)
-
-pub same_length : (ids : List ℕ) (ks now : List Kept) (n : ℕ) → GoOut ks ids now → length now ≤ n → length ks ≤ n
-same_length ids ks now n out le = subst (λ k. k ≤ n) (out_length ids ks now out) le
-
--- the empty clause that a core shows
-pub empty_closed : (old new : Known) (ls : List Line) (c : List ℤ) (hints : List ℕ) → new.vars ≤ 2147483647 → length new.kept < 4294967295 → IsLog Open old.vars old.kept ls → new ≡ old → IsLearned old c hints → c ≡ []
-    → IsLog Closed new.vars new.kept (ls ++ Add (length new.kept + 1) c (map pos hints) ∷ [])
-empty_closed old new ls c hints small few log same learned nil =
-    let open_ = subst (λ (k : Known). IsLog Open k.vars k.kept ls) (sym same) log in
-    let l = subst (λ (k : Known). IsLearned k c hints) (sym same) learned in
-    logged_closed new.vars new.kept ls c hints small (omega (arith, few)) open_ l.literals l.accepted nil

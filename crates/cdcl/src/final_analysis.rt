@@ -27,7 +27,7 @@ pub fn empty_core(
 ) -> Result<Option<Vec<i32>>, SatError>
     ensures keeps { Keeps kernel.old kernel.new }
     ensures core { IfOk result (λ r. IfSome r (λ core. IsCore kernel.old.clauses assume.now core.items)) }
-    ensures ends { IfOk result (λ r. IfSome r (λ core. Ends kernel.old kernel.new core.items)) }
+    ensures ends { IfOk result (λ r. IfSome r (λ core. Ends kernel.old kernel.new assume.now)) }
 {
     begin(guide);
     see_all(kernel.known(), guide, conflict)?;
@@ -45,7 +45,7 @@ pub fn core_of_denied(
     requires { All (IsLiteral kernel.old.vars) assume.now }
     ensures keeps { Keeps kernel.old kernel.new }
     ensures core { IfOk result (λ r. IfSome r (λ core. IsCore kernel.old.clauses assume.now core.items)) }
-    ensures ends { IfOk result (λ r. IfSome r (λ core. Ends kernel.old kernel.new core.items)) }
+    ensures ends { IfOk result (λ r. IfSome r (λ core. Ends kernel.old kernel.new assume.now)) }
 {
     let place = guide.levels.place_of(literal);
     let Some(reason) = kernel.known().reason(place) else {
@@ -70,7 +70,7 @@ fn checked_core(
 ) -> Result<Option<Vec<i32>>, SatError>
     ensures keeps { Keeps kernel.old kernel.new }
     ensures core { IfOk result (λ r. IfSome r (λ core. IsCore kernel.old.clauses assume.now core.items)) }
-    ensures ends { IfOk result (λ r. IfSome r (λ core. Ends kernel.old kernel.new core.items)) }
+    ensures ends { IfOk result (λ r. IfSome r (λ core. Ends kernel.old kernel.new assume.now)) }
 {
     let core = kernel.core_of(
         guide.alloc,

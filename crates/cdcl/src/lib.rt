@@ -4,7 +4,8 @@
 //! part of the assumptions that nothing satisfies with the clauses, and `Spent` is answered only
 //! where the budget is exhausted.
 //!
-//! `refute` gives a proof of a formula that nothing satisfies, which lrat's `refutes` accepts.
+//! `Refuter` gives proofs of a formula with units that nothing satisfies, for one list of units after
+//! the other, and `refute` one of a formula alone. lrat's `refutes` accepts them.
 //!
 //! All of that is `cdcl_kernel`'s: it keeps the clauses and the trail, checks each clause before it is
 //! learned, looks through a model and derives a core before either is answered. The techniques
@@ -16,6 +17,7 @@
 mod analysis;
 mod attaching;
 mod cdcl;
+mod closing;
 mod final_analysis;
 mod guide;
 mod heap;
@@ -26,12 +28,15 @@ mod loading;
 mod logged_kernel;
 mod logging;
 mod minimization;
+mod numbering;
 mod propagation;
 mod reduction;
 mod refutation;
 mod refuted;
+mod refuter;
 mod restarts;
 mod search;
+mod selection;
 mod table;
 mod trail_reuse;
 mod units;
@@ -40,3 +45,4 @@ mod watches;
 pub use cdcl::Cdcl;
 pub use refutation::refute;
 pub use refuted::Refuted;
+pub use refuter::Refuter;

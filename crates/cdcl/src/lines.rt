@@ -3,27 +3,29 @@
 ghost use Rattle.std.specs.Prelude.{◌≡◌, ◌+◌, ◌≤◌, ◌<◌, All, IfOk, IfErr, OnOk, length, map, pos};
 ghost use Rattle.lrat.specs.Limits.{IsLine};
 ghost use Rattle.lrat.specs.declared.line.Line.TheVariants.{Add};
+ghost use Rattle.cdcl.specs.Logged.{shifted};
 ghost use Rattle.solver.specs.declared.sat_error.SatError.TheVariants.{Limit};
 
+use crate::numbering::Numbering;
 use base::{Refused, Seq, push};
 use cdcl_kernel::Kernel;
 use lrat::{Clause, Line, Proof};
 use solver::SatError;
 use std::alloc::Global;
 
-/// The id that the next clause has. It is refused where 4,294,967,295 ids are taken.
-pub fn next_id(kernel: &Kernel) -> Result<u32, SatError>
-    ensures value { IfOk result (λ id. id ≡ length kernel.now.kept + 1) }
-    ensures few { OnOk result (length kernel.now.kept < 4294967295) }
+/// The id that the next clause has in the log. It is refused where it would be over 4,294,967,295.
+pub fn next_id(kernel: &Kernel, numbering: Numbering) -> Result<u32, SatError>
+    ensures value { IfOk result (λ id. id ≡ length kernel.now.kept + numbering.room + 1) }
+    ensures few { OnOk result (length kernel.now.kept + numbering.room < 4294967295) }
     ensures small { kernel.now.vars ≤ 2147483647 }
-    ensures limit { IfErr result (λ e. (e ≡ Limit) × (length kernel.now.kept ≡ 4294967295)) }
+    ensures limit { IfErr result (λ e. (e ≡ Limit) × (4294967295 ≤ length kernel.now.kept + numbering.room)) }
 {
     let _vars = kernel.vars();
-    let count = kernel.clauses();
-    if count >= 4_294_967_295 {
+    let taken = kernel.clauses() as u64 + u64::from(numbering.room);
+    if taken >= 4_294_967_295 {
         return Err(SatError::Limit);
     }
-    Ok(count as u32 + 1)
+    Ok(taken as u32 + 1)
 }
 
 /// The greatest id, or 0.
@@ -34,26 +36,32 @@ pub fn last_id(kernel: &Kernel) -> u32
     kernel.clauses() as u32
 }
 
-/// The line of a clause that was learned by these hints.
-pub fn added_line(alloc: Global, id: u32, clause: &[i32], hints: &[u32]) -> Result<Line, Refused>
-    ensures { IfOk result (λ l. l ≡ Add id clause.now (map pos hints.now)) }
+/// The line of a clause that these hints show, which are ids of the kernel.
+pub fn added_line(
+    alloc: Global,
+    id: u32,
+    clause: &[i32],
+    hints: &[u32],
+    numbering: Numbering,
+) -> Result<Line, Refused>
+    ensures { IfOk result (λ l. l ≡ Add id clause.now (map (λ h. pos (shifted numbering h)) hints.now)) }
 {
     Ok(Line::Add {
         id,
         clause: Clause::from_slice(alloc, clause)?,
-        hints: signed(alloc, hints)?,
+        hints: shifted_all(alloc, hints, numbering)?,
     })
 }
 
-/// The hints of a line.
-fn signed(alloc: Global, hints: &[u32]) -> Result<Seq<i64>, Refused>
-    ensures { IfOk result (λ s. s ≡ map pos hints.now) }
+/// The ids in the log of clauses of the kernel.
+fn shifted_all(alloc: Global, hints: &[u32], numbering: Numbering) -> Result<Seq<i64>, Refused>
+    ensures { IfOk result (λ s. s ≡ map (λ h. pos (shifted numbering h)) hints.now) }
 {
-    let mut signed = Vec::new(alloc);
+    let mut ids = Vec::new(alloc);
     for hint in hints {
-        push(&mut signed, i64::from(*hint))?;
+        push(&mut ids, numbering.shifted(*hint))?;
     }
-    Ok(Seq::from_vec(signed))
+    Ok(Seq::from_vec(ids))
 }
 
 /// The proof of these lines.

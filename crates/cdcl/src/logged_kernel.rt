@@ -1,25 +1,31 @@
-//! The kernel, and a log of what it learns and forgets (proof logging, LRAT 2017).
+//! The kernel, and a log of what it learns (proof logging, LRAT 2017).
 //!
-//! Each clause that is learned is a line with the hints by which the kernel took it, and the
-//! clauses that are forgotten together are a line that deletes them. The ids are the kernel's. So
-//! the lines lead from the clauses that were added to those that the kernel has, and once the
-//! empty clause is shown they are a proof that is accepted. Where no log is wanted nothing is kept.
+//! Each clause that is learned is a line with the hints by which the kernel took it. So the lines
+//! lead from the clauses that were added to those that the kernel has. The clause that a core
+//! denies is a line that may follow. With the units of those assumptions it leads to the empty clause,
+//! and the lines that this rests on are a proof that is accepted. What is forgotten stays in the
+//! log, since a later line may rest on what rests on it. Where no log is wanted nothing is kept.
 
-ghost use Rattle.std.specs.Prelude.{◌≡◌, ◌≤◌, ◌++◌, ◌∷◌, [], false, All, IfOk, IfErr, IfSome, OnOk, OnErr, length};
+ghost use Rattle.std.specs.Prelude.{◌≡◌, ◌≤◌, ◌<◌, ◌++◌, ◌∷◌, [], None, Some, false, true, if◌then◌else◌, All, IfOk, IfErr, IfSome, IsOk, OnOk, OnErr, length, unsigned_abs};
+ghost use Rattle.std.specs.Vec.{vec_capacity, vec_len};
 ghost use Rattle.cdcl.specs.Keeping.{Keeps};
-ghost use Rattle.cdcl.specs.Logged.{Logged, is_wanted};
+ghost use Rattle.cdcl.specs.Logged.{Logged, EndDenies, added_to, is_wanted, with_units};
 ghost use Rattle.cdcl.specs.Settled.{Ends};
-ghost use Rattle.cdcl.specs.declared.logging.Logging.TheVariants.{Unwanted, Open, Closed};
+ghost use Rattle.cdcl.specs.declared.logging.Logging.TheVariants.{Unwanted, Open};
 ghost use Rattle.cdcl_kernel.specs.Kept.{added};
+ghost use Rattle.cdcl_kernel.specs.Verdicts.{IsOpposed};
 ghost use Rattle.lrat.specs.Limits.{IsFormula};
 ghost use Rattle.lrat.specs.Literals.{IsLiteral};
 ghost use Rattle.lrat.specs.Proofs.{IsAcceptedProof};
 ghost use Rattle.solver.specs.Answers.{IsCore, IsModel};
 
-use crate::lines::{added_line, last_id, next_id, proof_of};
+use crate::closing::{closing_line, opposed_line};
+use crate::lines::{added_line, next_id};
 use crate::loading::load;
 use crate::logging::Logging;
-use base::{Seq, push, reserve_one};
+use crate::numbering::Numbering;
+use crate::selection::selected;
+use base::{Refused, push, reserve_one};
 use cdcl_kernel::{Found, Kernel};
 use lrat::{Formula, Line, Proof};
 use solver::SatError;
@@ -30,42 +36,51 @@ use std::marker::Model;
 #[derive(Drop)]
 pub struct LoggedKernel {
     kernel: Kernel,
-    /// the proof so far
+    /// the lines so far
     lines: Vec<Line>,
+    /// a line that may follow them: for the clause that the last core denies, or the empty clause
+    end: Option<Line>,
+    numbering: Numbering,
     log: Logging,
 }
 
 impl Model for LoggedKernel {
-    ghost use Rattle.cdcl.specs.Logged.{Logged, IsLog};
+    ghost use Rattle.std.specs.Prelude.{option_map};
+    ghost use Rattle.cdcl.specs.Logged.{Logged, IsLog, clause_of};
     ghost use Rattle.cdcl_kernel.specs.Kept.{added};
 
     ghost Value = { Logged };
 
-    ghost view = { λ s. record { vars = s.kernel.vars; clauses = added s.kernel.kept; log = s.log } };
+    ghost view = { λ s. record { vars = s.kernel.vars; clauses = added s.kernel.kept; log = s.log; room = s.numbering.room; end = option_map clause_of s.end } };
 
-    ghost invariant = { λ s. IsLog s.log s.kernel.vars s.kernel.kept s.lines.items };
+    ghost invariant = { λ s. IsLog s.log s.numbering s.kernel.vars s.kernel.kept s.lines.items s.end };
 }
 
 impl LoggedKernel {
     /// No variables, no clauses and no log, which take no memory.
     pub fn new(alloc: Global) -> LoggedKernel
-        ensures { result ≡ record { vars = 0; clauses = []; log = Unwanted } }
+        ensures { result ≡ record { vars = 0; clauses = []; log = Unwanted; room = 0; end = None } }
     {
         LoggedKernel {
             kernel: Kernel::new(alloc),
             lines: Vec::new(alloc),
+            end: None,
+            numbering: Numbering { base: 0, room: 0 },
             log: Logging::Unwanted,
         }
     }
 
-    /// The clauses of the formula, and a log without lines.
-    pub fn of_formula(alloc: Global, formula: &Formula) -> Result<LoggedKernel, SatError>
+    /// The clauses of the formula, and a log without lines, which has room for this number of units.
+    pub fn of_formula(alloc: Global, formula: &Formula, room: u32) -> Result<LoggedKernel, SatError>
         requires { IsFormula formula.now }
-        ensures { IfOk result (λ k. k ≡ record { vars = formula.now.vars; clauses = formula.now.clauses; log = Open }) }
+        ensures { IfOk result (λ k. k ≡ record { vars = formula.now.vars; clauses = formula.now.clauses; log = Open; room = room; end = None }) }
     {
+        let base = formula.clauses.len() as u32;
         Ok(LoggedKernel {
             kernel: load(alloc, formula)?,
             lines: Vec::new(alloc),
+            end: None,
+            numbering: Numbering { base, room },
             log: Logging::Open,
         })
     }
@@ -83,7 +98,7 @@ impl LoggedKernel {
     pub fn reset(&mut self, alloc: Global, vars: u32) -> Result<(), SatError>
         requires small { vars ≤ 2147483647 }
         requires unlogged { is_wanted self.old.log ≡ false }
-        ensures ok { OnOk result (self.new ≡ record { vars = vars; clauses = []; log = Unwanted }) }
+        ensures ok { OnOk result (self.new ≡ record { vars = vars; clauses = []; log = Unwanted; room = self.old.room; end = self.old.end }) }
         ensures err { OnErr result (self.new ≡ self.old) }
     {
         self.kernel.reset(alloc, vars)
@@ -95,6 +110,7 @@ impl LoggedKernel {
         requires unlogged { is_wanted self.old.log ≡ false }
         ensures vars { self.new.vars ≡ self.old.vars }
         ensures log { self.new.log ≡ self.old.log }
+        ensures room { self.new.room ≡ self.old.room }
         ensures ok { OnOk result (self.new.clauses ≡ self.old.clauses ++ clause.now ∷ []) }
         ensures err { OnErr result (self.new ≡ self.old) }
     {
@@ -145,14 +161,15 @@ impl LoggedKernel {
         requires { self.old.log ≡ Open }
         ensures { Keeps self.old self.new }
     {
-        let id = next_id(&self.kernel)?;
-        let line = added_line(alloc, id, clause, hints)?;
+        let id = next_id(&self.kernel, self.numbering)?;
+        let line = added_line(alloc, id, clause, hints, self.numbering)?;
         reserve_one(&mut self.lines)?;
         if !self.kernel.learn(clause, hints)? {
             return Ok(false);
         }
-        push(&mut self.lines, line)?;
-        if clause.is_empty() {
+        let closes = clause.is_empty();
+        put(&mut self.lines, &mut self.end, line, closes)?;
+        if closes {
             self.log = Logging::Closed;
         }
         Ok(true)
@@ -194,37 +211,15 @@ impl LoggedKernel {
         }
     }
 
-    /// `Kernel::forget`, and a line of the log for the clauses that went. A refusal changes
-    /// nothing.
+    /// `Kernel::forget`. The log keeps the lines.
     pub fn forget(&mut self, alloc: Global, ids: &[u32]) -> Result<(), SatError>
         ensures { Keeps self.old self.new }
     {
-        match self.log {
-            Logging::Open => self.forget_logged(alloc, ids),
-            _ => {
-                self.kernel.forget(alloc, ids)?;
-                Ok(())
-            }
-        }
-    }
-
-    /// Takes clauses out, and logs which ones went.
-    fn forget_logged(&mut self, alloc: Global, ids: &[u32]) -> Result<(), SatError>
-        requires { self.old.log ≡ Open }
-        ensures { Keeps self.old self.new }
-    {
-        reserve_one(&mut self.lines)?;
-        let gone = self.kernel.forget(alloc, ids)?;
-        if gone.is_empty() {
-            return Ok(());
-        }
-        let id = last_id(&self.kernel);
-        let ids = Seq::from_vec(gone);
-        push(&mut self.lines, Line::Delete { id, ids })?;
+        self.kernel.forget(alloc, ids)?;
         Ok(())
     }
 
-    /// `Kernel::core_of`. A core of no assumptions ends the log with the empty clause.
+    /// `Kernel::core_of`. The clause that the core denies is the line that may follow the log.
     pub fn core_of(
         &mut self,
         alloc: Global,
@@ -234,29 +229,84 @@ impl LoggedKernel {
     ) -> Result<Option<Vec<i32>>, SatError>
         ensures keeps { Keeps self.old self.new }
         ensures core { IfOk result (λ r. IfSome r (λ core. IsCore self.old.clauses assume.now core.items)) }
-        ensures ends { IfOk result (λ r. IfSome r (λ core. Ends self.old self.new core.items)) }
+        ensures ends { IfOk result (λ r. IfSome r (λ core. Ends self.old self.new assume.now)) }
     {
         let Some(core) = self.kernel.core_of(alloc, clause, hints, assume)? else {
             return Ok(None);
         };
-        if let Logging::Open = self.log {
-            if clause.is_empty() {
-                let id = next_id(&self.kernel)?;
-                let line = added_line(alloc, id, clause, hints)?;
-                push(&mut self.lines, line)?;
-                self.log = Logging::Closed;
-            }
-        }
+        let Logging::Open = self.log else {
+            return Ok(Some(core));
+        };
+        let id = next_id(&self.kernel, self.numbering)?;
+        let line = added_line(alloc, id, clause, hints, self.numbering)?;
+        self.end = Some(line);
         Ok(Some(core))
     }
 
-    /// The proof that nothing satisfies the clauses, once the empty clause is logged: what the
-    /// empty clause rests on of the log.
-    pub fn into_proof(self, alloc: Global) -> Result<Proof, SatError>
-        requires { self.log ≡ Closed }
-        ensures { IfOk result (λ p. IsAcceptedProof (record { vars = self.vars; clauses = self.clauses }) p) }
+    /// The proof that nothing satisfies the clauses with these units, where the clause that may follow
+    /// the log denies some of them: what the empty clause rests on of the log.
+    pub fn refutation(&self, alloc: Global, units: &[i32]) -> Result<Proof, Refused>
+        requires wanted { is_wanted self.now.log ≡ true }
+        requires denies { EndDenies self.now units.now }
+        requires few { length units.now ≤ self.now.room }
+        ensures { IfOk result (λ p. IsAcceptedProof (with_units (added_to self.now) units.now) p) }
     {
-        let LoggedKernel { lines, .. } = self;
-        Ok(proof_of(alloc, lines)?.trimmed(alloc)?)
+        let Some(Line::Add { id, clause, hints }) = &self.end else {
+            unreachable!();
+        };
+        let last = closing_line(
+            alloc,
+            self.numbering,
+            units,
+            *id,
+            clause.as_slice(),
+            hints.as_slice(),
+        )?;
+        selected(
+            alloc,
+            self.lines.as_slice(),
+            self.numbering.first_id(),
+            last,
+        )
     }
+
+    /// The proof that nothing satisfies the clauses with these units, of which two are opposed.
+    pub fn opposed_refutation(
+        &self,
+        alloc: Global,
+        units: &[i32],
+        literal: i32,
+    ) -> Result<Proof, SatError>
+        requires wanted { is_wanted self.now.log ≡ true }
+        requires opposed { IsOpposed units.now literal }
+        requires in_range { unsigned_abs literal ≤ 2147483647 }
+        requires few { length units.now ≤ self.now.room }
+        ensures { IfOk result (λ p. IsAcceptedProof (with_units (added_to self.now) units.now) p) }
+    {
+        let id = next_id(&self.kernel, self.numbering)?;
+        let line = opposed_line(alloc, self.numbering, units, id, literal)?;
+        let mut proof = Proof::new(alloc);
+        proof.push_line(line)?;
+        Ok(proof)
+    }
+}
+
+/// Puts a line behind the others, or keeps it as the one that may follow, where it closes the log.
+fn put(
+    lines: &mut Vec<Line>,
+    end: &mut Option<Line>,
+    line: Line,
+    closes: bool,
+) -> Result<(), Refused>
+    ensures succeeds { vec_len lines.old < vec_capacity lines.old → IsOk result }
+    ensures lines { OnOk result (lines.new.items ≡ (if closes then lines.old.items else lines.old.items ++ line ∷ [])) }
+    ensures end { OnOk result (end.new ≡ (if closes then Some line else None)) }
+{
+    if closes {
+        *end = Some(line);
+    } else {
+        push(lines, line)?;
+        *end = None;
+    }
+    Ok(())
 }

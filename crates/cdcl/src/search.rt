@@ -32,8 +32,8 @@ enum Next {
     Full,
 }
 
-/// Finds a model under the assumptions, or part of them that can't hold. Where a log is wanted and
-/// that part has no assumption, the log ends with the empty clause.
+/// Finds a model under the assumptions, or part of them that can't hold. Where a log is wanted, the
+/// clause that denies that part may follow it then.
 pub fn search(
     kernel: &mut LoggedKernel,
     guide: &mut Guide,
@@ -44,7 +44,7 @@ pub fn search(
     ensures keeps { Keeps kernel.old kernel.new }
     ensures spends { Spends budget.old budget.new }
     ensures lawful { IfOk result (IsLawful kernel.old.vars kernel.old.clauses assume.now budget.new) }
-    ensures ends { IfOk result (EndsWith kernel.old kernel.new) }
+    ensures ends { IfOk result (EndsWith kernel.old kernel.new assume.now) }
 {
     reuse_trail(kernel, guide, assume)?;
     guide.grow_to(assume)?;
@@ -69,7 +69,7 @@ fn turn(
     ensures keeps { Keeps kernel.old kernel.new }
     ensures spends { Spends budget.old budget.new }
     ensures lawful { IfOk result (λ r. IfSome r (IsSettled kernel.old assume.now)) }
-    ensures ends { IfOk result (λ r. IfSome r (EndsWith kernel.old kernel.new)) }
+    ensures ends { IfOk result (λ r. IfSome r (EndsWith kernel.old kernel.new assume.now)) }
 {
     if let Some(conflict) = guide.waiting {
         return meet(kernel, guide, conflict, assume);
@@ -90,7 +90,7 @@ fn meet(
 ) -> Result<Option<Answer>, SatError>
     ensures keeps { Keeps kernel.old kernel.new }
     ensures lawful { IfOk result (λ r. IfSome r (IsSettled kernel.old assume.now)) }
-    ensures ends { IfOk result (λ r. IfSome r (EndsWith kernel.old kernel.new)) }
+    ensures ends { IfOk result (λ r. IfSome r (EndsWith kernel.old kernel.new assume.now)) }
 {
     guide.conflicts = guide.conflicts.saturating_add(1);
     let level = top_level(kernel.known(), guide, conflict);
@@ -120,7 +120,7 @@ fn advance(
     requires { All (IsLiteral kernel.old.vars) assume.now }
     ensures keeps { Keeps kernel.old kernel.new }
     ensures lawful { IfOk result (λ r. IfSome r (IsSettled kernel.old assume.now)) }
-    ensures ends { IfOk result (λ r. IfSome r (EndsWith kernel.old kernel.new)) }
+    ensures ends { IfOk result (λ r. IfSome r (EndsWith kernel.old kernel.new assume.now)) }
 {
     match choose(kernel.known(), guide, assume) {
         Next::Decide(literal) => {
@@ -167,7 +167,7 @@ fn look_through(
     requires { All (IsLiteral kernel.old.vars) assume.now }
     ensures keeps { Keeps kernel.old kernel.new }
     ensures lawful { IfOk result (λ r. IfSome r (IsSettled kernel.old assume.now)) }
-    ensures ends { IfOk result (λ r. IfSome r (EndsWith kernel.old kernel.new)) }
+    ensures ends { IfOk result (λ r. IfSome r (EndsWith kernel.old kernel.new assume.now)) }
 {
     let values = kernel.known().model_of(guide.alloc, assume)?;
     if values.is_none() {

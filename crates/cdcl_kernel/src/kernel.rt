@@ -378,7 +378,7 @@ impl Kernel {
     pub fn opposed_of(&self, alloc: Global, assume: &[i32]) -> Result<Option<Vec<i32>>, SatError>
         requires { All (IsLiteral self.now.vars) assume.now }
         ensures core { IfOk result (λ r. MatchOption r (All (λ l. IsOpposed assume.now l → ⊥) assume.now) (λ part. IsCore (added self.now.kept) assume.now part.items)) }
-        ensures two { IfOk result (λ r. IfSome r (λ part. length part.items ≡ 2)) }
+        ensures opposed { IfOk result (λ r. IfSome r (λ part. (l : ℤ) × (part.items ≡ l ∷ neg_ℤ l ∷ []) × IsOpposed assume.now l)) }
         ensures refused { IfErr result (λ e. e ≡ OutOfMemory witness) }
     {
         let _vars = self.vars();

@@ -1,13 +1,22 @@
-use Rattle.std.proofs.Common.{subst}
+use Rattle.std.proofs.Common.{◌≡◌, inr, map, neg_ℤ, Some, All, Contains, ap, subst}
+use Rattle.cdcl_kernel.specs.Kept.{added}
 use Rattle.cdcl_kernel.specs.Known.{IsLearned}
-use Rattle.cdcl.specs.Logged.{IsLog}
-use Rattle.cdcl.proofs.Logged.{empty_closed, empty_is}
+use Rattle.solver.specs.Answers.{IsCore}
+use Rattle.lrat.specs.declared.line.Line.{Line}
+use Rattle.cdcl.specs.Logged.{IsLog, clause_of}
+use Rattle.cdcl.proofs.Logged.{core_open}
 use Rattle.cdcl.proofs.logged_kernel.LoggedKernel.core_of.Goals as goal
 
-pub invariant_of-self-then-is_empty : goal.invariant_of-self-then-is_empty
-invariant_of-self-then-is_empty c =
-    let log = subst (λ g. IsLog g c.self.inside.kernel.vars c.self.inside.kernel.kept c.self.inside.lines.items) c.in-Open.is c.self.invariant in
+pub invariant_of-self-2 : goal.invariant_of-self-2
+invariant_of-self-2 c =
+    let log = subst (λ g. IsLog g c.self.inside.numbering c.self.inside.kernel.vars c.self.inside.kernel.kept c.self.inside.lines.items c.self.inside.end) c.in-Open.is c.self.invariant in
     let learned : IsLearned c.self.inside.kernel c.args.clause.now c.args.hints.now = rw c.in-Some.is at c.in_ok-core.ensures.learned in
-    rw (c.in_ok-push.ensures.items, c.in_ok-line.ensures, c.in_ok-id.ensures.value)
-    (empty_closed c.self.inside.kernel c.core_of.new.self c.self.inside.lines.items c.args.clause.now c.args.hints.now c.next_id.ensures.small c.in_ok-id.ensures.few log
-    c.in_ok-core.ensures.same learned (empty_is c.args.clause.now _ c.if-is_empty.true c.is_empty.ensures))
+    rw (c.in-Open.is, c.in_ok-line.ensures)
+    (core_open c.self.inside.kernel c.core_of.new.self c.self.inside.numbering c.self.inside.lines.items c.self.inside.end c.args.clause.now c.args.hints.now c.in_ok-id.id c.next_id.ensures.small
+    c.in_ok-id.ensures.few c.in_ok-id.ensures.value c.in_ok-core.ensures.same log learned)
+
+pub returns-clause-ends : goal.returns-clause-ends
+returns-clause-ends c = λ wanted.
+    let core : IsCore (added c.self.inside.kernel.kept) c.args.assume.now c.in-Some.core.items = rw c.in-Some.is at c.in_ok-core.ensures.core in
+    let denials : c.in-Some.core.items ≡ map neg_ℤ c.args.clause.now = rw c.in-Some.is at c.in_ok-core.ensures.denials in
+    inr (c.args.clause.now, ap (λ (l : Line). Some (clause_of l)) c.in_ok-line.ensures, subst (All (Contains c.args.assume.now)) denials core.among)

@@ -3,5 +3,5 @@ use Rattle.cdcl.proofs.logged_kernel.LoggedKernel.learn.Goals as goal
 
 pub invariant_of-self : goal.invariant_of-self
 invariant_of-self c =
-    logged_not c.self.inside.log c.self.inside.kernel.vars c.learn.new.self.vars c.self.inside.kernel.kept c.learn.new.self.kept c.self.inside.lines.items c.in_default.not-Open
-    c.learn.ensures.vars c.learn.ensures.added c.self.invariant
+    logged_not c.self.inside.log c.self.inside.numbering c.self.inside.kernel.vars c.learn.new.self.vars c.self.inside.kernel.kept c.learn.new.self.kept c.self.inside.lines.items c.self.inside.end
+    c.in_default.not-Open c.learn.ensures.vars c.learn.ensures.added c.self.invariant

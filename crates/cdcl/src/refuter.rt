@@ -1,0 +1,120 @@
+//! Proofs that nothing satisfies a formula with some units, for many lists of units.
+
+ghost use Rattle.std.specs.Prelude.{◌≡◌, ◌≤◌, ◌⊎◌, ℤ, true, All, IfOk, length};
+ghost use Rattle.base.specs.Budget.{Spends};
+ghost use Rattle.cdcl_kernel.specs.Verdicts.{IsOpposed};
+ghost use Rattle.cdcl.specs.Keeping.{Keeps};
+ghost use Rattle.cdcl.specs.Logged.{EndDenies, added_to, is_wanted, with_units};
+ghost use Rattle.cdcl.specs.Refutations.{IsProved};
+ghost use Rattle.cdcl.specs.Settled.{EndsWith};
+ghost use Rattle.lrat.specs.Limits.{IsFormula};
+ghost use Rattle.lrat.specs.Literals.{IsLiteral};
+ghost use Rattle.lrat.specs.Proofs.{IsAcceptedProof};
+ghost use Rattle.solver.specs.Answers.{IsLawful};
+
+use crate::guide::Guide;
+use crate::logged_kernel::LoggedKernel;
+use crate::refuted::Refuted;
+use crate::search::search;
+use base::Budget;
+use lrat::{Formula, Proof};
+use solver::{Answer, SatError};
+use std::alloc::Global;
+use std::marker::Model;
+
+/// A conflict-driven solver over one formula, which refutes it with one list of units after the
+/// other. The formula is loaded once, and what is learned serves all calls.
+#[derive(Drop)]
+pub struct Refuter {
+    kernel: LoggedKernel,
+    guide: Guide,
+}
+
+impl Model for Refuter {
+    ghost use Rattle.std.specs.Prelude.{◌≡◌, true};
+    ghost use Rattle.cdcl.specs.Logged.{added_to, is_wanted};
+    ghost use Rattle.cdcl.specs.Refuting.{Refuting};
+
+    ghost Value = { Refuting };
+
+    ghost view = { λ s. record { formula = added_to s.kernel; room = s.kernel.room } };
+
+    ghost invariant = { λ s. is_wanted s.kernel.log ≡ true };
+}
+
+impl Refuter {
+    /// A solver that has loaded the formula, for lists of at most `room` units.
+    pub fn new(alloc: Global, formula: &Formula, room: u32) -> Result<Refuter, SatError>
+        requires { IsFormula formula.now }
+        ensures formula { IfOk result (λ r. r.formula ≡ formula.now) }
+        ensures room { IfOk result (λ r. r.room ≡ room) }
+    {
+        Ok(Refuter {
+            kernel: LoggedKernel::of_formula(alloc, formula, room)?,
+            guide: Guide::new(alloc),
+        })
+    }
+
+    /// Finds a proof that nothing satisfies the formula with these literals as further clauses (LRAT
+    /// 2017, without RAT steps), or else a model. The steps of the budget are those of `Cdcl`. The
+    /// proof is what the empty clause rests on of the log of all calls; so it is accepted as it is,
+    /// and is not checked again. It deletes nothing. `Limit` is answered where a clause would be
+    /// learned and 4,294,967,295 ids are taken, with the room for units. After a refusal the
+    /// clauses are watched anew.
+    pub fn refute(
+        &mut self,
+        alloc: Global,
+        units: &[i32],
+        budget: &mut Budget,
+    ) -> Result<Refuted, SatError>
+        requires literals { All (IsLiteral self.old.formula.vars) units.now }
+        requires few { length units.now ≤ self.old.room }
+        ensures same { self.new ≡ self.old }
+        ensures spends { Spends budget.old budget.new }
+        ensures lawful { IfOk result (IsProved (with_units self.old.formula units.now) budget.new) }
+    {
+        match searched(alloc, &mut self.kernel, &mut self.guide, units, budget)? {
+            Answer::Model(values) => Ok(Refuted::Model(values)),
+            Answer::Core(_) => Ok(Refuted::Proof(proof(alloc, &self.kernel, units)?)),
+            Answer::Spent => Ok(Refuted::Spent),
+        }
+    }
+}
+
+/// What a search under the units comes to. After a refusal nothing guides the next one.
+fn searched(
+    alloc: Global,
+    kernel: &mut LoggedKernel,
+    guide: &mut Guide,
+    units: &[i32],
+    budget: &mut Budget,
+) -> Result<Answer, SatError>
+    requires { All (IsLiteral kernel.old.vars) units.now }
+    ensures keeps { Keeps kernel.old kernel.new }
+    ensures spends { Spends budget.old budget.new }
+    ensures lawful { IfOk result (IsLawful kernel.old.vars kernel.old.clauses units.now budget.new) }
+    ensures ends { IfOk result (EndsWith kernel.old kernel.new units.now) }
+{
+    let answer = search(kernel, guide, units, budget);
+    if answer.is_err() {
+        kernel.backtrack(0);
+        *guide = Guide::new(alloc);
+    }
+    answer
+}
+
+/// The proof that nothing satisfies the clauses with the units, once a search has shown it.
+fn proof(alloc: Global, kernel: &LoggedKernel, units: &[i32]) -> Result<Proof, SatError>
+    requires wanted { is_wanted kernel.now.log ≡ true }
+    requires literals { All (IsLiteral kernel.now.vars) units.now }
+    requires few { length units.now ≤ kernel.now.room }
+    requires shown { ((l : ℤ) × IsOpposed units.now l) ⊎ EndDenies kernel.now units.now }
+    ensures { IfOk result (IsAcceptedProof (with_units (added_to kernel.now) units.now)) }
+{
+    let known = kernel.known();
+    let _vars = known.vars();
+    match known.opposed_of(alloc, units)? {
+        Some(pair) => kernel.opposed_refutation(alloc, units, pair[0]),
+        None => Ok(kernel.refutation(alloc, units)?),
+    }
+}
