@@ -1,5 +1,5 @@
 -- Proofs, each of its own formula, one after the other.
-use Rattle.std.proofs.Common.{◌≡◌, ℕ, ◌+◌, ◌*◌, ◌<◌, ◌≤◌, List, [], ◌∷◌, ◌++◌, map, length, get_or, take, All, refl, sym, ◌∙◌, arith, length-append, append_assoc}
+use Rattle.std.proofs.Common.{◌≡◌, ℕ, ◌+◌, ◌*◌, ◌<◌, ◌≤◌, List, [], ◌∷◌, ◌++◌, map, length, get_or, take, All, ℤ, refl, sym, ap, ◌∙◌, arith, length-append, append_assoc}
 use Rattle.std.proofs.lemmas.List.{get_or_append_left, get_or_at, length-map, map_more}
 use Rattle.graph.specs.declared.circuit.Lit.{Lit}
 use Rattle.graph.specs.declared.parts.Parts.{Parts}
@@ -7,7 +7,7 @@ use Rattle.lrat.specs.declared.formula.Formula.{Formula}
 use Rattle.lrat.specs.declared.line.Line.{Line}
 use Rattle.certificate.specs.declared.certificate.Certificate.{Certificate}
 use Rattle.cnf.specs.Formulas.{init_formula, step_formula, bad_formula}
-use Rattle.checker.specs.Accepted.{cases, IsAcceptedFor, IsGood, IsProofOf, RefuteBelow}
+use Rattle.checker.specs.Accepted.{cases, IsAcceptedFor, IsGood, IsProofOf, RefuteBelow, with_units}
 use Rattle.checker.proofs.Accepted.{IsOpened, accepted_from}
 use Rattle.checker.proofs.InOrder.{refute_more}
 use Rattle.certify.specs.Sections.{AreProofs}
@@ -38,6 +38,10 @@ pub one_mapped : (fs : List Formula) (ps qs : List (List Line)) (h : List Lit �
 one_mapped fs ps qs h cs k d f p k_in is proof same are =
     rw (map_more h cs k d k_in, sym is, sym (append_assoc fs (map h (take k cs)) (f ∷ [])), same)
     (one_more (fs ++ map h (take k cs)) ps f p are proof)
+
+-- a case is what its cases share, with its units
+pub case_is : (f g : Formula) (us vs : List ℤ) → f ≡ g → us ≡ vs → with_units f us ≡ with_units g vs
+case_is f g us vs same units = ap (λ h. with_units h us) same ∙ ap (with_units g) units
 
 -- two cases for each clause, and one more
 count_of_cases : (m : Parts) (inv : List (List Lit)) (a : Lit) → length (cases m inv a) ≡ 2 * length inv + 1

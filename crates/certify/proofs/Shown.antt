@@ -12,6 +12,7 @@ use Rattle.certify.specs.Outcomes.{IsCertified, IsCertifiedFor}
 use Rattle.certify.specs.declared.certified.Certified.{Certified}
 use Rattle.certify.specs.declared.certified.Certified.TheVariants as outcome
 use Rattle.certify.specs.declared.certify_error.CertifyError.{CertifyError}
+use Rattle.certify.specs.declared.counterexample.Counterexample.{Counterexample}
 use Rattle.certify.specs.declared.certify_error.CertifyError.TheVariants.{NoProperty, Limit, NotLatch, Repeated, OutOfMemory}
 use Rattle.certify.proofs.Stopped.{not_inductive}
 
@@ -26,7 +27,7 @@ accepted_named m p c is showable accepted =
 certified_of : (m : Parts) (p : Property) (inv : List (List Lit)) (after : Steps) (r : Certified) → IsShowable m p →
     IsCertifiedFor (circuit_of m p) (bad_of m p) p inv after r → IsCertified m p inv after r
 certified_of m p inv after (outcome.Certificate c) showable is = (is.0, is.1, accepted_named m p c is.0 showable is.2)
-certified_of m p inv after outcome.NotInvariant showable is = is
+certified_of m p inv after (outcome.NotInvariant c) showable is = is
 certified_of m p inv after outcome.Spent showable is = is
 
 pub certified : (m s : Parts) (p : Property) (a : Lit) (inv : List (List Lit)) (after : Steps) (r : Result Certified CertifyError) → IsShowable m p → s ≡ circuit_of m p → a ≡ bad_of m p →
@@ -48,13 +49,13 @@ pub refused : (m s : Parts) (p : Property) (inv : List (List Lit)) (r : Result C
 refused m s p inv (Ok r) showable circuit cause = tt
 refused m s p inv (Err e) showable circuit cause = cause_of m p inv e showable (subst (λ (t : Parts). HasCauseFor t inv e) circuit cause)
 
-honest_of : (m : Parts) (p : Property) (inv : List (List Lit)) (after : Steps) (r : Certified) → IsCertified m p inv after r → r ≡ outcome.NotInvariant →
+honest_of : (m : Parts) (p : Property) (inv : List (List Lit)) (after : Steps) (r : Certified) (c : Counterexample) → IsCertified m p inv after r → r ≡ outcome.NotInvariant c →
     IsInductive (circuit_of m p) inv (bad_of m p) → ⊥
-honest_of m p inv after r is named inductive =
-    not_inductive (circuit_of m p) inv (bad_of m p) (subst (IsCertified m p inv after) named is) inductive
+honest_of m p inv after r c is named inductive =
+    not_inductive (circuit_of m p) inv (bad_of m p) c (subst (IsCertified m p inv after) named is) inductive
 
 -- an invariant is never called none
 pub honest : (m : Parts) (p : Property) (inv : List (List Lit)) (after : Steps) (r : Result Certified CertifyError) → IfOk r (IsCertified m p inv after) →
-    IfOk r (λ x. x ≡ outcome.NotInvariant → IsInductive (circuit_of m p) inv (bad_of m p) → ⊥)
-honest m p inv after (Ok r) is = honest_of m p inv after r is
+    IfOk r (λ x. (c : Counterexample) → x ≡ outcome.NotInvariant c → IsInductive (circuit_of m p) inv (bad_of m p) → ⊥)
+honest m p inv after (Ok r) is = λ c. honest_of m p inv after r c is
 honest m p inv after (Err e) is = tt

@@ -1,4 +1,5 @@
 pub mod Causes
+pub mod Counterexamples
 pub mod Halts
 pub mod Numbers
 pub mod Outcomes

@@ -1,5 +1,6 @@
 //! What came of clauses.
 
+use crate::counterexample::Counterexample;
 use certificate::Certificate;
 
 /// What came of the clauses.
@@ -7,9 +8,9 @@ use certificate::Certificate;
 pub enum Certified {
     /// a certificate of the clauses, which the checker accepts
     Certificate(Certificate),
-    /// something satisfies one of the cases: the clauses are not inductive, or do not exclude the
-    /// bad literal
-    NotInvariant,
+    /// what satisfies one of the cases: the clauses are not inductive, or do not exclude the bad
+    /// literal
+    NotInvariant(Counterexample),
     /// the budget is exhausted
     Spent,
 }

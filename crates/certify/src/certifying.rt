@@ -10,6 +10,7 @@ ghost use Rattle.checker.specs.Accepted.{circuit_of, bad_of};
 ghost use Rattle.certify.specs.Causes.{HasCause, HasCauseFor, IsUnspent};
 ghost use Rattle.certify.specs.Outcomes.{IsCertified, IsCertifiedFor};
 ghost use Rattle.certify.specs.declared.certified.Certified.TheVariants.{NotInvariant};
+ghost use Rattle.certify.specs.declared.counterexample.Counterexample.{Counterexample};
 
 use crate::certified::Certified;
 use crate::certify_error::CertifyError;
@@ -58,7 +59,7 @@ fn certify_for(
             invariant: copy,
             sections,
         })),
-        Err(Halt::NotInvariant) => Ok(Certified::NotInvariant),
+        Err(Halt::NotInvariant(found)) => Ok(Certified::NotInvariant(found)),
         Err(Halt::Spent) => Ok(Certified::Spent),
         Err(Halt::Limit) => Err(CertifyError::Limit),
         Err(Halt::OutOfMemory(refused)) => Err(CertifyError::OutOfMemory(refused)),
@@ -131,16 +132,17 @@ fn certify_property(
 }
 
 /// A certificate of the clauses for the property, which the checker accepts. The clauses are not
-/// believed: each of their cases is to be refuted, and where something satisfies one, that is
-/// answered. It says that the clauses are no inductive invariant which excludes the bad literal, and
-/// nothing of the property. For a justice property the clauses are about its shadow circuit.
+/// believed: each of their cases is to be refuted, and where something satisfies one, the case and
+/// the values are answered. They say that the clauses are no inductive invariant which excludes the
+/// bad literal, and nothing of the property. For a justice property the clauses are about its shadow
+/// circuit.
 ///
 /// Refused are first a property that the circuit has not, then a shadow circuit with too many
 /// variables, more than 4,194,303 clauses, and the first clause that is not over the latches or that
 /// repeats or opposes a literal. Only then is anything spent.
 ///
-/// A certificate costs its cases. For `n` clauses these are `n` that each load the latches' resets,
-/// and `n + 1` that each load the circuit and all clauses; beside that it costs what the refutations
+/// The latches' resets are loaded once, for the `n` initial cases of `n` clauses, and the circuit and
+/// all clauses once, for the `n + 1` other cases. Beside that a certificate costs what the refutations
 /// spend of the budget, and the clauses in memory of their own.
 pub fn certify(
     alloc: Global,
@@ -152,7 +154,7 @@ pub fn certify(
     ensures spends { Spends budget.old budget.new }
     ensures certified { IfOk result (IsCertified model.now property invariant.now budget.new) }
     // What is inductive and excludes the bad literal is never called no invariant.
-    ensures honest { IfOk result (λ r. r ≡ NotInvariant → IsInductive (circuit_of model.now property) invariant.now (bad_of model.now property) → ⊥) }
+    ensures honest { IfOk result (λ r. (x : Counterexample) → r ≡ NotInvariant x → IsInductive (circuit_of model.now property) invariant.now (bad_of model.now property) → ⊥) }
     ensures refused { IfErr result (HasCause model.now property invariant.now) }
     ensures unspent { IfErr result (IsUnspent budget.old budget.new) }
 {

@@ -5,14 +5,15 @@ ghost use Rattle.base.specs.Witness.{witness};
 ghost use Rattle.certify.specs.Halts.{of_solver};
 ghost use Rattle.certify.specs.declared.halt.Halt.TheVariants.{OutOfMemory};
 
+use crate::counterexample::Counterexample;
 use base::Refused;
 use solver::SatError;
 
 /// Why no further case is proved.
-#[derive(Clone, Copy, Debug, PartialEq, Eq)]
+#[derive(Drop)]
 pub enum Halt {
-    /// Something satisfies a case.
-    NotInvariant,
+    /// What satisfies a case.
+    NotInvariant(Counterexample),
     /// The budget is exhausted.
     Spent,
     /// A solver has used up its ids.

@@ -13,6 +13,7 @@
 mod certified;
 mod certify_error;
 mod certifying;
+mod counterexample;
 mod examining;
 mod halt;
 mod proving;
@@ -20,3 +21,4 @@ mod proving;
 pub use certified::Certified;
 pub use certify_error::CertifyError;
 pub use certifying::certify;
+pub use counterexample::{Case, Counterexample};

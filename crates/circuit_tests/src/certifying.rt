@@ -53,7 +53,7 @@ impl Question for Clauses {
                 check(alloc, circuit, &certificate)?;
                 Ok(Answer::Accepted)
             }
-            Ok(Certified::NotInvariant) => Ok(Answer::NotInvariant),
+            Ok(Certified::NotInvariant(_)) => Ok(Answer::NotInvariant),
             Ok(Certified::Spent) => Ok(Answer::Spent),
             Err(e) => Ok(Answer::Refused(e.number(), e.place())),
         }

@@ -15,9 +15,9 @@ static MIXED: &[u8] = b"aag 5 1 3 0 1 2 2\n2\n4 11 1\n6 4\n8 1 8\n11\n0\n3\n8\n1
 enum Encoding {
     /// the gates of a time, with the constant
     Frame,
-    /// so many steps
+    /// this number of steps
     Unrolling(u32),
-    /// what so many steps add, over the variables of three times
+    /// what the last of this number of steps adds, over the variables of three times
     Extension(u32),
 }
 
@@ -33,7 +33,7 @@ fn encoded(alloc: Global, circuit: &Model, encoding: Encoding) -> Result<Formula
     }
 }
 
-/// Whether a formula has these clauses over so many variables.
+/// Whether a formula has these clauses over this number of variables.
 fn is_formula(formula: &Formula, vars: u32, wanted: &[&[i32]]) -> bool {
     formula.vars == vars
         && formula.clauses.len() == wanted.len()
@@ -45,7 +45,7 @@ fn is_formula(formula: &Formula, vars: u32, wanted: &[&[i32]]) -> bool {
             .all(|(clause, literals)| clause.as_slice() == *literals)
 }
 
-/// Whether what is made of a circuit has these clauses over so many variables.
+/// Whether what is made of a circuit has these clauses over this number of variables.
 struct Wanted {
     encoding: Encoding,
     vars: u32,

@@ -28,7 +28,7 @@ fn refusals_have_numbers(rt: HostRuntime) {
     assert!(rt; (line.number(), line.place()) == (3, 0));
 }
 
-/// Whether a refusal is told in these words.
+/// Whether a refusal is reported in these words.
 fn is_told<E: Display>(alloc: Global, e: &E, words: &str) -> Result<bool, Fail> {
     Ok(format!(in alloc; "{e}")?.as_str() == words)
 }

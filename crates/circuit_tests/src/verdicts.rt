@@ -138,7 +138,7 @@ static RUNS: [(&[u8], &[Insists], &[u8], u8); 5] = [
     ),
 ];
 
-/// The status of a verdict, and whether it is told by this text.
+/// The status of a verdict, and whether this text reports it.
 fn shown(alloc: Global, verdict: &Verdict, text: &[u8]) -> Result<(u8, bool), Fail> {
     let mut out = ToVec::new(alloc);
     let status = show(Property::Bad(0), verdict, &mut out)?;
@@ -165,7 +165,7 @@ fn runs_are_replayed(rt: HostRuntime) -> Result<(), Fail> {
     Ok(())
 }
 
-/// Engines that tell reasons, and the reason that is told in the end.
+/// Engines that report reasons, and the reason that is reported in the end.
 static REASONS: [(&[Insists], Reason); 5] = [
     (
         &[
@@ -212,7 +212,7 @@ fn reason_of(verdict: &Verdict) -> Option<Reason> {
     }
 }
 
-/// The reason that is told where engines insist on these.
+/// The reason that is reported where engines insist on these.
 fn reason_told(alloc: Global, engines: &'static [Insists]) -> Result<Option<Reason>, Fail> {
     let (verdict, _) = decided(alloc, HOLD, engines, 7)?;
     Ok(reason_of(&verdict?))
@@ -227,7 +227,7 @@ fn reasons_are_weighed(rt: HostRuntime) -> Result<(), Fail> {
 }
 
 /// Properties of a latch, and what is answered without engines: a refusal by its number and place, or
-/// 0 and what was spent where no evidence is told.
+/// 0 and what was spent where no evidence is reported.
 static UNASKED: [(Property, (u8, u64)); 3] = [
     (Property::Bad(0), (0, 0)),
     (Property::Bad(1), (30, 1)),

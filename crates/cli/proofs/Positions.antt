@@ -25,7 +25,7 @@ pub spelled_read : (digits : List ℕ) (n : ℕ) → digits ≡ decimal n → n 
 spelled_read digits n spelled small =
     ap (number_at 4294967295) (spelled ∙ sym (append-nil (decimal n))) ∙ number_again 4294967295 n [] (omega arith) (omega arith) refl
 
--- that number, and nothing is left
+-- that number, and no text is left
 pub spelled_same : (digits rest : List ℕ) (k n : ℕ) → number_at 4294967295 digits ≡ Some (k, rest) → digits ≡ decimal n → n < 2 ^ 32 → (Some k ≡ Some n) × (length rest ≡ 0)
 spelled_same digits rest k n read spelled small =
     let again = spelled_read digits n spelled small in

@@ -50,7 +50,7 @@ pub fn circuit(alloc: Global, text: &[u8]) -> Result<Model, Fail>
     Ok(file.model().for_bad(alloc, 0)?)
 }
 
-/// How many times the run has that is found within so many steps of the budget, 0 where there is none.
+/// How many times the run has that is found within a budget of `steps`, 0 where there is none.
 fn times<S: Sat>(
     solver: S,
     alloc: Global,

@@ -238,7 +238,7 @@ fn steps<S: Sat>(
     Ok(Some(budget.spent()))
 }
 
-/// Whether the solver finds each of the worked formulas unsatisfiable, in at most so many steps and, where `least` is set,
+/// Whether the solver finds each of the worked formulas unsatisfiable, in at most `most` steps and, where `least` is set,
 /// in no fewer than stand beside it.
 fn answers_worked<S: Sat>(
     solver: &mut S,
@@ -287,7 +287,7 @@ fn clauses_may_come_between_the_calls(rt: HostRuntime) {
     assert!(rt; grows(&mut Plain::new(rt.alloc()), rt.alloc()) == Ok(true));
 }
 
-/// How many steps are spent before the solver, begun anew with the clauses, answers that its budget of so many is.
+/// How many steps are spent before the solver, begun anew with the clauses, answers that its budget is exhausted.
 pub fn spent<S: Sat>(
     solver: &mut S,
     alloc: Global,
@@ -314,7 +314,7 @@ fn an_empty_budget_is_spent_at_once(rt: HostRuntime) {
     assert!(rt; plain == Ok(Some(2)));
 }
 
-/// What a refutation of the formula comes to within so many steps of the budget: the lines of an
+/// What a refutation of the formula comes to within a budget of `steps`: the lines of an
 /// accepted proof, or 0 where a model satisfies the formula.
 fn lines(alloc: Global, formula: &Formula, steps: u64) -> Result<Option<usize>, Fail>
     requires { IsFormula formula.now }
@@ -372,7 +372,7 @@ fn pigeons(alloc: Global, pigeons: u8, holes: u8) -> Result<Vec<i32>, Refused> {
     Ok(list)
 }
 
-/// The id of the empty clause in an accepted proof that so many pigeons do not fit.
+/// The id of the empty clause in an accepted proof that the pigeons do not fit.
 fn last_id(alloc: Global, list: &[i32]) -> Result<Option<u32>, Fail> {
     let formula = formula(alloc, 56, list)?;
     match refute(alloc, &formula, &mut Budget::new(STEPS))? {

@@ -1,5 +1,5 @@
 -- What is known of engines that were asked one after the other.
-use Rattle.std.proofs.Common.{◌≡◌, ℕ, ◌+◌, ◌-◌, ◌<◌, ◌≤◌, List, [], ◌∷◌, ◌++◌, length, take, drop, get_or, set, Bool, Option, Some, None, Result, Ok, Err, IfOk, IfErr, MatchResult, IsErrAnd, All, arith, refl, inl, inr, sym, ap, ◌∙◌, subst, length-drop}
+use Rattle.std.proofs.Common.{◌≡◌, ℕ, ◌+◌, ◌-◌, ◌<◌, ◌≤◌, List, [], ◌∷◌, ◌++◌, length, take, drop, get_or, set, Bool, Option, Some, None, Result, Ok, Err, IfOk, IfErr, IsErrAnd, All, arith, refl, inl, inr, sym, ap, ◌∙◌, subst, length-drop}
 use Rattle.std.proofs.lemmas.List.{drop_more, drop-drop, drop-set-lt, get_or_at, length-take-le, take-append-drop, take_all, take_more}
 use Rattle.base.specs.Budget.{Spends, Steps}
 use Rattle.base.specs.Witness.{witness}
@@ -7,12 +7,13 @@ use Rattle.graph.specs.declared.circuit.Lit.{Lit}
 use Rattle.graph.specs.declared.circuit.Property.{Property}
 use Rattle.graph.specs.declared.parts.Parts.{Parts}
 use Rattle.graph.specs.Properties.{HasProperty}
+use Rattle.graph.specs.WellFormed.{IsWellFormed}
 use Rattle.stimulus.specs.declared.value.Stimulus.{Stimulus}
 use Rattle.cnf.specs.Invariants.{IsInductive}
 use Rattle.certificate.specs.declared.certificate.Certificate.{Certificate}
-use Rattle.checker.specs.Accepted.{IsAcceptedCertificate, IsGood, bad_of, circuit_of}
+use Rattle.checker.specs.Accepted.{IsGood, IsUpheld, bad_of, circuit_of}
 use Rattle.checker.specs.declared.invariant.ClauseFault.TheVariants as fault
-use Rattle.checker.proofs.Accepted.{first_fault_refuses}
+use Rattle.checker.proofs.Accepted.{accepted_law, first_fault_refuses}
 use Rattle.certify.specs.Causes.{HasCause as IsUncertified}
 use Rattle.certify.specs.Outcomes.{IsCertified}
 use Rattle.certify.specs.declared.certified.Certified.{Certified}
@@ -35,16 +36,6 @@ use Rattle.verdict.specs.declared.verdict.Verdict.{Verdict}
 use Rattle.verdict.specs.declared.verdict.Verdict.TheVariants.{Safe, Unsafe, Unknown}
 
 -- ---- what comes of one answer
-
-heard_refusal : (answers : Steps → Result Finding EngineError → Steps → Type 0) (m : Parts) (p : Property) (before left : Steps) (e : EngineError) (r : Result Verdict DecideError) →
-    answers before (Err e) left → r ≡ Err (of_engine e) → IsHeard answers m p before r left
-heard_refusal answers m p before left e r answered is = record { answer = Err e; left = left; answered = answered; comes = (is, refl) }
-
--- a refusal that is handed on
-pub heard_error : (answers : Steps → Result Finding EngineError → Steps → Type 0) (m : Parts) (p : Property) (before left : Steps) (e : EngineError) (r : Result Verdict DecideError) →
-    answers before (Err e) left → IsErrAnd r (λ x. x ≡ of_engine e) → IsHeard answers m p before r left
-heard_error answers m p before left e (Ok v) answered is = absurd is
-heard_error answers m p before left e (Err d) answered is = heard_refusal answers m p before left e (Err d) answered (ap (λ (x : DecideError). Err x) is)
 
 pub heard_unknown : (answers : Steps → Result Finding EngineError → Steps → Type 0) (m : Parts) (p : Property) (before left : Steps) (f : Finding) (reason : Reason) → answers before (Ok f) left →
     f ≡ finding.Unknown reason → IsHeard answers m p before (Ok (Unknown reason)) left
@@ -87,24 +78,9 @@ heard_clauses answers m p before left after f inv given r answered is same comes
 
 -- ---- clauses
 
--- a certificate that is checked comes to itself, or to out of memory
-certificate_ok : (m : Parts) (p : Property) (inv : List (List Lit)) (after : Steps) (c : Certificate) (r : Result Verdict DecideError) → IsCertified m p inv after (outcome.Certificate c) →
-    MatchResult r (λ v. v ≡ Safe c) (λ e. e ≡ OutOfMemory witness) → IfOk r (IsOfClauses m p inv after)
-certificate_ok m p inv after c (Ok v) certified is = subst (IsOfClauses m p inv after) (sym is) certified
-certificate_ok m p inv after c (Err e) certified is = tt
-
-certificate_err : (m : Parts) (p : Property) (inv : List (List Lit)) (c : Certificate) (r : Result Verdict DecideError) →
-    MatchResult r (λ v. v ≡ Safe c) (λ e. e ≡ OutOfMemory witness) → IfErr r (Stops m p inv)
-certificate_err m p inv c (Ok v) is = tt
-certificate_err m p inv c (Err e) is = subst (Stops m p inv) (sym is) tt
-
-pub certificate_comes : (m : Parts) (p : Property) (inv : List (List Lit)) (after : Steps) (c : Certificate) (r : Result Verdict DecideError) → IsCertified m p inv after (outcome.Certificate c) →
-    (IsAcceptedCertificate m c → MatchResult r (λ v. v ≡ Safe c) (λ e. e ≡ OutOfMemory witness)) → IfOk r (IsOfClauses m p inv after)
-certificate_comes m p inv after c r certified told = certificate_ok m p inv after c r certified (told certified.2)
-
-pub certificate_stops : (m : Parts) (p : Property) (inv : List (List Lit)) (after : Steps) (c : Certificate) (r : Result Verdict DecideError) → IsCertified m p inv after (outcome.Certificate c) →
-    (IsAcceptedCertificate m c → MatchResult r (λ v. v ≡ Safe c) (λ e. e ≡ OutOfMemory witness)) → IfErr r (Stops m p inv)
-certificate_stops m p inv after c r certified told = certificate_err m p inv c r (told certified.2)
+-- an accepted certificate upholds its property
+pub certificate_backs : (m : Parts) (p : Property) (inv : List (List Lit)) (after : Steps) (c : Certificate) → IsWellFormed m → IsCertified m p inv after (outcome.Certificate c) → IsBacked m p (Safe c)
+certificate_backs m p inv after c formed certified = (certified.2, certified.0, subst (IsUpheld m) certified.0 (accepted_law m c formed certified.2))
 
 -- what comes of clauses of which no certificate is made
 refused_ok : (m : Parts) (p : Property) (inv : List (List Lit)) (after : Steps) (e : CertifyError) → HasProperty m p → IsUncertified m p inv e → IfOk (of_certify e) (IsOfClauses m p inv after)

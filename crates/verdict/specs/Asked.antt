@@ -77,7 +77,7 @@ pub record IsHeard (answers : Steps → Result Finding EngineError → Steps →
 -- ---- one engine after the other
 
 -- each engine was asked once, in order, with what the one before it left of the budget, and nothing is known by any; after
--- the reason that was told before them this one is told behind them, the weightiest
+-- the reason that was reported before them this one is reported behind them, the weightiest
 abbrev pub HaveTold : {E : Type 0} → (E → Steps → Result Finding EngineError → Steps → Type 0) → Parts → Property → List E → Reason → Steps → Reason → Steps → Type 0
 HaveTold answers m p [] told before last after = (last ≡ told) × (after ≡ before)
 HaveTold answers m p (e ∷ es) told before last after =

@@ -12,7 +12,7 @@ use Rattle.verdict.specs.declared.verdict.Verdict.TheVariants.{Unknown}
 use Rattle.verdict.specs.declared.decide_error.DecideError.{DecideError}
 use Rattle.verdict.specs.declared.decide_error.DecideError.TheVariants.{NoProperty, Limit, OutOfMemory}
 
--- the circuit has no such property, whose position is told; otherwise it has, and an engine gave up or memory ran out
+-- the circuit has no such property, whose position is reported; otherwise it has, and an engine gave up or memory ran out
 abbrev pub HasCause : Parts → Property → DecideError → Type 0
 HasCause m p (NoProperty n) = (n ≡ position_of p) × (HasProperty m p → ⊥)
 HasCause m p Limit = HasProperty m p

@@ -1,4 +1,4 @@
--- Which of two reasons is told, and the reason of an answer.
+-- Which of two reasons is reported, and the reason of an answer.
 use Rattle.std.specs.Prelude.{max, Option, None, Some, Result, Ok, Err}
 use Rattle.engine.specs.declared.finding.Reason.{Reason}
 use Rattle.engine.specs.declared.finding.Reason.TheVariants.{Budget, Depth, NoEvidence}

@@ -24,11 +24,11 @@ IsBacked m p (Safe c) = IsAcceptedCertificate m c × (c.property ≡ p) × IsUph
 IsBacked m p (Unsafe s) = Shows m s × (property_of s ≡ p)
 IsBacked m p (Unknown reason) = Unit {0}
 
--- no stimulus of at most so many input lines shows a lasso of the justice property
+-- no stimulus of at most this number of input lines shows a lasso of the justice property
 abbrev pub HasNoLasso : Parts → ℕ → ℕ → Type 0
 HasNoLasso m n most = (initial : List Bool) (lines : List (List Bool)) → length lines ≤ most → ShowsLasso m (stimulus.Violated (Justice n) initial lines) → ⊥
 
--- so far nothing violates the property: no run of so many steps, or no lasso of so many lines
+-- so far nothing violates the property: no run of this number of steps, or no lasso of this number of lines
 abbrev pub IsFreeOf : Parts → Property → ℕ → Type 0
 IsFreeOf m (Justice n) steps = HasNoLasso m n steps
 IsFreeOf m safety steps = IsClear m safety steps

@@ -1,8 +1,8 @@
 //! Asking one engine.
 
-ghost use Rattle.std.specs.Prelude.{◌≡◌, IfOk, IfErr, MatchResult};
+ghost use Rattle.std.specs.Prelude.{◌≡◌, IfOk, IfErr};
 ghost use Rattle.std.specs.List.{All};
-ghost use Rattle.checker.specs.Accepted.{IsAcceptedCertificate, IsGood, bad_of, circuit_of};
+ghost use Rattle.checker.specs.Accepted.{IsGood, bad_of, circuit_of};
 ghost use Rattle.cnf.specs.Invariants.{IsInductive};
 ghost use Rattle.base.specs.Budget.{Spends};
 ghost use Rattle.stimulus.specs.Shown.{Shows};
@@ -14,13 +14,10 @@ ghost use Rattle.verdict.specs.Asked.{IsHeard, IsOfClauses, IsOfReplay, Stops};
 ghost use Rattle.verdict.specs.Causes.{HasCause, of_certify};
 ghost use Rattle.verdict.specs.Verdicts.{IsAsked, IsBacked, IsMeant, IsUnsafe, IsViolation};
 ghost use Rattle.verdict.specs.declared.decide_error.DecideError.TheVariants.{OutOfMemory};
-ghost use Rattle.verdict.specs.declared.verdict.Verdict.TheVariants.{Safe};
 
 use crate::decide_error::DecideError;
 use crate::verdict::Verdict;
-use certificate::Certificate;
 use certify::{Certified, CertifyError, certify};
-use checker::{CheckError, check};
 use engine::{Engine, EngineError, Finding, Reason};
 use graph::{Budget, Lit, Model, Property, Seq};
 use live_safe::lasso_of;
@@ -100,29 +97,8 @@ fn ran(
     }
 }
 
-/// The certificate of the property, where the checker accepts it.
-fn checked(
-    alloc: Global,
-    model: &Model,
-    property: Property,
-    certificate: Certificate,
-) -> Result<Verdict, DecideError>
-    requires there { HasProperty model.now property }
-    requires named { certificate.property ≡ property }
-    ensures backed { IfOk result (IsBacked model.now property) }
-    ensures accepted { IsAcceptedCertificate model.now certificate → MatchResult result (λ v. v ≡ Safe certificate) (λ e. e ≡ OutOfMemory witness) }
-    ensures refused { IfErr result (HasCause model.now property) }
-{
-    match check(alloc, model, &certificate) {
-        Ok(()) => Ok(Verdict::Safe(certificate)),
-        Err(CheckError::OutOfMemory(refused)) => Err(DecideError::OutOfMemory(refused)),
-        Err(CheckError::Limit) => Err(DecideError::Limit),
-        Err(_) => Ok(Verdict::Unknown(Reason::NoEvidence)),
-    }
-}
-
 /// What comes of clauses that are said to be an invariant which upholds the property: a certificate,
-/// where each of their cases is refuted and the checker accepts it.
+/// where each of their cases is refuted. `certify` promises that the checker accepts it.
 fn certified(
     alloc: Global,
     model: &Model,
@@ -138,9 +114,10 @@ fn certified(
     ensures stopped { IfErr result (Stops model.now property invariant.now) }
     ensures refused { IfErr result (HasCause model.now property) }
 {
+    model.parts();
     match certify(alloc, model, property, invariant, budget) {
-        Ok(Certified::Certificate(certificate)) => checked(alloc, model, property, certificate),
-        Ok(Certified::NotInvariant) => Ok(Verdict::Unknown(Reason::NoEvidence)),
+        Ok(Certified::Certificate(certificate)) => Ok(Verdict::Safe(certificate)),
+        Ok(Certified::NotInvariant(_)) => Ok(Verdict::Unknown(Reason::NoEvidence)),
         Ok(Certified::Spent) => Ok(Verdict::Unknown(Reason::Budget)),
         Err(error) => uncertified(error),
     }

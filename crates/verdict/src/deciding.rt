@@ -92,16 +92,16 @@ fn hear_each(
 /// Decides a property of a circuit by asking each engine once, in order: about its bad literal or
 /// output alone, or for a justice property about the bad literal of its shadow circuit. An engine is
 /// not believed: a run that it finds is answered only where the replay of its stimulus shows the
-/// violation, and an invariant only where a certificate is made of it that the checker accepts; what
+/// violation, and an invariant only where a certificate is made of it, which the checker accepts; what
 /// fails is dropped, and the next engine asked. A refusal of an engine ends the call. A shadow
 /// circuit with too many variables is refused.
 ///
-/// Where no engine has evidence, the reason that is told is the budget's where an engine or the
+/// Where no engine has evidence, the reason that is reported is the budget's where an engine or the
 /// making of a certificate told that, else the greatest depth that one told, else that there was no
 /// evidence, which is never so where all engines that were asked are honest.
 ///
 /// Beside what the engines cost, it takes a copy of the circuit, one replay for each run, and for
-/// each invariant its certificate and the check of it.
+/// each invariant its certificate.
 pub fn decide(
     alloc: Global,
     model: &Model,

@@ -1,4 +1,4 @@
-//! Which of two reasons is told, and the reason of an answer.
+//! Which of two reasons is reported, and the reason of an answer.
 
 ghost use Rattle.std.specs.Prelude.{◌≡◌};
 ghost use Rattle.verdict.specs.Reasons.{reason_in, reason_of, weightier_of};
@@ -7,7 +7,7 @@ use crate::decide_error::DecideError;
 use crate::verdict::Verdict;
 use engine::Reason;
 
-/// The reason that is told where there are two: that the budget is exhausted, or else the
+/// The reason that is reported where there are two: that the budget is exhausted, or else the
 /// greater depth, or else that there was no evidence.
 pub fn weightier(told: Reason, found: Reason) -> Reason
     ensures { result ≡ weightier_of told found }

@@ -1,40 +1,51 @@
-use Rattle.std.proofs.Common.{◌++◌, [], map, sym, subst}
-use Rattle.lrat.proofs.Fit.{err_gives}
-use Rattle.cnf.specs.Formulas.{bad_formula, init_formula, step_formula}
-use Rattle.checker.specs.Accepted.{cases, IsProofOf}
-use Rattle.certify.specs.Halts.{IsHalt}
+use Rattle.std.proofs.Common.{rules, ◌≡◌, ◌++◌, [], ◌∷◌, map, sym, subst, SFits, w32}
+use Rattle.base.specs.Witness.{witness}
+use Rattle.lrat.proofs.Fit.{err_gives, read32}
+use Rattle.cnf.specs.Clauses.{bad_units}
+use Rattle.cnf.specs.Formulas.{bad_formula, init_formula, shared_formula, step_formula}
+use Rattle.checker.specs.Accepted.{cases, IsProofOf, with_units}
+use Rattle.certify.specs.Halts.{IsHalt, IsHaltOf}
 use Rattle.certify.specs.Sections.{AreProofs}
-use Rattle.certify.proofs.Pairs.{none_yet, one_more}
-use Rattle.certify.proofs.Stopped.{halt_initial, halt_last, halt_steps}
+use Rattle.certify.specs.declared.halt.Halt.TheVariants.{OutOfMemory}
+use Rattle.certify.specs.declared.counterexample.Case.TheVariants.{Bad}
+use Rattle.certify.proofs.Pairs.{case_is, none_yet, one_more}
+use Rattle.certify.proofs.Stopped.{halt_of}
 use Rattle.certify.proofs.proving.prove_cases.Goals as goal
 
 pub returns-in_err-prove_initial-clause-halted : goal.returns-in_err-prove_initial-clause-halted
 returns-in_err-prove_initial-clause-halted c =
-    let m = c.args.model.now in
-    let inv = c.args.invariant.now in
-    err_gives (IsHalt (cases m inv c.args.bad) c.prove_initial.new.budget) _ c.in_err-prove_initial.field-0.0 c.from_residual.ensures.1
-    (halt_initial m inv c.args.bad c.prove_initial.new.budget c.in_err-prove_initial.field-0.0 c.in_err-prove_initial.ensures.halted)
+    err_gives (IsHalt c.args.model.now c.args.invariant.now c.args.bad c.prove_initial.new.budget) _ c.in_err-prove_initial.field-0.0 c.from_residual.ensures.1
+    (c.in_err-prove_initial.ensures.halted c.args.bad)
 
 pub returns-in_err-prove_steps-clause-halted : goal.returns-in_err-prove_steps-clause-halted
 returns-in_err-prove_steps-clause-halted c =
-    let m = c.args.model.now in
-    let inv = c.args.invariant.now in
-    err_gives (IsHalt (cases m inv c.args.bad) c.prove_steps.new.budget) _ c.in_err-prove_steps.field-0.0 c.from_residual-in_err-prove_steps.ensures.1
-    (halt_steps m inv c.args.bad c.prove_steps.new.budget c.in_err-prove_steps.field-0.0 c.in_err-prove_steps.ensures.halted)
+    err_gives (IsHalt c.args.model.now c.args.invariant.now c.args.bad c.prove_steps.new.budget) _ c.in_err-prove_steps.field-0.0 c.from_residual-in_err-prove_steps.ensures.1
+    (c.in_err-prove_steps.ensures.halted c.args.bad)
 
-pub returns-in_err-prove_case-clause-halted : goal.returns-in_err-prove_case-clause-halted
-returns-in_err-prove_case-clause-halted c =
+pub returns-in_err-prove-clause-halted : goal.returns-in_err-prove-clause-halted
+returns-in_err-prove-clause-halted c =
     let m = c.args.model.now in
     let inv = c.args.invariant.now in
-    err_gives (IsHalt (cases m inv c.args.bad) c.prove_case.new.budget) _ c.in_err-prove_case.field-0.0 c.from_residual-in_err-prove_case.ensures.1
-    (halt_last (map (init_formula m) inv ++ map (step_formula m inv) inv) (bad_formula m inv c.args.bad) c.in_ok-case.case c.prove_case.new.budget c.in_err-prove_case.field-0.0
-    c.in_ok-case.ensures.formula c.in_err-prove_case.ensures.halted)
+    let fits : SFits w32 c.bad_unit-unit.result = search rules in
+    let case : with_units c.prove_steps.new.refuter.formula (c.bad_unit-unit.result ∷ []) ≡ bad_formula m inv c.args.bad =
+    case_is c.prove_steps.new.refuter.formula (shared_formula m inv) (c.bad_unit-unit.result ∷ []) (bad_units m c.args.bad) (search rules) (search rules) in
+    err_gives (IsHalt m inv c.args.bad c.prove.new.budget) _ c.in_err-prove.field-0.0 c.from_residual-in_err-prove.ensures.1
+    (halt_of m inv c.args.bad Bad _ c.prove.new.budget c.in_err-prove.field-0.0 tt case
+    (subst (λ x. IsHaltOf (with_units c.prove_steps.new.refuter.formula (x ∷ [])) Bad c.prove.new.budget c.in_err-prove.field-0.0) (read32 _ fits) c.in_err-prove.ensures.halted))
+
+pub returns-in_err-push-clause-halted : goal.returns-in_err-push-clause-halted
+returns-in_err-push-clause-halted c =
+    err_gives (IsHalt c.args.model.now c.args.invariant.now c.args.bad c.prove.new.budget) _ (OutOfMemory witness) c.from_residual-in_err-push.ensures.1 tt
 
 pub returns-clause-proved : goal.returns-clause-proved
 returns-clause-proved c =
     let m = c.args.model.now in
     let inv = c.args.invariant.now in
+    let fits : SFits w32 c.bad_unit-unit.result = search rules in
+    let case : with_units c.prove_steps.new.refuter.formula (c.bad_unit-unit.result ∷ []) ≡ bad_formula m inv c.args.bad =
+    case_is c.prove_steps.new.refuter.formula (shared_formula m inv) (c.bad_unit-unit.result ∷ []) (bad_units m c.args.bad) (search rules) (search rules) in
     subst (AreProofs (cases m inv c.args.bad)) (sym c.in_ok-push.ensures.ok)
-    (one_more (map (init_formula m) inv ++ map (step_formula m inv) inv) c.prove_steps.new.sections (bad_formula m inv c.args.bad) c.in_ok-prove_case.field-0
+    (one_more (map (init_formula m) inv ++ map (step_formula m inv) inv) c.prove_steps.new.sections (bad_formula m inv c.args.bad) c.in_ok-prove.field-0
     (c.in_ok-prove_steps.ensures.proved (map (init_formula m) inv) (c.in_ok-prove_initial.ensures.proved [] (rw c.new-sections.ensures none_yet)))
-    (subst (λ f. IsProofOf f c.in_ok-prove_case.field-0) c.in_ok-case.ensures.formula c.in_ok-prove_case.ensures.proved))
+    (subst (λ f. IsProofOf f c.in_ok-prove.field-0) case
+    (subst (λ x. IsProofOf (with_units c.prove_steps.new.refuter.formula (x ∷ [])) c.in_ok-prove.field-0) (read32 _ fits) c.in_ok-prove.ensures.proved)))

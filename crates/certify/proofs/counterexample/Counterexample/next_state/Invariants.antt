@@ -1,0 +1,6 @@
+use Rattle.std.proofs.Common.{◌≡◌, map, take}
+use Rattle.graph.specs.Valuation.{value_of}
+use Rattle.certify.proofs.counterexample.Counterexample.next_state.Given as goal
+
+abbrev pub invariant-loop-latch : goal.invariant-loop-latch
+invariant-loop-latch l = l.state ≡ map (λ x. value_of l.self.values.items x.next) (take l.latch-index l.latch-items)
