@@ -1,6 +1,7 @@
 //! The commands `certify` and `to-safety`: what other engines found becomes evidence.
 
 use crate::checking::{ask, is_taken};
+use crate::counterexample::tell_counterexample;
 use crate::files::{circuit, keep, make};
 use crate::fitting;
 use crate::shadow::shadow_file;
@@ -91,13 +92,11 @@ fn certified(
             )?;
             Ok(DONE)
         }
-        Certified::NotInvariant if asked.strengthen => {
+        Certified::NotInvariant(_) if asked.strengthen => {
             strengthened(rt, asked, property, file, clauses)
         }
-        Certified::NotInvariant => {
-            let _ = eprintln!(rt;
-                "aigmc: the clauses are no inductive invariant that excludes the property's literal"
-            );
+        Certified::NotInvariant(found) => {
+            tell_counterexample(rt, file.model(), property, &found)?;
             Ok(NO_INVARIANT)
         }
         Certified::Spent => {

@@ -49,6 +49,7 @@
 
 mod adopting;
 mod checking;
+mod counterexample;
 mod detail;
 mod explaining;
 mod files;

@@ -45,7 +45,7 @@ fn add_copy(
     add(alloc, symbols, SymbolKind::Latch, position, name.as_slice())
 }
 
-/// Adds what the name of something in the circuit with so many latches becomes in the shadow circuit of the
+/// Adds what the name of something in the circuit with `latches` latches becomes in the shadow circuit of the
 /// justice property at the position. An output's name, and that of another property, becomes nothing.
 fn add_old(
     alloc: Global,

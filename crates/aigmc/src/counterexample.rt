@@ -1,0 +1,72 @@
+//! What satisfies a case of clauses that are no invariant, in words.
+
+use crate::stop::Stop;
+use certify::{Case, Counterexample};
+use graph::{Model, Property};
+use live_safe::to_safety;
+use std::fmt;
+
+/// Values as a line of a stimulus has them.
+#[derive(Clone, Copy)]
+struct Bits<'a>(&'a [bool]);
+
+impl fmt::Display for Bits<'_> {
+    fn fmt<W: fmt::Write>(&self, f: &mut fmt::Formatter<W>) -> fmt::Result {
+        for bit in self.0 {
+            f.write_str(if *bit { "1" } else { "0" })?;
+        }
+        Ok(())
+    }
+}
+
+/// Says by which inputs, where the circuit has some.
+fn tell_inputs(rt: &HostRuntime, inputs: &[bool]) {
+    if !inputs.is_empty() {
+        let _ = eprint!(rt; " with the inputs {}", Bits(inputs));
+    }
+    let _ = eprintln!(rt);
+}
+
+/// Says which case the values satisfy, and by which state of the clauses' circuit.
+fn tell_values(rt: &HostRuntime, circuit: &Model, found: &Counterexample) -> Result<(), Stop> {
+    // all memory is taken before the first word
+    let state = found.state(rt.alloc(), circuit)?;
+    let inputs = found.inputs(rt.alloc(), circuit)?;
+    let next = found.next_state(rt.alloc(), circuit)?;
+    let (state, next) = (Bits(state.as_slice()), Bits(next.as_slice()));
+    let _ = eprintln!(rt;
+        "aigmc: the clauses are no inductive invariant that excludes the property's literal"
+    );
+    match found.case {
+        Case::Initial(clause) => {
+            let _ = eprintln!(rt; "  initial: clause {clause} is false in the state {state}");
+        }
+        Case::Step(clause) => {
+            let _ = eprint!(rt;
+                "  step: clause {clause} is false after the step from {state} to {next}"
+            );
+            tell_inputs(rt, inputs.as_slice());
+        }
+        Case::Bad => {
+            let _ = eprint!(rt; "  bad: the property's literal is 1 in the state {state}");
+            tell_inputs(rt, inputs.as_slice());
+        }
+    }
+    Ok(())
+}
+
+/// Says which case the values satisfy. For a justice property they are of the shadow circuit.
+pub fn tell_counterexample(
+    rt: &HostRuntime,
+    model: &Model,
+    property: Property,
+    found: &Counterexample,
+) -> Result<(), Stop> {
+    match property {
+        Property::Justice(position) => {
+            let shadow = to_safety(rt.alloc(), model, position)?;
+            tell_values(rt, &shadow, found)
+        }
+        Property::Bad(_) | Property::Output(_) => tell_values(rt, model, found),
+    }
+}
