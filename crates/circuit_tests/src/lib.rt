@@ -13,6 +13,8 @@ mod circuits;
 #[cfg(test)]
 mod encodings;
 #[cfg(test)]
+mod large_certificate;
+#[cfg(test)]
 mod literals;
 #[cfg(test)]
 mod questions;
