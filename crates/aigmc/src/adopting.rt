@@ -123,6 +123,18 @@ pub fn certify_clauses(rt: &HostRuntime, asked: &Claim) -> Result<u8, Stop> {
     )
 }
 
+/// The shadow circuit of the justice property at the position, of the circuit in the file of this name.
+fn shadow_of(rt: &HostRuntime, name: &str, position: u32) -> Result<AigerFile, Stop> {
+    let file = circuit(rt, name)?;
+    about(Role::Circuit, shadow_file(rt.alloc(), &file, position))
+}
+
+/// Makes the file of that name, in its layout.
+fn make_fitting(rt: &HostRuntime, out: &str, file: AigerFile, layout: Layout) -> Result<(), Stop> {
+    let file = fitting(rt.alloc(), file, layout)?;
+    make(rt, out, &file, layout)
+}
+
 /// Makes the file of that name with the shadow circuit of a justice property.
 pub fn make_shadow(rt: &HostRuntime, asked: &Shadow) -> Result<u8, Stop> {
     let Some(Property::Justice(position)) = property_named(asked.property.as_str()) else {
@@ -130,9 +142,7 @@ pub fn make_shadow(rt: &HostRuntime, asked: &Shadow) -> Result<u8, Stop> {
     };
     let out = asked.out.as_str();
     let layout = Layout::of_name(out).ok_or(Stop::BadArgument)?;
-    let file = circuit(rt, asked.file.as_str())?;
-    let shadow = about(Role::Circuit, shadow_file(rt.alloc(), &file, position))?;
-    let shadow = fitting(rt.alloc(), shadow, layout)?;
-    make(rt, out, &shadow, layout)?;
+    let shadow = shadow_of(rt, asked.file.as_str(), position)?;
+    make_fitting(rt, out, shadow, layout)?;
     Ok(DONE)
 }
