@@ -182,6 +182,16 @@ static ROWS: [Row; 49] = [
         remedy: "use variables 1 to M + 1 alone",
     },
     Row {
+        number: 52,
+        meaning: "the empty clause is a lemma",
+        remedy: "leave l before its empty clause, and end each section with its own",
+    },
+    Row {
+        number: 53,
+        meaning: "the ids of a section's units would pass 4,294,967,295",
+        remedy: "number the lemmas anew, from the formula's end on",
+    },
+    Row {
         number: 60,
         meaning: "a first value of a latch is against its reset",
         remedy: "take the first state that the resets say",
@@ -218,7 +228,7 @@ static ROWS: [Row; 49] = [
     },
     Row {
         number: 70,
-        meaning: "the first line is not aigcert 1",
+        meaning: "the first line is neither aigcert 1 nor aigcert 2",
         remedy: "give circuit and certificate in this order",
     },
     Row {

@@ -3,3 +3,4 @@ pub mod Sections
 pub mod Selecting
 pub mod Ended
 pub mod Few
+pub mod Closings

@@ -110,10 +110,10 @@ used : (ks : List Kept) (id : ℕ) (c : List ℤ) → find_in ks id ≡ Some c �
 used ks zero c e = absurd (none_some c e)
 used ks (suc i) c e = let lt = in_list ks i c e in (omega arith, omega arith)
 
-begun_all : (v : ℕ) (n : Numbering) (cs : List (List ℤ)) → n.base ≡ length cs → IsLog Open n v (map as_added cs) [] None
-begun_all v n cs base =
+begun_all : (v : ℕ) (n : Numbering) (cs : List (List ℤ)) → n.base ≡ length cs → n.shared ≡ 0 → IsLog Open n v (map as_added cs) [] None
+begun_all v n cs base none =
     let all : length (added (map as_added cs)) ≡ length cs = length_added cs ∙ length_as_added cs in (
-      record { base = base ∙ sym all; in_limits = All-nil IsLine; numbered = tt },
+      record { base = base ∙ sym all; shared = omega (arith, none); in_limits = All-nil IsLine; numbered = tt },
       record {
         reached = start (formula_of v (map as_added cs)) n.room;
         along = refl;
@@ -127,8 +127,8 @@ begun_all v n cs base =
       tt,
     )
 
-pub begun : (v : ℕ) (n : Numbering) (cs : List (List ℤ)) (ks : List Kept) → n.base ≡ length cs → ks ≡ map as_added cs → IsLog Open n v ks [] None
-begun v n cs ks base e = subst (λ us. IsLog Open n v us [] None) (sym e) (begun_all v n cs base)
+pub begun : (v : ℕ) (n : Numbering) (cs : List (List ℤ)) (ks : List Kept) → n.base ≡ length cs → n.shared ≡ 0 → ks ≡ map as_added cs → IsLog Open n v ks [] None
+begun v n cs ks base none e = subst (λ us. IsLog Open n v us [] None) (sym e) (begun_all v n cs base none)
 
 -- ---- one line more
 
@@ -304,6 +304,7 @@ logged_open v n ks ls end c hints id small few is log lits line open_ =
     subst (λ (f : Formula). AreLines f n (ls ++ Add id c (in_log n hints) ∷ []) × LeadTo f n (ks ++ learned_clause c ∷ []) (ls ++ Add id c (in_log n hints) ∷ []) × Unit {0}) (sym same) (
       record {
         base = are.base;
+        shared = let le = are.shared in omega (arith, le, length-append ls (Add id c (in_log n hints) ∷ []));
         in_limits = All-push IsLine ls _ are.in_limits next.in_limits;
         numbered = numbered_more (first_id n) ls id c (in_log n hints) are.numbered (omega (arith, is, l.count)) open_ next.below;
       },

@@ -28,7 +28,7 @@ numbered_append : (k : ℕ) (cs ds : List (List ℤ)) (m : ById) → numbered_fr
 numbered_append k [] ds m = ap (λ j. numbered_from j ds m) (omega arith)
 numbered_append k (c ∷ cs) ds m = numbered_append (k + 1) cs ds (fin.insert m k c) ∙ ap (λ j. numbered_from j ds (numbered_from (k + 1) cs (fin.insert m k c))) (omega arith)
 
-numbered_get : (cs : List (List ℤ)) (k i : ℕ) (m : ById) (d : List ℤ) → i < length cs → fin.get (numbered_from k cs m) (k + i) ≡ Some (get_or cs i d)
+pub numbered_get : (cs : List (List ℤ)) (k i : ℕ) (m : ById) (d : List ℤ) → i < length cs → fin.get (numbered_from k cs m) (k + i) ≡ Some (get_or cs i d)
 numbered_get [] k i m d lt = absurd (omega arith)
 numbered_get (c ∷ cs) k zero m d lt =
     let e : k + 0 ≡ k = omega arith in
@@ -37,7 +37,7 @@ numbered_get (c ∷ cs) k (suc i) m d lt =
     let e : k + suc i ≡ k + 1 + i = omega arith in
     rw e (numbered_get cs (k + 1) i (fin.insert m k c) d (omega arith))
 
-some_below : (cs : List (List ℤ)) (q : ℕ) (d : List ℤ) → fin.get (numbered_from 1 cs fin.empty) q ≡ Some d → q < 1 + length cs
+pub some_below : (cs : List (List ℤ)) (q : ℕ) (d : List ℤ) → fin.get (numbered_from 1 cs fin.empty) q ≡ Some d → q < 1 + length cs
 some_below cs q d e =
     elim (cases_lt q (1 + length cs)) [
       | inl lt ↦ lt
@@ -198,7 +198,7 @@ no_pairs : AllPairs (λ (a b : ℤ). (a ≢ b) × (a ≢ neg_ℤ b)) []
 no_pairs i j d lt lt2 = absurd (omega (arith, lt2))
 
 -- the empty clause by units that deny the clause, and then by what shows that
-empty_shown : (v : ℕ) (m : Finder) (base : ℕ) (us c ids hints : List ℤ) → ((i : ℕ) → i < length us → m (base + i + 1) ≡ Some (get_or us i (pos 0) ∷ [])) → AreDenials base us c ids → IsAcceptedLine v m c (map unsigned_abs hints)
+pub empty_shown : (v : ℕ) (m : Finder) (base : ℕ) (us c ids hints : List ℤ) → ((i : ℕ) → i < length us → m (base + i + 1) ≡ Some (get_or us i (pos 0) ∷ [])) → AreDenials base us c ids → IsAcceptedLine v m c (map unsigned_abs hints)
     → IsAcceptedLine v m [] (map unsigned_abs (ids ++ hints))
 empty_shown v m base us c ids hints units are line =
     let s = line.shown in
@@ -236,7 +236,7 @@ accepted_section f n us ls c l ids base few numbered x are =
 
 -- ---- units that are opposed
 
-opposed_shown : (v : ℕ) (m : Finder) (base : ℕ) (us : List ℤ) (l one other : ℤ) → ((i : ℕ) → i < length us → m (base + i + 1) ≡ Some (get_or us i (pos 0) ∷ [])) → IsUnitId base us l one → IsUnitId base us (neg_ℤ l) other
+pub opposed_shown : (v : ℕ) (m : Finder) (base : ℕ) (us : List ℤ) (l one other : ℤ) → ((i : ℕ) → i < length us → m (base + i + 1) ≡ Some (get_or us i (pos 0) ∷ [])) → IsUnitId base us l one → IsUnitId base us (neg_ℤ l) other
     → IsAcceptedLine v m [] (map unsigned_abs (one ∷ other ∷ []))
 opposed_shown v m base us l one other units is opposed =
     record {

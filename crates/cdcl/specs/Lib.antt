@@ -5,3 +5,4 @@ pub mod Selected
 pub mod Units
 pub mod Refutations
 pub mod Refuting
+pub mod Closings

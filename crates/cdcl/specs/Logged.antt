@@ -1,5 +1,5 @@
 -- A proof as it is written down while the search goes on (LRAT 2017).
-use Rattle.std.specs.Prelude.{◌≡◌, ℕ, ℤ, ◌+◌, ◌<◌, nat_lt, if◌then◌else◌, Bool, true, false, List, [], ◌∷◌, ◌++◌, map, neg_ℤ, unsigned_abs, length, All, Contains, Option, Some, IfSome}
+use Rattle.std.specs.Prelude.{◌≡◌, ℕ, ℤ, ◌+◌, ◌<◌, ◌≤◌, nat_lt, if◌then◌else◌, Bool, true, false, List, [], ◌∷◌, ◌++◌, map, neg_ℤ, unsigned_abs, length, All, Contains, Option, Some, IfSome}
 use Rattle.std.specs.FinMap as fin
 use Rattle.lrat.specs.Limits.{IsLine}
 use Rattle.lrat.specs.Shared.{unit_clauses}
@@ -35,6 +35,7 @@ AreNumbered n (Delete id ids ∷ ls) = ⊥
 -- the lines of a log, in the limits
 pub record AreLines (f : Formula) (n : Numbering) (ls : List Line) : Type 0 where
   pub base : n.base ≡ length f.clauses
+  pub shared : n.shared ≤ length ls
   pub in_limits : All IsLine ls
   pub numbered : AreNumbered (first_id n) ls
 
@@ -72,13 +73,14 @@ IsLog Unwanted n v ks ls end = Unit {0}
 IsLog Open n v ks ls end = AreLines (formula_of v ks) n ls × LeadTo (formula_of v ks) n ks ls × IfSome end (λ l. IsNext (formula_of v ks) n ls (clause_of l) l)
 IsLog Closed n v ks ls end = AreLines (formula_of v ks) n ls × ((l : Line) × (end ≡ Some l) × IsNext (formula_of v ks) n ls [] l)
 
--- what a search may not change: the variables, the clauses that were added, how far a log has come and its room for
--- units; and the clause of the line that may follow
+-- what a search may not change: the variables, the clauses that were added, how far a log has come, its room for
+-- units and its lines on which closings rest; and the clause of the line that may follow
 pub record Logged : Type 0 where
   pub vars : ℕ
   pub clauses : List (List ℤ)
   pub log : Logging
   pub room : ℕ
+  pub shared : List Line
   pub end : Option (List ℤ)
 
 abbrev pub is_wanted : Logging → Bool

@@ -4,9 +4,12 @@ ghost use Rattle.std.specs.Prelude.{◌≡◌, ◌≤◌, ◌<◌, ◌++◌, ◌
 ghost use Rattle.cdcl_kernel.specs.Verdicts.{IsOpposed};
 ghost use Rattle.lrat.specs.Literals.{IsLiteral};
 ghost use Rattle.lrat.specs.declared.line.Line.TheVariants.{Add};
-ghost use Rattle.cdcl.specs.Units.{AreDenials, IsUnitId};
+ghost use Rattle.cdcl.specs.Closings.{IsClosingOf};
+ghost use Rattle.cdcl.specs.Refuting.{Refuting};
+ghost use Rattle.cdcl.specs.Units.{AreDenials, AreDeniedAt, IsUnitId, unit_id};
 
 use crate::numbering::Numbering;
+use crate::shown::Closing;
 use base::{Refused, Seq, extend, push};
 use lrat::{Clause, Line};
 use std::alloc::Global;
@@ -25,7 +28,8 @@ pub fn closing_line(
     requires few { length units.now ≤ numbering.room }
     ensures { IfOk result (λ l. (ids : List ℤ) × (l ≡ Add id [] (ids ++ hints.now)) × AreDenials numbering.base units.now clause.now ids) }
 {
-    let mut all = denial_ids(alloc, numbering, units, clause)?;
+    let places = denied_places(alloc, units, clause)?;
+    let mut all = unit_ids(alloc, numbering, places.as_slice())?;
     extend(&mut all, hints)?;
     Ok(Line::Add {
         id,
@@ -34,26 +38,32 @@ pub fn closing_line(
     })
 }
 
-/// The ids of the units that deny the literals of the clause. A core comes in falling order of the
-/// assumptions, so that each unit is looked for to the left of the last one.
-fn denial_ids(
-    alloc: Global,
-    numbering: Numbering,
-    units: &[i32],
-    clause: &[i32],
-) -> Result<Vec<i64>, Refused>
-    requires denied { All (Contains units.now) (map neg_ℤ clause.now) }
-    requires in_range { All (IsLiteral 2147483647) clause.now }
-    requires few { length units.now ≤ numbering.room }
-    ensures { IfOk result (λ ids. AreDenials numbering.base units.now clause.now ids.items) }
+/// The ids of the units at these places.
+pub fn unit_ids(alloc: Global, numbering: Numbering, places: &[u64]) -> Result<Vec<i64>, Refused>
+    requires { All (λ p. p < numbering.room) places.now }
+    ensures { IfOk result (λ ids. ids.items ≡ map (unit_id numbering.base) places.now) }
 {
     let mut ids = Vec::new(alloc);
+    for place in places {
+        push(&mut ids, numbering.unit_id(*place as usize))?;
+    }
+    Ok(ids)
+}
+
+/// The places of the units that deny the literals of the clause. A core comes in falling order of the
+/// assumptions, so that each unit is looked for to the left of the last one.
+pub fn denied_places(alloc: Global, units: &[i32], clause: &[i32]) -> Result<Vec<u64>, Refused>
+    requires denied { All (Contains units.now) (map neg_ℤ clause.now) }
+    requires in_range { All (IsLiteral 2147483647) clause.now }
+    ensures { IfOk result (λ places. AreDeniedAt units.now clause.now places.items) }
+{
+    let mut places = Vec::new(alloc);
     let mut place = units.len();
     for literal in clause {
         place = place_of(units, negated(*literal), place);
-        push(&mut ids, numbering.unit_id(place))?;
+        push(&mut places, place as u64)?;
     }
-    Ok(ids)
+    Ok(places)
 }
 
 /// The last place of the literal before `end`, or else its last place.
@@ -108,6 +118,23 @@ pub fn opposed_line(
         id,
         clause: Clause::from_slice(alloc, &[])?,
         hints: Seq::from_vec(hints),
+    })
+}
+
+/// What two units that are opposed show. It rests on no line.
+pub fn opposed_closing(alloc: Global, units: &[i32], literal: i32) -> Result<Closing, Refused>
+    requires opposed { IsOpposed units.now literal }
+    requires in_range { unsigned_abs literal ≤ 2147483647 }
+    ensures { IfOk result (λ k. (r : Refuting) → IsClosingOf r units.now k) }
+{
+    let one = place_of(units, literal, units.len());
+    let other = place_of(units, negated(literal), units.len());
+    let mut denied = Vec::new(alloc);
+    push(&mut denied, one as u64)?;
+    push(&mut denied, other as u64)?;
+    Ok(Closing {
+        denied: Seq::from_vec(denied),
+        hints: Seq::new(alloc),
     })
 }
 

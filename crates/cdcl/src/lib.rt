@@ -5,7 +5,9 @@
 //! where the budget is exhausted.
 //!
 //! `Refuter` gives proofs of a formula with units that nothing satisfies, for one list of units after
-//! the other, and `refute` one of a formula alone. lrat's `refutes` accepts them.
+//! the other, and `refute` one of a formula alone. lrat's `refutes` accepts them. Where many proofs share
+//! lines, `Refuter::show` finds what shows each, `Refuter::lemmas` the lines that they share, and `section` what
+//! is then left of each, one line.
 //!
 //! All of that is `cdcl_kernel`'s: it keeps the clauses and the trail, checks each clause before it is
 //! learned, looks through a model and derives a core before either is answered. The techniques
@@ -22,6 +24,7 @@ mod final_analysis;
 mod guide;
 mod heap;
 mod learning;
+mod lemmas;
 mod levels;
 mod lines;
 mod loading;
@@ -37,12 +40,15 @@ mod refuter;
 mod restarts;
 mod search;
 mod selection;
+mod shown;
 mod table;
 mod trail_reuse;
 mod units;
 mod watches;
 
 pub use cdcl::Cdcl;
+pub use lemmas::{Lemmas, section};
 pub use refutation::refute;
 pub use refuted::Refuted;
 pub use refuter::Refuter;
+pub use shown::{Closing, Shown};

@@ -6,10 +6,12 @@
 //! and the lines that this rests on are a proof that is accepted. What is forgotten stays in the
 //! log, since a later line may rest on what rests on it. Where no log is wanted nothing is kept.
 
-ghost use Rattle.std.specs.Prelude.{◌≡◌, ◌≤◌, ◌<◌, ◌++◌, ◌∷◌, [], None, Some, false, true, if◌then◌else◌, All, IfOk, IfErr, IfSome, IsOk, OnOk, OnErr, length, unsigned_abs};
+ghost use Rattle.std.specs.Prelude.{◌≡◌, ◌≤◌, ◌<◌, ◌++◌, ◌∷◌, [], None, Some, ℤ, false, true, if◌then◌else◌, All, List, IfOk, IfErr, IfSome, IsOk, OnOk, OnErr, length, unsigned_abs};
 ghost use Rattle.std.specs.Vec.{vec_capacity, vec_len};
+ghost use Rattle.cdcl.specs.Closings.{AreLemmas, IsClosingOf, StaysShown};
 ghost use Rattle.cdcl.specs.Keeping.{Keeps};
 ghost use Rattle.cdcl.specs.Logged.{Logged, EndDenies, added_to, is_wanted, with_units};
+ghost use Rattle.cdcl.specs.Refuting.{refuting};
 ghost use Rattle.cdcl.specs.Settled.{Ends};
 ghost use Rattle.cdcl.specs.declared.logging.Logging.TheVariants.{Unwanted, Open};
 ghost use Rattle.cdcl_kernel.specs.Kept.{added};
@@ -19,13 +21,15 @@ ghost use Rattle.lrat.specs.Literals.{IsLiteral};
 ghost use Rattle.lrat.specs.Proofs.{IsAcceptedProof};
 ghost use Rattle.solver.specs.Answers.{IsCore, IsModel};
 
-use crate::closing::{closing_line, opposed_line};
+use crate::closing::{closing_line, denied_places, opposed_line};
+use crate::lemmas::{Lemmas, all_hints, greatest_id};
 use crate::lines::{added_line, next_id};
 use crate::loading::load;
 use crate::logging::Logging;
 use crate::numbering::Numbering;
-use crate::selection::selected;
-use base::{Refused, push, reserve_one};
+use crate::selection::{selected, wanted_lines};
+use crate::shown::Closing;
+use base::{Refused, Seq, push, reserve_one};
 use cdcl_kernel::{Found, Kernel};
 use lrat::{Formula, Line, Proof};
 use solver::SatError;
@@ -45,13 +49,13 @@ pub struct LoggedKernel {
 }
 
 impl Model for LoggedKernel {
-    ghost use Rattle.std.specs.Prelude.{option_map};
+    ghost use Rattle.std.specs.Prelude.{option_map, take};
     ghost use Rattle.cdcl.specs.Logged.{Logged, IsLog, clause_of};
     ghost use Rattle.cdcl_kernel.specs.Kept.{added};
 
     ghost Value = { Logged };
 
-    ghost view = { λ s. record { vars = s.kernel.vars; clauses = added s.kernel.kept; log = s.log; room = s.numbering.room; end = option_map clause_of s.end } };
+    ghost view = { λ s. record { vars = s.kernel.vars; clauses = added s.kernel.kept; log = s.log; room = s.numbering.room; shared = take s.numbering.shared s.lines.items; end = option_map clause_of s.end } };
 
     ghost invariant = { λ s. IsLog s.log s.numbering s.kernel.vars s.kernel.kept s.lines.items s.end };
 }
@@ -59,13 +63,17 @@ impl Model for LoggedKernel {
 impl LoggedKernel {
     /// No variables, no clauses and no log, which take no memory.
     pub fn new(alloc: Global) -> LoggedKernel
-        ensures { result ≡ record { vars = 0; clauses = []; log = Unwanted; room = 0; end = None } }
+        ensures { result ≡ record { vars = 0; clauses = []; log = Unwanted; room = 0; shared = []; end = None } }
     {
         LoggedKernel {
             kernel: Kernel::new(alloc),
             lines: Vec::new(alloc),
             end: None,
-            numbering: Numbering { base: 0, room: 0 },
+            numbering: Numbering {
+                base: 0,
+                room: 0,
+                shared: 0,
+            },
             log: Logging::Unwanted,
         }
     }
@@ -73,14 +81,18 @@ impl LoggedKernel {
     /// The clauses of the formula, and a log without lines, which has room for this number of units.
     pub fn of_formula(alloc: Global, formula: &Formula, room: u32) -> Result<LoggedKernel, SatError>
         requires { IsFormula formula.now }
-        ensures { IfOk result (λ k. k ≡ record { vars = formula.now.vars; clauses = formula.now.clauses; log = Open; room = room; end = None }) }
+        ensures { IfOk result (λ k. k ≡ record { vars = formula.now.vars; clauses = formula.now.clauses; log = Open; room = room; shared = []; end = None }) }
     {
         let base = formula.clauses.len() as u32;
         Ok(LoggedKernel {
             kernel: load(alloc, formula)?,
             lines: Vec::new(alloc),
             end: None,
-            numbering: Numbering { base, room },
+            numbering: Numbering {
+                base,
+                room,
+                shared: 0,
+            },
             log: Logging::Open,
         })
     }
@@ -98,7 +110,7 @@ impl LoggedKernel {
     pub fn reset(&mut self, alloc: Global, vars: u32) -> Result<(), SatError>
         requires small { vars ≤ 2147483647 }
         requires unlogged { is_wanted self.old.log ≡ false }
-        ensures ok { OnOk result (self.new ≡ record { vars = vars; clauses = []; log = Unwanted; room = self.old.room; end = self.old.end }) }
+        ensures ok { OnOk result (self.new ≡ record { vars = vars; clauses = []; log = Unwanted; room = self.old.room; shared = self.old.shared; end = self.old.end }) }
         ensures err { OnErr result (self.new ≡ self.old) }
     {
         self.kernel.reset(alloc, vars)
@@ -111,6 +123,7 @@ impl LoggedKernel {
         ensures vars { self.new.vars ≡ self.old.vars }
         ensures log { self.new.log ≡ self.old.log }
         ensures room { self.new.room ≡ self.old.room }
+        ensures shared { self.new.shared ≡ self.old.shared }
         ensures ok { OnOk result (self.new.clauses ≡ self.old.clauses ++ clause.now ∷ []) }
         ensures err { OnErr result (self.new ≡ self.old) }
     {
@@ -288,6 +301,43 @@ impl LoggedKernel {
         let mut proof = Proof::new(alloc);
         proof.push_line(line)?;
         Ok(proof)
+    }
+
+    /// What shows that nothing satisfies the clauses with these units, where the clause that may
+    /// follow the log denies some of them. Closings then rest on all lines so far.
+    pub fn closing(&mut self, alloc: Global, units: &[i32]) -> Result<Closing, Refused>
+        requires wanted { is_wanted self.old.log ≡ true }
+        requires denies { EndDenies self.old units.now }
+        ensures vars { self.new.vars ≡ self.old.vars }
+        ensures clauses { self.new.clauses ≡ self.old.clauses }
+        ensures log { self.new.log ≡ self.old.log }
+        ensures room { self.new.room ≡ self.old.room }
+        ensures stays { StaysShown (refuting self.old) (refuting self.new) }
+        ensures shown { IfOk result (IsClosingOf (refuting self.new) units.now) }
+    {
+        let Some(Line::Add { clause, hints, .. }) = &self.end else {
+            unreachable!();
+        };
+        let denied = denied_places(alloc, units, clause.as_slice())?;
+        let hints = Seq::from_slice(alloc, hints.as_slice())?;
+        self.numbering.shared = self.lines.len();
+        Ok(Closing {
+            denied: Seq::from_vec(denied),
+            hints,
+        })
+    }
+
+    /// The lines that these closings rest on, in their order, and the greatest id behind them.
+    pub fn lemmas(&self, alloc: Global, closings: &[Closing]) -> Result<Lemmas, Refused>
+        requires wanted { is_wanted self.now.log ≡ true }
+        requires shown { All (λ k. (us : List ℤ) × IsClosingOf (refuting self.now) us k) closings.now }
+        ensures { IfOk result (AreLemmas (refuting self.now) closings.now) }
+    {
+        let hints = all_hints(alloc, closings)?;
+        let lines = self.lines.as_slice();
+        let proof = wanted_lines(alloc, lines, self.numbering.first_id(), hints)?;
+        let top = greatest_id(proof.lines(), self.numbering.base);
+        Ok(Lemmas { proof, top })
     }
 }
 

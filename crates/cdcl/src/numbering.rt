@@ -6,13 +6,15 @@
 ghost use Rattle.std.specs.Prelude.{◌≡◌, ◌<◌, ◌+◌, pos};
 ghost use Rattle.cdcl.specs.Logged.{first_id, shifted};
 
-/// How the ids of the lines follow from the kernel's.
+/// How the ids of the lines follow from the kernel's, and which lines closings rest on.
 #[derive(Clone, Copy)]
 pub struct Numbering {
     /// how many clauses were added
     pub base: u32,
     /// how many ids are left out behind them
     pub room: u32,
+    /// how many lines, the first ones, closings may rest on
+    pub shared: usize,
 }
 
 impl Numbering {

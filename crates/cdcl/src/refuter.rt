@@ -1,7 +1,11 @@
 //! Proofs that nothing satisfies a formula with some units, for many lists of units.
 
-ghost use Rattle.std.specs.Prelude.{◌≡◌, ◌≤◌, ◌⊎◌, ℤ, true, All, IfOk, length};
+ghost use Rattle.std.specs.Prelude.{◌≡◌, ◌≤◌, ◌⊎◌, [], ℤ, true, All, IfErr, IfOk, List, length};
 ghost use Rattle.base.specs.Budget.{Spends};
+ghost use Rattle.base.specs.Witness.{witness};
+ghost use Rattle.cdcl.specs.Closings.{AreLemmas, IsClosingOf, IsShown, StaysShown};
+ghost use Rattle.cdcl.specs.Refuting.{refuting};
+ghost use Rattle.solver.specs.declared.sat_error.SatError.TheVariants.{OutOfMemory};
 ghost use Rattle.cdcl_kernel.specs.Verdicts.{IsOpposed};
 ghost use Rattle.cdcl.specs.Keeping.{Keeps};
 ghost use Rattle.cdcl.specs.Logged.{EndDenies, added_to, is_wanted, with_units};
@@ -12,10 +16,13 @@ ghost use Rattle.lrat.specs.Literals.{IsLiteral};
 ghost use Rattle.lrat.specs.Proofs.{IsAcceptedProof};
 ghost use Rattle.solver.specs.Answers.{IsLawful};
 
+use crate::closing::opposed_closing;
 use crate::guide::Guide;
+use crate::lemmas::Lemmas;
 use crate::logged_kernel::LoggedKernel;
 use crate::refuted::Refuted;
 use crate::search::search;
+use crate::shown::{Closing, Shown};
 use base::Budget;
 use lrat::{Formula, Proof};
 use solver::{Answer, SatError};
@@ -32,12 +39,12 @@ pub struct Refuter {
 
 impl Model for Refuter {
     ghost use Rattle.std.specs.Prelude.{◌≡◌, true};
-    ghost use Rattle.cdcl.specs.Logged.{added_to, is_wanted};
-    ghost use Rattle.cdcl.specs.Refuting.{Refuting};
+    ghost use Rattle.cdcl.specs.Logged.{is_wanted};
+    ghost use Rattle.cdcl.specs.Refuting.{Refuting, refuting};
 
     ghost Value = { Refuting };
 
-    ghost view = { λ s. record { formula = added_to s.kernel; room = s.kernel.room } };
+    ghost view = { λ s. refuting s.kernel };
 
     ghost invariant = { λ s. is_wanted s.kernel.log ≡ true };
 }
@@ -48,6 +55,7 @@ impl Refuter {
         requires { IsFormula formula.now }
         ensures formula { IfOk result (λ r. r.formula ≡ formula.now) }
         ensures room { IfOk result (λ r. r.room ≡ room) }
+        ensures log { IfOk result (λ r. r.log ≡ []) }
     {
         Ok(Refuter {
             kernel: LoggedKernel::of_formula(alloc, formula, room)?,
@@ -79,6 +87,42 @@ impl Refuter {
             Answer::Spent => Ok(Refuted::Spent),
         }
     }
+
+    /// Finds what shows that nothing satisfies the formula with these literals as further clauses, or
+    /// else a model, as `refute` does. A closing is small: `lemmas` writes the lines that many of
+    /// them share, and `section` the one line that is then left of each. What an earlier call
+    /// showed stays shown. The units need no room, so a refuter made with room 0 serves.
+    pub fn show(
+        &mut self,
+        alloc: Global,
+        units: &[i32],
+        budget: &mut Budget,
+    ) -> Result<Shown, SatError>
+        requires { All (IsLiteral self.old.formula.vars) units.now }
+        ensures formula { self.new.formula ≡ self.old.formula }
+        ensures room { self.new.room ≡ self.old.room }
+        ensures stays { StaysShown self.old self.new }
+        ensures spends { Spends budget.old budget.new }
+        ensures lawful { IfOk result (IsShown self.new units.now budget.new) }
+    {
+        match searched(alloc, &mut self.kernel, &mut self.guide, units, budget)? {
+            Answer::Model(values) => Ok(Shown::Model(values)),
+            Answer::Core(_) => Ok(Shown::Closing(closing(alloc, &mut self.kernel, units)?)),
+            Answer::Spent => Ok(Shown::Spent),
+        }
+    }
+
+    /// The lines of the log that these closings rest on through hints, in their order, as lemmas of
+    /// the formula: over what they lead to, the section of each closing is accepted, with the units
+    /// that it was shown for. It costs the lines that it takes and their hints, whatever the
+    /// length of the log.
+    pub fn lemmas(&self, alloc: Global, closings: &[Closing]) -> Result<Lemmas, SatError>
+        requires { All (λ k. (us : List ℤ) × IsClosingOf self.now us k) closings.now }
+        ensures lemmas { IfOk result (AreLemmas self.now closings.now) }
+        ensures memory { IfErr result (λ e. e ≡ OutOfMemory witness) }
+    {
+        Ok(self.kernel.lemmas(alloc, closings)?)
+    }
 }
 
 /// What a search under the units comes to. After a refusal nothing guides the next one.
@@ -101,6 +145,26 @@ fn searched(
         *guide = Guide::new(alloc);
     }
     answer
+}
+
+/// What shows that nothing satisfies the clauses with the units, once a search has come to it.
+fn closing(alloc: Global, kernel: &mut LoggedKernel, units: &[i32]) -> Result<Closing, SatError>
+    requires wanted { is_wanted kernel.old.log ≡ true }
+    requires literals { All (IsLiteral kernel.old.vars) units.now }
+    requires shown { ((l : ℤ) × IsOpposed units.now l) ⊎ EndDenies kernel.old units.now }
+    ensures vars { kernel.new.vars ≡ kernel.old.vars }
+    ensures clauses { kernel.new.clauses ≡ kernel.old.clauses }
+    ensures log { kernel.new.log ≡ kernel.old.log }
+    ensures room { kernel.new.room ≡ kernel.old.room }
+    ensures stays { StaysShown (refuting kernel.old) (refuting kernel.new) }
+    ensures closing { IfOk result (IsClosingOf (refuting kernel.new) units.now) }
+{
+    let known = kernel.known();
+    let _vars = known.vars();
+    match known.opposed_of(alloc, units)? {
+        Some(pair) => Ok(opposed_closing(alloc, units, pair[0])?),
+        None => Ok(kernel.closing(alloc, units)?),
+    }
 }
 
 /// The proof that nothing satisfies the clauses with the units, once a search has shown it.

@@ -7,10 +7,10 @@ ghost use Rattle.std.specs.Prelude.{◌≡◌, ◌==◌, ◌<◌, ◌≤◌, ◌
 ghost use Rattle.std.specs.List.{list_any};
 ghost use Rattle.std.specs.BTreeSet.{contains};
 ghost use Rattle.std.specs.Ordering.{nat_cmp};
-ghost use Rattle.lrat.specs.Limits.{IsLine};
+ghost use Rattle.lrat.specs.Limits.{IsHint, IsLine};
 ghost use Rattle.lrat.specs.Trimming.{hints_id, trimmed};
 ghost use Rattle.cdcl.specs.Logged.{AreNumbered};
-ghost use Rattle.cdcl.specs.Selected.{IsClosing};
+ghost use Rattle.cdcl.specs.Selected.{IsClosing, wanting};
 
 use crate::lines::proof_of;
 use base::{Refused, Seq, insert_key, push};
@@ -28,6 +28,30 @@ pub fn selected(alloc: Global, lines: &[Line], first: u64, last: Line) -> Result
 {
     let mut kept = walk_back(alloc, lines, first, last)?;
     kept.reverse();
+    proof_of(alloc, kept)
+}
+
+/// The lines that these hints rest on, in their order. The lines have the ids from `first` on.
+pub fn wanted_lines(
+    alloc: Global,
+    lines: &[Line],
+    first: u64,
+    hints: Vec<i64>,
+) -> Result<Proof, Refused>
+    requires in_limits { All IsLine lines.now }
+    requires numbered { AreNumbered first lines.now }
+    requires hints { All IsHint hints.items }
+    requires below { All (λ h. unsigned_abs h < first + length lines.now) hints.items }
+    ensures { IfOk result (λ p. p ++ wanting hints.items ∷ [] ≡ trimmed (lines.now ++ wanting hints.items ∷ [])) }
+{
+    let last = Line::Add {
+        id: 1,
+        clause: Clause::from_slice(alloc, &[])?,
+        hints: Seq::from_vec(hints),
+    };
+    let mut kept = walk_back(alloc, lines, first, last)?;
+    kept.reverse();
+    kept.pop();
     proof_of(alloc, kept)
 }
 

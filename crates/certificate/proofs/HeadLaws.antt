@@ -10,14 +10,54 @@ use Rattle.scan.specs.Lists.{many_at}
 use Rattle.scan.specs.Spelling.{Nothing, Then, After, NumberThen}
 use Rattle.scan.specs.Words.{any, IsField}
 use Rattle.scan.proofs.NumberLaws.{NoDigit}
-use Rattle.scan.proofs.Toolbox.{Reads, NeverBegins, reads_as, reads_same, reads_nothing, reads_then, reads_after, reads_choice, skips_byte}
+use Rattle.scan.proofs.Toolbox.{Reads, NeverBegins, reads_as, reads_same, reads_nothing, reads_then, reads_after, reads_choice, skips_byte, skips_tag}
 use Rattle.scan.proofs.WordLaws.{reads_number, field_reads}
 use Rattle.graph.specs.Properties.{position_of, property_text}
 use Rattle.graph.specs.declared.circuit.Lit.{Lit}
 use Rattle.graph.specs.declared.circuit.Property.{Property}
 use Rattle.graph.specs.declared.circuit.Property.TheVariants.{Bad, Justice, Output}
-use Rattle.certificate.specs.Reading.{greatest, bad_at, justice_at, output_at, property_at, spaced_at, literals_at, clause_at}
+use Rattle.certificate.specs.declared.head.Version.{Version}
+use Rattle.certificate.specs.declared.head.Version.TheVariants.{One, Two}
+use Rattle.certificate.specs.Reading.{greatest, version_at, first_line_at, bad_at, justice_at, output_at, property_at, spaced_at, literals_at, clause_at}
 use Rattle.certificate.specs.Texts.{clause_line}
+
+-- ---- the first line
+
+-- the first line of a version
+abbrev pub line_of : Version → List ℕ
+line_of One = codes "aigcert 1\n"
+line_of Two = codes "aigcert 2\n"
+
+abbrev pub IsFirstLine : List ℕ → Version → Type 0
+IsFirstLine t v = t ≡ line_of v
+
+abbrev OfOne : List ℕ → Version → Type 0
+OfOne = After (49 ∷ []) (Nothing {A = Version} One)
+
+abbrev OfDigit : List ℕ → Version → Type 0
+OfDigit t v = After (50 ∷ []) (Nothing {A = Version} Two) t v ⊎ OfOne t v
+
+abbrev OfFirstLine : List ℕ → Version → Type 0
+OfFirstLine = After (codes "aigcert ") (Then OfDigit (λ v. After (10 ∷ []) (Nothing {A = Version} v)))
+
+one_begins : NeverBegins 50 OfOne
+one_begins t v rest (a, one, whole) = rw whole refl
+
+digit_reads : Reads version_at OfDigit
+unfolding version_at
+digit_reads = reads_choice 50 (reads_nothing {A = Version} Two) (reads_after (skips_byte 49) (reads_nothing {A = Version} One)) one_begins
+
+first_line_to : (t : List ℕ) (v : Version) → OfFirstLine t v → IsFirstLine t v
+first_line_to t v (a, (w, b, c, inl (d, digit, p3), (e, last, p4), p2), p1) = rw (last.1, digit.1) (rw (p1, p2, p3, p4, digit.0, last.0) refl)
+first_line_to t v (a, (w, b, c, inr (d, digit, p3), (e, last, p4), p2), p1) = rw (last.1, digit.1) (rw (p1, p2, p3, p4, digit.0, last.0) refl)
+
+first_line_from : (t : List ℕ) (v : Version) → IsFirstLine t v → OfFirstLine t v
+first_line_from t One r = (49 ∷ 10 ∷ [], (One, 49 ∷ [], 10 ∷ [], inr ([], (refl, refl), refl), ([], (refl, refl), refl), refl), r)
+first_line_from t Two r = (50 ∷ 10 ∷ [], (Two, 50 ∷ [], 10 ∷ [], inl ([], (refl, refl), refl), ([], (refl, refl), refl), refl), r)
+
+pub first_line_reads : Reads first_line_at IsFirstLine
+unfolding first_line_at
+first_line_reads = reads_as IsFirstLine (reads_after (skips_tag (codes "aigcert ")) (reads_then digit_reads (λ v. reads_after (skips_byte 10) (reads_nothing {A = Version} v)))) first_line_to first_line_from
 
 -- ---- the property
 

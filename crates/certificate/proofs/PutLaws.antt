@@ -9,7 +9,7 @@ use Rattle.graph.specs.declared.circuit.Property.TheVariants.{Bad, Justice, Outp
 use Rattle.lrat.specs.declared.line.Line.{Line}
 use Rattle.lrat.proofs.PutLaws.{begins_more, puts_err}
 use Rattle.lrat.specs.Texts.{Puts}
-use Rattle.certificate.specs.Texts.{clause_line, number_line, section_text, sections_text}
+use Rattle.certificate.specs.Texts.{certificate_text, first_line, clause_line, number_line, lemma_text, section_text, sections_text}
 use Rattle.certificate.specs.Writing.{head_text, letter_of, literal_text}
 use Rattle.certificate.specs.declared.certificate.Certificate.{Certificate}
 
@@ -32,8 +32,11 @@ clause_parts c = sym (append_assoc (decimal (length c)) (flat_map literal_text c
 regroup : (version property end count clauses : List ℕ) → version ++ ((property ++ end) ++ (count ++ clauses)) ≡ version ++ property ++ end ++ count ++ clauses
 regroup version property end count clauses = simp append_assoc
 
-pub head_parts : (c : Certificate) → codes "aigcert 1\n" ++ ((property_text c.property ++ codes "\n") ++ (number_line (length c.invariant) ++ flat_map clause_line c.invariant)) ≡ head_text c
-head_parts c = regroup (codes "aigcert 1\n") (property_text c.property) (codes "\n") (number_line (length c.invariant)) (flat_map clause_line c.invariant)
+pub head_parts : (c : Certificate) → first_line c.lemmas ++ ((property_text c.property ++ codes "\n") ++ (number_line (length c.invariant) ++ flat_map clause_line c.invariant)) ≡ head_text c
+head_parts c = regroup (first_line c.lemmas) (property_text c.property) (codes "\n") (number_line (length c.invariant)) (flat_map clause_line c.invariant)
+
+pub certificate_parts : (c : Certificate) → head_text c ++ (lemma_text c.lemmas ++ sections_text (length c.invariant) c.sections) ≡ certificate_text c
+certificate_parts c = sym (append_assoc (head_text c) (lemma_text c.lemmas) (sections_text (length c.invariant) c.sections))
 
 pub sections_parts : (n : ℕ) (proofs : List (List Line)) → flat_map (section_text 105) (take n proofs) ++ (flat_map (section_text 115) (take n (drop n proofs)) ++ flat_map (section_text 98) (drop (n + n) proofs)) ≡ sections_text n proofs
 sections_parts n proofs = sym (append_assoc (flat_map (section_text 105) (take n proofs)) (flat_map (section_text 115) (take n (drop n proofs))) (flat_map (section_text 98) (drop (n + n) proofs)))

@@ -1,6 +1,6 @@
 -- The sections are read as they are spelled.
 use Rattle.std.proofs.Common.{◌≡◌, ℕ, ◌+◌, ◌*◌, false, eqb, List, [], ◌∷◌, ◌++◌, length, take, drop, Option, Some, None, All, refl, sym, ap, subst, ◌∙◌, append_assoc, arith, inl, inr}
-use Rattle.std.specs.Prelude.{◌⊎◌, flat_map}
+use Rattle.std.specs.Prelude.{◌⊎◌, IfSome, flat_map}
 use Rattle.std.proofs.Math.Seq.{take-append_seam, drop-append_seam, drop-append-add}
 use Rattle.std.proofs.lemmas.Bool.{ne_eqb}
 use Rattle.std.proofs.lemmas.List.{append-nil, length-append, length-drop, length-take-le, take-append-drop}
@@ -15,8 +15,10 @@ use Rattle.lrat.specs.Texts.{line_text, proof_text, SpellsLine}
 use Rattle.lrat.specs.declared.line.Line.{Line}
 use Rattle.lrat.specs.declared.line.Line.TheVariants.{Add, Delete}
 use Rattle.lrat.proofs.TextLaws.{line_reads, line_takes}
-use Rattle.certificate.specs.Reading.{item_at, section_at, sections_at}
-use Rattle.certificate.specs.Texts.{section_text, sections_text}
+use Rattle.certificate.specs.declared.head.Version.{Version}
+use Rattle.certificate.specs.declared.head.Version.TheVariants.{One, Two}
+use Rattle.certificate.specs.Reading.{item_at, section_at, lemmas_at, sections_at}
+use Rattle.certificate.specs.Texts.{section_text, lemma_text, sections_text}
 use Rattle.certificate.proofs.EachLaws.{IsText, each_to, each_from}
 
 -- ---- the lines of a section
@@ -98,6 +100,44 @@ section_reads : (letter : ℕ) → Reads (section_at letter) (IsSection letter)
 unfolding section_at
 section_reads letter =
     reads_as (IsSection letter) (reads_after (skips_byte letter) (reads_after (skips_byte 10) (items_reads item_reads item_takes))) (section_to letter) (section_from letter)
+
+-- ---- the lemmas
+
+-- the version of a text with these lemmas
+abbrev pub version_of : Option (List Line) → Version
+version_of None = One
+version_of (Some lemmas) = Two
+
+-- the section of the lemmas, of lines in their limits, in a text of this version
+pub record IsLemmas (v : Version) (t : List ℕ) (lemmas : Option (List Line)) : Type 0 where
+  pub version : v ≡ version_of lemmas
+  pub spells : t ≡ lemma_text lemmas
+  pub lines : IfSome lemmas (All IsLine)
+
+abbrev WithoutLemmas : List ℕ → Option (List Line) → Type 0
+WithoutLemmas = Nothing {A = Option (List Line)} None
+
+abbrev WithLemmas : List ℕ → Option (List Line) → Type 0
+WithLemmas = Then (IsSection 108) (λ lemmas. Nothing {A = Option (List Line)} (Some lemmas))
+
+without_to : (t : List ℕ) (lemmas : Option (List Line)) → WithoutLemmas t lemmas → IsLemmas One t lemmas
+without_to t lemmas r = rw r.1 (record { version = refl; spells = r.0; lines = tt })
+
+without_from : (t : List ℕ) (lemmas : Option (List Line)) → IsLemmas One t lemmas → WithoutLemmas t lemmas
+without_from t None r = (r.spells, refl)
+without_from t (Some lemmas) r = let same : One ≡ Two = r.version in absurd cc
+
+with_to : (t : List ℕ) (lemmas : Option (List Line)) → WithLemmas t lemmas → IsLemmas Two t lemmas
+with_to t lemmas (lines, a, b, (spells, all), last, whole) = rw last.1 (record { version = refl; spells = rw (whole, last.0, append-nil a) spells; lines = all })
+
+with_from : (t : List ℕ) (lemmas : Option (List Line)) → IsLemmas Two t lemmas → WithLemmas t lemmas
+with_from t None r = let same : Two ≡ One = r.version in absurd cc
+with_from t (Some lemmas) r = (lemmas, t, [], (r.spells, r.lines), (refl, refl), sym (append-nil t))
+
+pub lemmas_reads : (v : Version) → Reads (lemmas_at v) (IsLemmas v)
+unfolding lemmas_at
+lemmas_reads One = reads_as (IsLemmas One) (reads_nothing {A = Option (List Line)} None) without_to without_from
+lemmas_reads Two = reads_as (IsLemmas Two) (reads_then (section_reads 108) (λ lemmas. reads_nothing {A = Option (List Line)} (Some lemmas))) with_to with_from
 
 -- ---- all sections
 

@@ -11,10 +11,24 @@ use Rattle.graph.specs.declared.circuit.Property.TheVariants.{Bad, Justice, Outp
 use Rattle.lrat.specs.declared.line.Line.{Line}
 use Rattle.lrat.specs.Reading.{line_at}
 use Rattle.certificate.specs.declared.certificate.Certificate.{Certificate}
+use Rattle.certificate.specs.declared.head.Version.{Version}
+use Rattle.certificate.specs.declared.head.Version.TheVariants.{One, Two}
 
 -- the greatest count
 abbrev pub greatest : ℕ
 greatest = 4194303
+
+-- the digit of the version
+unfoldable pub version_at : List ℕ → Read Version
+version_at bytes = choice_at 50 (λ after. Some (Two, after)) (λ text. byte_at 49 text >>= λ after. Some (One, after)) bytes
+
+-- the first line
+unfoldable pub first_line_at : List ℕ → Read Version
+first_line_at bytes = do
+  digit ← tag_at (codes "aigcert ") bytes
+  version ← version_at digit
+  rest ← byte_at 10 version.1
+  Some (version.0, rest)
 
 -- the position of a bad literal, of a justice property, and the letter and the position of an output
 unfoldable pub bad_at : List ℕ → Read Property
@@ -68,6 +82,11 @@ section_at letter bytes = do
   lines ← byte_at 10 behind
   items_at item_at lines
 
+-- the section of the lemmas, which version 1 does not have
+unfoldable pub lemmas_at : Version → List ℕ → Read (Option (List Line))
+lemmas_at One bytes = Some (None, bytes)
+lemmas_at Two bytes = section_at 108 bytes >>= λ lemmas. Some (Some lemmas.0, lemmas.1)
+
 -- the sections for so many clauses
 unfoldable pub sections_at : ℕ → List ℕ → Read (List (List Line))
 sections_at clauses bytes = do
@@ -78,9 +97,10 @@ sections_at clauses bytes = do
 
 unfoldable pub certificate_at : List ℕ → Read Certificate
 certificate_at bytes = do
-  rest ← tag_at (codes "aigcert 1\n") bytes
-  property ← property_at rest
+  version ← first_line_at bytes
+  property ← property_at version.1
   count ← field_at greatest any 10 property.1
   invariant ← many_at clause_at count.0 count.1
-  sections ← sections_at count.0 invariant.1
-  Some (record { property = property.0; invariant = invariant.0; sections = sections.0 }, sections.1)
+  lemmas ← lemmas_at version.0 invariant.1
+  sections ← sections_at count.0 lemmas.1
+  Some (record { property = property.0; invariant = invariant.0; lemmas = lemmas.0; sections = sections.0 }, sections.1)

@@ -1,5 +1,5 @@
--- Which text spells a certificate, version 1.
-use Rattle.std.specs.Prelude.{◌≡◌, ◌≢◌, ℕ, ◌+◌, ◌*◌, ◌<◌, ◌≤◌, List, ◌∷◌, ◌++◌, All, length, flat_map, take, drop, codes, decimal, Option, Result, MatchResult}
+-- Which text spells a certificate, version 1 or 2.
+use Rattle.std.specs.Prelude.{◌≡◌, ◌≢◌, ℕ, ◌+◌, ◌*◌, ◌<◌, ◌≤◌, List, [], ◌∷◌, ◌++◌, All, length, flat_map, take, drop, codes, decimal, Option, Some, None, IfSome, Result, MatchResult}
 use Rattle.base.specs.Devices.{PutsBeginning}
 use Rattle.base.specs.Witness.{witness}
 use Rattle.graph.specs.declared.circuit.Lit.{Lit}
@@ -25,6 +25,16 @@ clause_line c = decimal (length c) ++ flat_map (λ a. codes " " ++ decimal a.0) 
 abbrev pub section_text : ℕ → List Line → List ℕ
 section_text letter proof = letter ∷ codes "\n" ++ proof_text proof ++ codes ".\n"
 
+-- the first line, with the version: 2 where there is a section of lemmas
+abbrev pub first_line : Option (List Line) → List ℕ
+first_line None = codes "aigcert 1\n"
+first_line (Some lemmas) = codes "aigcert 2\n"
+
+-- the section of the lemmas, where there is one
+abbrev pub lemma_text : Option (List Line) → List ℕ
+lemma_text None = []
+lemma_text (Some lemmas) = section_text 108 lemmas
+
 -- for n clauses the sections of the n initial cases, those of the n step cases, and what is left, of the bad case
 abbrev pub sections_text : ℕ → List (List Line) → List ℕ
 sections_text n proofs =
@@ -32,20 +42,21 @@ sections_text n proofs =
     ++ flat_map (section_text 115) (take n (drop n proofs))
     ++ flat_map (section_text 98) (drop (n + n) proofs)
 
--- the version, the property, how many clauses there are, the clauses, and the sections
+-- the version, the property, how many clauses there are, the clauses, the lemmas, and the sections
 abbrev pub certificate_text : Certificate → List ℕ
 certificate_text c =
-    codes "aigcert 1\n" ++ property_text c.property ++ codes "\n"
+    first_line c.lemmas ++ property_text c.property ++ codes "\n"
     ++ number_line (length c.invariant) ++ flat_map clause_line c.invariant
-    ++ sections_text (length c.invariant) c.sections
+    ++ lemma_text c.lemmas ++ sections_text (length c.invariant) c.sections
 
--- two sections for each clause, and one more; numbers and counts in their limits
+-- two sections for each clause, and one more, the lemmas not counted; numbers and counts in their limits
 pub record IsCertificate (c : Certificate) : Type 0 where
   pub sections : length c.sections ≡ 2 * length c.invariant + 1
   pub few : length c.invariant ≤ 4194303
   pub short : All (λ clause. length clause ≤ 4194303) c.invariant
   pub position : position_of c.property < 4294967296
   pub literals : All (All (λ a. a.0 < 4294967296)) c.invariant
+  pub lemmas : IfSome c.lemmas (All IsLine)
   pub lines : All (All IsLine) c.sections
 
 -- the text is the certificate's, which has one

@@ -7,7 +7,7 @@ use Rattle.graph.specs.Properties.{property_text}
 use Rattle.certificate.specs.declared.certificate.Certificate.{Certificate}
 use Rattle.certificate.specs.declared.cert_write_error.CertWriteError.{CertWriteError}
 use Rattle.certificate.specs.declared.cert_write_error.CertWriteError.TheVariants.{Sections, Number, Device}
-use Rattle.certificate.specs.Texts.{IsCertificate, number_line, clause_line}
+use Rattle.certificate.specs.Texts.{IsCertificate, first_line, number_line, clause_line}
 
 -- why no text spells a certificate: another number of sections, or else a count over its limit
 abbrev pub SpelledByNone : Certificate → CertWriteError → Type 0
@@ -27,4 +27,4 @@ literal_text a = codes " " ++ decimal a.0
 
 -- the lines before the sections
 abbrev pub head_text : Certificate → List ℕ
-head_text c = codes "aigcert 1\n" ++ property_text c.property ++ codes "\n" ++ number_line (length c.invariant) ++ flat_map clause_line c.invariant
+head_text c = first_line c.lemmas ++ property_text c.property ++ codes "\n" ++ number_line (length c.invariant) ++ flat_map clause_line c.invariant

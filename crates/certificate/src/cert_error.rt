@@ -20,8 +20,8 @@ pub enum CertError {
     /// the text ends too early
     #[error("byte {place}: the text ends too early")]
     Truncated { place: u64 },
-    /// the first line is not `aigcert 1`
-    #[error("byte {place}: not a certificate of version 1")]
+    /// the first line is neither `aigcert 1` nor `aigcert 2`
+    #[error("byte {place}: not a certificate of version 1 or 2")]
     Version { place: u64 },
     /// the second line names no property
     #[error("byte {place}: no property")]

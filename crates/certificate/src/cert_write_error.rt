@@ -10,7 +10,7 @@ use thiserror::Error;
 /// Why a certificate is not written whole.
 #[derive(Clone, Copy, Debug, PartialEq, Eq, Error)]
 pub enum CertWriteError {
-    /// the invariant does not have as many cases; nothing was put
+    /// the invariant does not have as many cases, the lemmas not counted; nothing was put
     #[error("{found} sections are not those of the invariant")]
     Sections { found: u64 },
     /// the invariant has too many clauses, or a clause too many literals; nothing was put

@@ -1,15 +1,49 @@
 //! The lines before the sections.
 
 ghost use Rattle.scan.specs.Reading.{Gives};
-ghost use Rattle.certificate.specs.Reading.{property_at, spaced_at, literals_at, clause_at};
+ghost use Rattle.certificate.specs.Reading.{first_line_at, version_at, property_at, spaced_at, literals_at, clause_at};
 
-use crate::refusal::{IN_LINE, IN_PROPERTY, Refusal};
+use crate::refusal::{IN_LINE, IN_PROPERTY, IN_VERSION, Refusal};
 use graph::{Lit, Property, Seq};
-use scan::{Fault, LineKind, byte, field, lines, number};
+use scan::{Fault, LineKind, byte, field, lines, number, tag};
 use std::alloc::Global;
 
 /// The greatest count of clauses, and of literals in a clause.
 pub const GREATEST: u32 = 4_194_303;
+
+/// The version of a text.
+#[derive(Clone, Copy, Debug, PartialEq, Eq)]
+pub enum Version {
+    /// Without lemmas.
+    One,
+    /// With a section of lemmas before the others.
+    Two,
+}
+
+/// The digit of the version, and what follows it.
+#[tactic(auto, unfolding(crate::specs::Reading::version_at))]
+fn version_digit(text: &[u8]) -> Result<(Version, &[u8]), Fault<Refusal>>
+    ensures { Gives (λ x. (x.0, x.1.now)) result (version_at text.now) }
+{
+    match text {
+        [b'2', behind @ ..] => Ok((Version::Two, behind)),
+        _ => {
+            let behind = byte(text, b'1', IN_VERSION)?;
+            Ok((Version::One, behind))
+        }
+    }
+}
+
+/// The version that the first line names, and what follows that line.
+#[tactic(auto, unfolding(crate::specs::Reading::first_line_at))]
+pub fn first_line(text: &[u8]) -> Result<(Version, &[u8]), Fault<Refusal>>
+    ensures { Gives (λ x. (x.0, x.1.now)) result (first_line_at text.now) }
+{
+    let rest = tag(text, b"aigcert ", IN_VERSION)?;
+    let (version, rest) = version_digit(rest)?;
+    let rest = byte(rest, b'\n', IN_VERSION)?;
+    Ok((version, rest))
+}
 
 /// The property that the second line names, and what follows that line.
 #[tactic(auto, unfolding(crate::specs::Reading::property_at, crate::specs::Reading::bad_at, crate::specs::Reading::justice_at, crate::specs::Reading::output_at))]

@@ -2,7 +2,8 @@
 //!
 //! A certificate names a property, gives clauses over the circuit's latches, and for each case of
 //! that invariant a section: a proof that nothing satisfies the case. Whether the proofs are
-//! accepted is the checker's matter; this crate has the value and its text, version 1.
+//! accepted is the checker's matter; this crate has the value and its text, version 1 or 2. Version
+//! 2 has one section more, `l`, with lemmas that the step cases and the bad case may use.
 //!
 //! - `SpellsCertificate` (`specs/Texts.antt`) says which text spells which certificate. A
 //!   certificate has one text at most.

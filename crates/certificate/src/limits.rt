@@ -1,6 +1,6 @@
 //! Which certificates have a text.
 
-ghost use Rattle.std.specs.Prelude.{◌≡◌, ◌<◌, ◌≤◌, ◌↔◌, All, IsTrue, OnOk, IfErr, length};
+ghost use Rattle.std.specs.Prelude.{◌≡◌, ◌<◌, ◌≤◌, ◌↔◌, All, IsTrue, IfSome, OnOk, IfErr, length};
 ghost use Rattle.graph.specs.Properties.{position_of};
 ghost use Rattle.lrat.specs.Limits.{IsLine};
 ghost use Rattle.certificate.specs.Texts.{IsCertificate};
@@ -51,6 +51,15 @@ fn lines_fit(sections: &[Proof])
     }
 }
 
+/// That each line of the lemmas is in its limits, which the type of a proof keeps.
+fn lemmas_fit(certificate: &Certificate)
+    ensures { IfSome certificate.now.lemmas (All IsLine) }
+{
+    if let Some(lemmas) = &certificate.lemmas {
+        let _lines = lemmas.lines();
+    }
+}
+
 /// Whether no clause has too many literals.
 fn are_short(clauses: &[Seq<Lit>]) -> bool
     ensures short { IsTrue result ↔ All (λ clause. length clause ≤ 4194303) clauses.now }
@@ -81,6 +90,7 @@ pub fn check(certificate: &Certificate) -> Result<(), CertWriteError>
         return Err(CertWriteError::Number);
     }
     let _position = position(certificate.property);
+    lemmas_fit(certificate);
     lines_fit(sections);
     Ok(())
 }

@@ -8,11 +8,11 @@ ghost use Rattle.certificate.specs.declared.certificate.Certificate.{Certificate
 
 use crate::cert_error::CertError;
 use crate::certificate::Certificate;
-use crate::head::{ClauseLine, GREATEST, property};
-use crate::refusal::{IN_LINE, IN_VERSION, Refusal, error};
-use crate::sections::sections;
+use crate::head::{ClauseLine, GREATEST, first_line, property};
+use crate::refusal::{IN_LINE, Refusal, error};
+use crate::sections::{lemmas, sections};
 use graph::Seq;
-use scan::{Fault, field, lines, tag};
+use scan::{Fault, field, lines};
 use std::alloc::Global;
 
 /// The certificate that the text begins with, and what follows it.
@@ -20,14 +20,16 @@ use std::alloc::Global;
 fn next_certificate(alloc: Global, text: &[u8]) -> Result<(Certificate, &[u8]), Fault<Refusal>>
     ensures { Gives (λ x. (x.0, x.1.now)) result (certificate_at text.now) }
 {
-    let rest = tag(text, b"aigcert 1\n", IN_VERSION)?;
+    let (version, rest) = first_line(text)?;
     let (property, rest) = property(rest)?;
     let (count, rest) = field(rest, GREATEST, b'\n', IN_LINE)?;
     let (invariant, rest) = lines::<ClauseLine>(alloc, count, rest, ())?;
+    let (lemmas, rest) = lemmas(alloc, version, rest)?;
     let (sections, rest) = sections(alloc, count, rest)?;
     let certificate = Certificate {
         property,
         invariant: Seq::from_vec(invariant),
+        lemmas,
         sections,
     };
     Ok((certificate, rest))
@@ -47,10 +49,11 @@ fn only_certificate(alloc: Global, text: &[u8]) -> Result<Certificate, Fault<Ref
     Ok(certificate)
 }
 
-/// Reads the text of a certificate, version 1: `aigcert 1`, the property, how many clauses the
-/// invariant has, a line `count lit .. lit` for each, and for `n` clauses `n` sections `i`, `n`
-/// sections `s` and one section `b`, each a line with its letter, lines of an LRAT proof, and a
-/// line `.`. One pass over the text, and no memory beside the lists that are built.
+/// Reads the text of a certificate, version 1 or 2: `aigcert 1` or `aigcert 2`, the property, how
+/// many clauses the invariant has, a line `count lit .. lit` for each, in version 2 one section `l`,
+/// and for `n` clauses `n` sections `i`, `n` sections `s` and one section `b`, each a line with its
+/// letter, lines of an LRAT proof, and a line `.`. One pass over the text, and no memory beside the
+/// lists that are built.
 pub fn read(alloc: Global, text: &[u8]) -> Result<Certificate, CertError>
     // What is read is spelled so.
     ensures found { IfOk result (λ c. SpellsCertificate text.now c) }

@@ -3,8 +3,9 @@
 ghost use Rattle.std.specs.Prelude.{◌≡◌, ◌++◌, OnOk};
 ghost use Rattle.scan.specs.Reading.{Gives};
 ghost use Rattle.scan.specs.Lists.{items_at};
-ghost use Rattle.certificate.specs.Reading.{item_at, section_at, sections_at};
+ghost use Rattle.certificate.specs.Reading.{item_at, lemmas_at, section_at, sections_at};
 
+use crate::head::Version;
 use crate::refusal::{IN_LETTER, IN_LINE, Refusal};
 use base::{Refused, push};
 use graph::Seq;
@@ -58,6 +59,24 @@ fn section(alloc: Global, text: &[u8], letter: u8) -> Result<(Proof, &[u8]), Fau
     let rest = byte(text, letter, IN_LETTER)?;
     let rest = byte(rest, b'\n', IN_LINE)?;
     section_lines(alloc, rest)
+}
+
+/// The lemmas of a text of this version, and what follows their section.
+#[tactic(auto, unfolding(crate::specs::Reading::lemmas_at))]
+pub fn lemmas(
+    alloc: Global,
+    version: Version,
+    text: &[u8],
+) -> Result<(Option<Proof>, &[u8]), Fault<Refusal>>
+    ensures { Gives (λ x. (x.0, x.1.now)) result (lemmas_at version text.now) }
+{
+    match version {
+        Version::One => Ok((None, text)),
+        Version::Two => {
+            let (lemmas, rest) = section(alloc, text, b'l')?;
+            Ok((Some(lemmas), rest))
+        }
+    }
 }
 
 /// A section with a letter.

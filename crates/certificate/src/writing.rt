@@ -5,7 +5,7 @@ ghost use Rattle.std.specs.Io.KnownBytes.{Appends};
 ghost use Rattle.base.specs.Devices.{CountsFailure};
 ghost use Rattle.graph.specs.Properties.{property_text};
 ghost use Rattle.lrat.specs.Texts.{Puts, proof_text};
-ghost use Rattle.certificate.specs.Texts.{IsUnwritten, SpellsCertificate, certificate_text, clause_line, section_text, sections_text};
+ghost use Rattle.certificate.specs.Texts.{IsUnwritten, SpellsCertificate, certificate_text, clause_line, first_line, lemma_text, section_text, sections_text};
 ghost use Rattle.certificate.specs.Writing.{head_text, letter_of, literal_text};
 ghost use Rattle.certificate.specs.declared.cert_write_error.CertWriteError.TheVariants.{Device};
 
@@ -141,6 +141,30 @@ fn put_sections<W: Sink>(out: &mut W, clauses: usize, proofs: &[Proof]) -> Resul
     put_each(out, b'b', &proofs[clauses + clauses..])
 }
 
+/// Puts the section of the lemmas, where there is one.
+fn put_lemmas<W: Sink>(out: &mut W, certificate: &Certificate) -> Result<(), Failed>
+    requires { W.failed out.old < 2 ^ 64 - 1 }
+    ensures puts { Puts result (W.contents out.old) (W.contents out.new) (lemma_text certificate.now.lemmas) }
+    ensures counts { CountsFailure (W.failed out.old) (W.failed out.new) result }
+{
+    match &certificate.lemmas {
+        None => Ok(()),
+        Some(lemmas) => put_section(out, b'l', lemmas),
+    }
+}
+
+/// Puts the first line.
+fn put_first_line<W: Sink>(out: &mut W, certificate: &Certificate) -> Result<(), Failed>
+    requires { W.failed out.old < 2 ^ 64 - 1 }
+    ensures puts { Puts result (W.contents out.old) (W.contents out.new) (first_line certificate.now.lemmas) }
+    ensures counts { CountsFailure (W.failed out.old) (W.failed out.new) result }
+{
+    match &certificate.lemmas {
+        None => put_all(out, b"aigcert 1\n"),
+        Some(_) => put_all(out, b"aigcert 2\n"),
+    }
+}
+
 /// Puts the lines before the sections.
 fn put_head<W: Sink>(out: &mut W, certificate: &Certificate) -> Result<(), Failed>
     requires { W.failed out.old < 2 ^ 64 - 1 }
@@ -148,7 +172,7 @@ fn put_head<W: Sink>(out: &mut W, certificate: &Certificate) -> Result<(), Faile
     ensures counts { CountsFailure (W.failed out.old) (W.failed out.new) result }
 {
     let clauses = certificate.invariant.as_slice();
-    put_all(out, b"aigcert 1\n")?;
+    put_first_line(out, certificate)?;
     put_property(out, certificate.property)?;
     put_number(out, clauses.len() as u64, b"\n")?;
     put_clauses(out, clauses)
@@ -162,12 +186,14 @@ fn put_certificate<W: Sink>(out: &mut W, certificate: &Certificate) -> Result<()
     ensures counts { CountsFailure (W.failed out.old) (W.failed out.new) result }
 {
     put_head(out, certificate)?;
+    put_lemmas(out, certificate)?;
     let clauses = certificate.invariant.as_slice().len();
     put_sections(out, clauses, certificate.sections.as_slice())
 }
 
-/// Writes the text of a certificate, version 1, which is the one text that spells it: `read` gives
-/// the certificate again. Where no text spells it, nothing is put. It takes no memory.
+/// Writes the text of a certificate, which is the one text that spells it: `read` gives the
+/// certificate again. The version is 2 where `lemmas` is a proof, of no lines too, and else 1. Where
+/// no text spells it, nothing is put. It takes no memory.
 pub fn write<W: Sink>(certificate: &Certificate, out: &mut W) -> Result<(), CertWriteError>
     requires { W.failed out.old < 2 ^ 64 - 1 }
     ensures written { OnOk result (Appends (W.contents out.old) (W.contents out.new) (certificate_text certificate.now)) }

@@ -1,10 +1,15 @@
--- Proofs, each of its own formula.
-use Rattle.std.specs.Prelude.{◌≡◌, List, length}
+-- Proofs, each of its own case.
+use Rattle.std.specs.Prelude.{◌≡◌, List, length, ℤ}
 use Rattle.lrat.specs.declared.formula.Formula.{Formula}
 use Rattle.lrat.specs.declared.line.Line.{Line}
-use Rattle.checker.specs.Accepted.{RefuteBelow}
+use Rattle.lrat.specs.Shared.{base_of}
+use Rattle.checker.specs.Accepted.{Case, RefuteBelow}
 
--- as many proofs as formulas, each of the formula at its place
-pub record AreProofs (fs : List Formula) (ps : List (List Line)) : Type 0 where
-  pub count : length ps ≡ length fs
-  pub each : RefuteBelow fs ps (length ps)
+-- the case of a formula's clauses and these units
+abbrev pub case_over : Formula → List ℤ → Case
+case_over f us = record { base = base_of f; units = us }
+
+-- as many proofs as cases, each of the case at its place
+pub record AreProofs (cs : List Case) (ps : List (List Line)) : Type 0 where
+  pub count : length ps ≡ length cs
+  pub each : RefuteBelow cs ps (length ps)

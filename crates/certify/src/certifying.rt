@@ -57,6 +57,7 @@ fn certify_for(
         Ok(sections) => Ok(Certified::Certificate(Certificate {
             property,
             invariant: copy,
+            lemmas: None,
             sections,
         })),
         Err(Halt::NotInvariant(found)) => Ok(Certified::NotInvariant(found)),

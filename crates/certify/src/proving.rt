@@ -5,11 +5,12 @@ ghost use Rattle.graph.specs.declared.circuit.Lit.{Lit};
 ghost use Rattle.graph.specs.WellFormed.{used};
 ghost use Rattle.base.specs.Budget.{Spends};
 ghost use Rattle.lrat.specs.Literals.{IsLiteral};
-ghost use Rattle.lrat.specs.declared.formula.Formula.{Formula};
-ghost use Rattle.cnf.specs.Formulas.{IsInvariant, init_formula, shared_formula, step_formula};
-ghost use Rattle.checker.specs.Accepted.{IsProofOf, cases, with_units};
+ghost use Rattle.lrat.specs.Shared.{base_of};
+ghost use Rattle.cnf.specs.Formulas.{IsInvariant, shared_formula};
+ghost use Rattle.cdcl.specs.Logged.{with_units};
+ghost use Rattle.checker.specs.Accepted.{Case as AnyCase, IsProofOf, cases, init_case, step_case};
 ghost use Rattle.certify.specs.Halts.{IsHalt, IsHaltOf};
-ghost use Rattle.certify.specs.Sections.{AreProofs};
+ghost use Rattle.certify.specs.Sections.{AreProofs, case_over};
 
 use crate::counterexample::{Case, Counterexample};
 use crate::halt::Halt;
@@ -32,7 +33,7 @@ fn prove(
     requires few { length units.now ≤ refuter.old.room }
     ensures same { refuter.new ≡ refuter.old }
     ensures spends { Spends budget.old budget.new }
-    ensures proved { IfOk result (IsProofOf (with_units refuter.old.formula units.now)) }
+    ensures proved { IfOk result (IsProofOf (case_over refuter.old.formula units.now)) }
     ensures halted { IfErr result (IsHaltOf (with_units refuter.old.formula units.now) case budget.new) }
 {
     match refuter.refute(alloc, units, budget)? {
@@ -58,7 +59,7 @@ fn prove_initial(
     requires invariant { IsInvariant model.now invariant.now }
     requires room { All (λ c. length c ≤ room) invariant.now }
     ensures spends { Spends budget.old budget.new }
-    ensures proved { OnOk result ((fs : List Formula) → AreProofs fs sections.old → AreProofs (fs ++ map (init_formula model.now) invariant.now) sections.new) }
+    ensures proved { OnOk result ((cs : List AnyCase) → AreProofs cs sections.old → AreProofs (cs ++ map (init_case model.now) invariant.now) sections.new) }
     ensures halted { IfErr result (λ h. (a : Lit) → IsHalt model.now invariant.now a budget.new h) }
 {
     let start = start_base(alloc, model)?;
@@ -85,7 +86,7 @@ fn prove_steps(
     requires room { All (λ c. length c ≤ refuter.old.room) invariant.now }
     ensures same { refuter.new ≡ refuter.old }
     ensures spends { Spends budget.old budget.new }
-    ensures proved { OnOk result ((fs : List Formula) → AreProofs fs sections.old → AreProofs (fs ++ map (step_formula model.now invariant.now) invariant.now) sections.new) }
+    ensures proved { OnOk result ((cs : List AnyCase) → AreProofs cs sections.old → AreProofs (cs ++ map (step_case model.now (base_of refuter.old.formula)) invariant.now) sections.new) }
     ensures halted { IfErr result (λ h. (a : Lit) → IsHalt model.now invariant.now a budget.new h) }
 {
     let table = NextTable::new(alloc, model)?;
@@ -121,7 +122,7 @@ pub fn prove_cases(
     requires invariant { IsInvariant model.now invariant.now }
     requires bad { Contains (used model.now) bad }
     ensures spends { Spends budget.old budget.new }
-    ensures proved { IfOk result (AreProofs (cases model.now invariant.now bad)) }
+    ensures proved { IfOk result (AreProofs (cases model.now (base_of (shared_formula model.now invariant.now)) invariant.now bad)) }
     ensures halted { IfErr result (IsHalt model.now invariant.now bad budget.new) }
 {
     let room = most_literals(invariant);

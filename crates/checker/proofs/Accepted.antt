@@ -1,6 +1,8 @@
 -- What an accepted certificate shows.
-use Rattle.std.proofs.Common.{◌≡◌, ◌≢◌, ℕ, ◌+◌, ◌*◌, ◌<◌, ◌≤◌, List, [], ◌∷◌, ◌++◌, map, length, get_or, All, AllPairs, Result, Ok, Err, IfErr, OnOk, inl, inr, refl, sym, ◌∙◌, ap, subst, arith, length-append}
+use Rattle.std.proofs.Common.{◌≡◌, ◌≢◌, ℕ, ◌+◌, ◌*◌, ◌<◌, ◌≤◌, Bool, List, [], ◌∷◌, ◌++◌, map, length, get_or, All, AllPairs, Option, Some, Result, Ok, Err, IfErr, OnOk, inl, inr, refl, sym, ◌∙◌, ap, subst, arith, length-append}
+use Rattle.std.specs.FinMap as fin
 use Rattle.std.proofs.lemmas.List.{get_or_at, get_or_append_left, map-append}
+use Rattle.graph.proofs.Evaluation.{All-left, All-right}
 use Rattle.base.specs.Witness.{witness}
 use Rattle.graph.specs.declared.circuit.Lit.{Lit}
 use Rattle.graph.specs.declared.circuit.Property.{Property}
@@ -15,12 +17,17 @@ use Rattle.live_safe.proofs.Consequence.{bounded_if_safe}
 use Rattle.live_safe.proofs.Shape.{shadow_well_formed}
 use Rattle.lrat.specs.declared.formula.Formula.{Formula}
 use Rattle.lrat.specs.declared.line.Line.{Line}
+use Rattle.lrat.specs.declared.step_error.StepError.{StepError}
+use Rattle.lrat.specs.Literals.{IsSatisfied, Satisfies}
+use Rattle.lrat.specs.Proofs.{Solves}
+use Rattle.lrat.specs.Shared.{Base, unit_clauses}
+use Rattle.lrat.proofs.Extending.{refused_extension_not}
 use Rattle.lrat.proofs.Fit.{if_err}
-use Rattle.lrat.proofs.Refuted.{refuted_false}
-use Rattle.lrat.proofs.Refusing.{refused_proof_not}
-use Rattle.cnf.specs.Formulas.{init_formula, step_formula, bad_formula}
+use Rattle.lrat.proofs.Sharing.{over_sound_law}
+use Rattle.cnf.specs.Formulas.{shared_formula, start_formula}
 use Rattle.cnf.specs.Invariants.{AreContradictory, IsInductive}
 use Rattle.stimulus.proofs.Watching.{bad_watched, output_watched}
+use Rattle.cnf.proofs.Listed.{satisfied-units}
 use Rattle.cnf.proofs.Safety.{safety_law}
 use Rattle.certificate.specs.declared.certificate.Certificate.{Certificate}
 use Rattle.checker.specs.declared.check_error.CheckError.{CheckError}
@@ -29,26 +36,38 @@ use Rattle.checker.specs.declared.clause_error.ClauseError.{ClauseError}
 use Rattle.checker.specs.declared.clause_error.ClauseError.TheVariants as clauses
 use Rattle.checker.specs.declared.invariant.ClauseFault.{ClauseFault}
 use Rattle.checker.specs.declared.invariant.ClauseFault.TheVariants as fault
-use Rattle.checker.specs.Accepted.{cases, IsProofOf, RefuteBelow, IsGood, IsAcceptedFor, IsShowable, circuit_of, bad_of, IsUpheld, IsAcceptedCertificate, AcceptedLaw}
-use Rattle.checker.specs.Causes.{HasCause, HasCauseFor, IsOfCircuit, IsClausesFault, of_clauses, IsFirstFault, IsSectionFault, IsCounted, IsLatch, IsAmong}
+use Rattle.checker.specs.Accepted.{Case, init_case, step_case, bad_case, cases, IsProofOf, IsShared, RefuteBelow, IsGood, IsAcceptedFor, IsShowable, circuit_of, bad_of, IsUpheld, IsAcceptedCertificate, AcceptedLaw}
+use Rattle.checker.specs.Causes.{HasCause, HasCauseFor, IsOfCircuit, IsClausesFault, of_clauses, IsFirstFault, IsCaseAt, IsCaseFault, IsRefusedLemma, IsRefusedSection, IsSectionFault, lemma_sections, IsCounted, IsLatch, IsAmong}
 use Rattle.checker.proofs.InOrder.{case_init, case_step, case_bad}
+use Rattle.checker.proofs.RefusedCases.{refused_case_not}
+use Rattle.checker.proofs.Shared.{base_true, shared_true, shared_unique}
 
--- nothing satisfies the clauses of a case that a proof refutes
-contradictory : (fs : List Formula) (ps : List (List Line)) (n k : ℕ) (f : Formula) → RefuteBelow fs ps n → k < n → ((g : Formula) → get_or fs k g ≡ f) → AreContradictory f.clauses
-contradictory fs ps n k f refute k_in is_f v sat =
-    let proof : IsProofOf f (get_or ps k []) = subst (λ g. IsProofOf g (get_or ps k [])) (is_f f) (refute k k_in f []) in
-    refuted_false f (get_or ps k []) proof.0 proof.1 v sat
+-- nothing satisfies the clauses of a case that lines refute, where the base has no more to satisfy than these
+contradictory : (f : Formula) (c : Case) (p : List Line) → ((v : ℕ → Bool) → Solves v f → Satisfies v (fin.get c.base.present)) → IsProofOf c p →
+    AreContradictory (f.clauses ++ unit_clauses c.units)
+contradictory f c p base proof v sat =
+    over_sound_law c.base c.units p proof.0 proof.1 v (base v (All-left (IsSatisfied v) f.clauses (unit_clauses c.units) sat))
+    (satisfied-units v c.units (All-right (IsSatisfied v) f.clauses (unit_clauses c.units) sat))
 
-inductive_from : (m : Parts) (inv : List (List Lit)) (a : Lit) (ps : List (List Line)) → length ps ≡ 2 * length inv + 1 → RefuteBelow (cases m inv a) ps (length ps) → IsInductive m inv a
-inductive_from m inv a ps count refute = record {
-  begins = λ k c k_in. contradictory (cases m inv a) ps (length ps) k (init_formula m (get_or inv k c)) refute (omega arith) (λ g. case_init m inv a k c g k_in);
-  goes_on = λ k c k_in. contradictory (cases m inv a) ps (length ps) (length inv + k) (step_formula m inv (get_or inv k c)) refute (omega arith) (λ g. case_step m inv a k c g k_in);
-  excludes = contradictory (cases m inv a) ps (length ps) (2 * length inv) (bad_formula m inv a) refute (omega arith) (λ g. case_bad m inv a g);
+-- the case at k has a proof
+proof_at : (cs : List Case) (ps : List (List Line)) (n k : ℕ) (c : Case) → RefuteBelow cs ps n → k < n → IsCaseAt cs k c → IsProofOf c (get_or ps k [])
+proof_at cs ps n k c refute k_in at = subst (λ x. IsProofOf x (get_or ps k [])) (at c) (refute k k_in c [])
+
+inductive_from : (m : Parts) (b : Base) (inv : List (List Lit)) (lemmas : Option (List Line)) (a : Lit) (ps : List (List Line)) → IsShared m inv lemmas b →
+    length ps ≡ 2 * length inv + 1 → RefuteBelow (cases m b inv a) ps (length ps) → IsInductive m inv a
+inductive_from m b inv lemmas a ps shared count refute = record {
+  begins = λ k c k_in. contradictory (start_formula m) (init_case m (get_or inv k c)) (get_or ps k []) (base_true (start_formula m))
+      (proof_at (cases m b inv a) ps (length ps) k (init_case m (get_or inv k c)) refute (omega arith) (case_init m b inv a k c k_in));
+  goes_on = λ k c k_in. contradictory (shared_formula m inv) (step_case m b (get_or inv k c)) (get_or ps (length inv + k) []) (shared_true m inv lemmas b shared)
+      (proof_at (cases m b inv a) ps (length ps) (length inv + k) (step_case m b (get_or inv k c)) refute (omega arith) (case_step m b inv a k c k_in));
+  excludes = contradictory (shared_formula m inv) (bad_case m b a) (get_or ps (2 * length inv) []) (shared_true m inv lemmas b shared)
+      (proof_at (cases m b inv a) ps (length ps) (2 * length inv) (bad_case m b a) refute (omega arith) (case_bad m b inv a));
 }
 
 safe_for : (m : Parts) (p : Property) (a : Lit) (c : Certificate) → IsWellFormed m → IsWatched m p a → IsAcceptedFor m a c → IsSafe m p
 safe_for m p a c well watched accepted =
-    safety_law m c.invariant well (λ k d k_in. (accepted.clauses k d k_in).over) p a watched (inductive_from m c.invariant a c.sections accepted.count accepted.sections)
+    safety_law m c.invariant well (λ k d k_in. (accepted.clauses k d k_in).over) p a watched
+    (inductive_from m accepted.base c.invariant c.lemmas a c.sections accepted.shared accepted.count accepted.sections)
 
 upheld : (m : Parts) (p : Property) (c : Certificate) → IsWellFormed m → IsShowable m p → IsAcceptedFor (circuit_of m p) (bad_of m p) c → IsUpheld m p
 upheld m (Bad n) c well showable accepted = safe_for m (Bad n) (bad_of m (Bad n)) c well (bad_watched m (Bad n) n m.bad (record { 0 = 0 }) refl refl showable.exists) accepted
@@ -86,6 +105,19 @@ first_fault_refuses m inv k fault.NotLatch f good =
 first_fault_refuses m inv k fault.Repeated f good =
     let g = f.faulty in no_repeat m f.clause g.before g.after g.literal g.are g.faulty.1 (middle m inv f.before f.after f.clause f.are good)
 
+-- a refused lemma leaves nothing to share
+refused_lemma_not : (m : Parts) (inv : List (List Lit)) (lemmas : Option (List Line)) (e : StepError) (k : ℕ) → IsRefusedLemma m inv lemmas e k → (b : Base) → IsShared m inv lemmas b → ⊥
+refused_lemma_not m inv lemmas e k cause b shared =
+    let taken : IsShared m inv (Some cause.lines) b = subst (λ ls. IsShared m inv ls b) cause.are shared in
+    refused_extension_not (shared_formula m inv) cause.lines e (inr cause.refused) cause.other taken.0 taken.2
+
+refused_section_not : (m : Parts) (a : Lit) (c : Certificate) (e : StepError) (k : ℕ) → IsRefusedSection m a c e k → IsAcceptedFor m a c → ⊥
+refused_section_not m a c e k (inl lemma_) accepted = refused_lemma_not m c.invariant c.lemmas e k lemma_ accepted.base accepted.shared
+refused_section_not m a c e k (inr (b, shared, first)) accepted =
+    let one : accepted.base ≡ b = shared_unique m c.invariant c.lemmas accepted.base b accepted.shared shared in
+    let proofs : RefuteBelow (cases m b c.invariant a) c.sections (length c.sections) = subst (λ x. RefuteBelow (cases m x c.invariant a) c.sections (length c.sections)) one accepted.sections in
+    refused_case_not _ _ e (first.refused (bad_case m b a) []) first.other (proofs first.index first.stands (bad_case m b a) [])
+
 -- what has a cause is not accepted
 cause_refuses_for : (m : Parts) (a : Lit) (c : Certificate) (e : CheckError) → HasCauseFor m a c e → e ≢ OutOfMemory witness → IsAcceptedFor m a c → ⊥
 cause_refuses_for m a c (NoProperty k) cause ne accepted = cause
@@ -93,9 +125,7 @@ cause_refuses_for m a c Limit cause ne accepted = let few = accepted.few in omeg
 cause_refuses_for m a c (Sections k) cause ne accepted = cause.2 (cause.1 ∙ accepted.count)
 cause_refuses_for m a c (NotLatch k) cause ne accepted = first_fault_refuses m c.invariant k fault.NotLatch cause.1 accepted.clauses
 cause_refuses_for m a c (Repeated k) cause ne accepted = first_fault_refuses m c.invariant k fault.Repeated cause.1 accepted.clauses
-cause_refuses_for m a c (Section e k) cause ne accepted =
-    let f : Formula = bad_formula m c.invariant a in
-    refused_proof_not _ _ e (cause.2.refused f []) cause.2.other (accepted.sections k cause.2.stands f []).1
+cause_refuses_for m a c (Section e k) cause ne accepted = refused_section_not m a c e k cause.2 accepted
 cause_refuses_for m a c (OutOfMemory refused) cause ne accepted = ne refl
 
 of_circuit_refuses : (m : Parts) (c : Certificate) (e : CheckError) → IsOfCircuit m c e → e ≢ OutOfMemory witness → IsAcceptedCertificate m c → ⊥
@@ -146,58 +176,28 @@ refused_of m s a c r showable circuit literal refused =
     if_err (HasCauseFor s a c) (HasCause m c) r
     (λ e h. cause_of_circuit m c e showable (subst (λ (b : Lit). HasCauseFor (circuit_of m c.property) b c e) literal (subst (λ (t : Parts). HasCauseFor t a c e) circuit h))) refused
 
--- the parts of a certificate, as they were read, with their counts in order
-pub record IsOpened (c : Certificate) (inv : List (List Lit)) (ps : List (List Line)) : Type 0 where
-  pub is_inv : inv ≡ c.invariant
-  pub is_ps : ps ≡ c.sections
-  pub few : length inv ≤ 4194303
-  pub count : length ps ≡ 2 * length inv + 1
+-- a refusal of the clauses, and one of a section, is a cause
+pub clauses_cause : (m : Parts) (a : Lit) (c : Certificate) (e : ClauseError) → IsCounted c → IsClausesFault m c.invariant e → HasCauseFor m a c (of_clauses e)
+clauses_cause m a c (clauses.NotLatch k) counts fault = (counts, fault)
+clauses_cause m a c (clauses.Repeated k) counts fault = (counts, fault)
+clauses_cause m a c (clauses.OutOfMemory refused) counts fault = tt
 
-counted : (c : Certificate) (inv : List (List Lit)) (ps : List (List Line)) → IsOpened c inv ps → IsCounted c
-counted c inv ps opened = record {
-  few = subst (λ i. length i < 4194304) opened.is_inv (let few = opened.few in omega arith);
-  count = subst (λ i. length c.sections ≡ 2 * length i + 1) opened.is_inv (ap length (sym opened.is_ps) ∙ opened.count);
-}
+pub section_cause : (m : Parts) (a : Lit) (c : Certificate) (e : CheckError) → IsCounted c → All (IsGood m) c.invariant → IsSectionFault m a c e → HasCauseFor m a c e
+section_cause m a c (Section e k) counts good fault = (counts, good, fault)
+section_cause m a c (OutOfMemory refused) counts good fault = tt
+section_cause m a c (NoProperty k) counts good fault = absurd fault
+section_cause m a c Limit counts good fault = absurd fault
+section_cause m a c (Sections k) counts good fault = absurd fault
+section_cause m a c (NotLatch k) counts good fault = absurd fault
+section_cause m a c (Repeated k) counts good fault = absurd fault
 
-cases_are : (m : Parts) (c : Certificate) (a : Lit) (inv : List (List Lit)) (ps : List (List Line)) → IsOpened c inv ps →
-    cases m inv a ≡ cases m c.invariant a
-cases_are m c a inv ps opened = ap (λ i. cases m i a) opened.is_inv
-
-pub accepted_from : (m : Parts) (c : Certificate) (a : Lit) (inv : List (List Lit)) (ps : List (List Line)) → IsOpened c inv ps → All (IsGood m) inv →
-    RefuteBelow (cases m inv a) ps (length ps) → IsAcceptedFor m a c
-accepted_from m c a inv ps opened good refute =
-    let counts = counted c inv ps opened in
-    record {
-      few = let few = counts.few in omega arith;
-      count = counts.count;
-      clauses = subst (All (IsGood m)) opened.is_inv good;
-      sections = subst (λ fs. RefuteBelow fs c.sections (length c.sections)) (cases_are m c a inv ps opened)
-          (subst (λ s. RefuteBelow (cases m inv a) s (length s)) opened.is_ps refute);
-    }
-
-clauses_cause_of : (m : Parts) (a : Lit) (c : Certificate) (e : ClauseError) → IsCounted c → IsClausesFault m c.invariant e → HasCauseFor m a c (of_clauses e)
-clauses_cause_of m a c (clauses.NotLatch k) counts fault = (counts, fault)
-clauses_cause_of m a c (clauses.Repeated k) counts fault = (counts, fault)
-clauses_cause_of m a c (clauses.OutOfMemory refused) counts fault = tt
-
--- a refusal of the clauses, and one of the sections, is a cause
-pub clauses_cause : (m : Parts) (c : Certificate) (a : Lit) (inv : List (List Lit)) (ps : List (List Line)) → IsOpened c inv ps → (e : ClauseError) →
-    IsClausesFault m inv e → HasCauseFor m a c (of_clauses e)
-clauses_cause m c a inv ps opened e fault =
-    clauses_cause_of m a c e (counted c inv ps opened) (subst (λ i. IsClausesFault m i e) opened.is_inv fault)
-
-section_cause_of : (m : Parts) (a : Lit) (c : Certificate) (e : CheckError) → IsCounted c → All (IsGood m) c.invariant →
-    IsSectionFault (cases m c.invariant a) c.sections e → HasCauseFor m a c e
-section_cause_of m a c (Section e k) counts good fault = (counts, good, fault)
-section_cause_of m a c (OutOfMemory refused) counts good fault = tt
-section_cause_of m a c (NoProperty k) counts good fault = absurd fault
-section_cause_of m a c Limit counts good fault = absurd fault
-section_cause_of m a c (Sections k) counts good fault = absurd fault
-section_cause_of m a c (NotLatch k) counts good fault = absurd fault
-section_cause_of m a c (Repeated k) counts good fault = absurd fault
-
-pub section_cause : (m : Parts) (c : Certificate) (a : Lit) (inv : List (List Lit)) (ps : List (List Line)) → IsOpened c inv ps → All (IsGood m) inv → (e : CheckError) →
-    IsSectionFault (cases m inv a) ps e → HasCauseFor m a c e
-section_cause m c a inv ps opened good e fault =
-    section_cause_of m a c e (counted c inv ps opened) (subst (All (IsGood m)) opened.is_inv good)
-    (subst (λ fs. IsSectionFault fs c.sections e) (cases_are m c a inv ps opened) (subst (λ s. IsSectionFault (cases m inv a) s e) opened.is_ps fault))
+-- a refusal of a case's section is one of a section, where all lemmas are shared
+pub case_fault : (m : Parts) (a : Lit) (c : Certificate) (b : Base) → IsShared m c.invariant c.lemmas b → (e : CheckError) →
+    IsCaseFault (lemma_sections c.lemmas) (cases m b c.invariant a) c.sections e → IsSectionFault m a c e
+case_fault m a c b shared (Section e k) fault = inr (b, shared, fault)
+case_fault m a c b shared (OutOfMemory refused) fault = tt
+case_fault m a c b shared (NoProperty k) fault = absurd fault
+case_fault m a c b shared Limit fault = absurd fault
+case_fault m a c b shared (Sections k) fault = absurd fault
+case_fault m a c b shared (NotLatch k) fault = absurd fault
+case_fault m a c b shared (Repeated k) fault = absurd fault

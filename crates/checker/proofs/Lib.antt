@@ -1,6 +1,7 @@
 pub mod Good
 pub mod Shared
 pub mod Watched
+pub mod RefusedCases
 pub mod InOrder
 pub mod Accepted
 pub mod Said

@@ -1,15 +1,17 @@
 -- Why a certificate is not accepted: the first cause.
-use Rattle.std.specs.Prelude.{◌≡◌, ◌≢◌, ℕ, ◌+◌, ◌*◌, ◌<◌, ◌⊎◌, List, ◌∷◌, ◌++◌, map, length, slice_index_or, All, Contains}
+use Rattle.std.specs.Prelude.{◌≡◌, ◌≢◌, ℕ, ◌+◌, ◌*◌, ◌<◌, ◌≤◌, ◌⊎◌, List, ◌∷◌, ◌++◌, map, length, slice_index_or, All, Contains, Option, None, Some}
 use Rattle.base.specs.Witness.{witness}
 use Rattle.graph.specs.declared.circuit.Lit.{Lit}
 use Rattle.graph.specs.declared.parts.Parts.{Parts}
 use Rattle.graph.specs.Properties.{position_of, HasProperty}
 use Rattle.graph.specs.Valuation.{variable}
-use Rattle.lrat.specs.declared.fault.Fault.TheVariants.{OutOfMemory as NoMemory}
-use Rattle.lrat.specs.declared.formula.Formula.{Formula}
+use Rattle.lrat.specs.declared.fault.Fault.TheVariants.{OutOfMemory as NoMemory, NoEmptyClause, NoIds}
 use Rattle.lrat.specs.declared.line.Line.{Line}
 use Rattle.lrat.specs.declared.step_error.StepError.{StepError}
-use Rattle.lrat.specs.Proofs.{IsRefusedProof}
+use Rattle.lrat.specs.Lemmas.{NoLemmaAt}
+use Rattle.lrat.specs.Proofs.{first_stage, HaltsAt, StaysOpen}
+use Rattle.lrat.specs.Shared.{Base, over}
+use Rattle.cnf.specs.Formulas.{shared_formula}
 use Rattle.certificate.specs.declared.certificate.Certificate.{Certificate}
 use Rattle.checker.specs.declared.check_error.CheckError.{CheckError}
 use Rattle.checker.specs.declared.check_error.CheckError.TheVariants.{NoProperty, Limit, Sections, NotLatch, Repeated, Section, OutOfMemory}
@@ -17,7 +19,7 @@ use Rattle.checker.specs.declared.clause_error.ClauseError.{ClauseError}
 use Rattle.checker.specs.declared.clause_error.ClauseError.TheVariants as clauses
 use Rattle.checker.specs.declared.invariant.ClauseFault.{ClauseFault}
 use Rattle.checker.specs.declared.invariant.ClauseFault.TheVariants as fault
-use Rattle.checker.specs.Accepted.{IsGood, cases, RefuteBelow, IsShowable, circuit_of, bad_of}
+use Rattle.checker.specs.Accepted.{IsGood, Case, cases, IsShared, RefuteBelow, IsShowable, circuit_of, bad_of}
 
 -- the clause is good up to a literal of which P holds
 pub record HasFirst (m : Parts) (c : List Lit) (P : List Lit → Lit → Type 0) : Type 0 where
@@ -51,12 +53,50 @@ pub record IsFirstFault (m : Parts) (inv : List (List Lit)) (k : ℕ) (e : Claus
   pub good : All (IsGood m) before
   pub faulty : IsClauseFault m clause e
 
--- the section at k is the first that is no proof of its case, and this is the first cause in it
-pub record IsFirstRefused (fs : List Formula) (ps : List (List Line)) (e : StepError) (k : ℕ) : Type 0 where
-  pub stands : k < length ps
-  pub earlier : RefuteBelow fs ps k
-  pub refused : (f : Formula) (p : List Line) → IsRefusedProof (slice_index_or fs k f) (slice_index_or ps k p) e
+-- the case at an index
+abbrev pub IsCaseAt : List Case → ℕ → Case → Type 0
+IsCaseAt cs k c = (d : Case) → slice_index_or cs k d ≡ c
+
+-- the units' ids are in the limit
+abbrev pub HasIds : Case → Type 0
+HasIds c = c.base.top + length c.units < 4294967296
+
+-- why lines are no proof of a case: out of memory, the want of ids for the units, the first line that is refused, or
+-- the want of the empty clause
+abbrev pub IsRefusedCase : Case → List Line → StepError → Type 0
+IsRefusedCase c ls e =
+    (e ≡ record { fault = (NoMemory witness); line = 0 })
+    ⊎ (((e ≡ record { fault = NoIds; line = 0 }) × (4294967296 ≤ c.base.top + length c.units))
+    ⊎ (HasIds c × (HaltsAt c.base.vars (over c.base c.units) ls e.fault e.line ⊎ ((e.fault ≡ NoEmptyClause) × StaysOpen c.base.vars (over c.base c.units) ls e.line))))
+
+-- how many sections stand before those of the cases: that of the lemmas, where there is one
+abbrev pub lemma_sections : Option (List Line) → ℕ
+lemma_sections None = 0
+lemma_sections (Some lemmas) = 1
+
+-- the section at k is the first that is no proof of its case, so many sections before those of the cases counted, and
+-- this is the first cause in it
+pub record IsFirstRefused (before : ℕ) (cs : List Case) (ps : List (List Line)) (e : StepError) (k : ℕ) : Type 0 where
+  pub index : ℕ
+  pub place : k ≡ before + index
+  pub stands : index < length ps
+  pub earlier : RefuteBelow cs ps index
+  pub refused : (c : Case) (p : List Line) → IsRefusedCase (slice_index_or cs index c) (slice_index_or ps index p) e
   pub other : e.fault ≢ NoMemory witness
+
+-- the first line of the lemmas, whose section is the first, that is no lemma
+pub record IsRefusedLemma (m : Parts) (inv : List (List Lit)) (lemmas : Option (List Line)) (e : StepError) (k : ℕ) : Type 0 where
+  pub lines : List Line
+  pub are : lemmas ≡ Some lines
+  pub place : k ≡ 0
+  pub refused : NoLemmaAt (m.max_var + 1) (first_stage (shared_formula m inv)) lines e.fault e.line
+  pub other : e.fault ≢ NoMemory witness
+
+-- the section at k is the first that is refused: that of the lemmas, or, where they are all shared, that of a case
+abbrev pub IsRefusedSection : Parts → Lit → Certificate → StepError → ℕ → Type 0
+IsRefusedSection m a c e k =
+    IsRefusedLemma m c.invariant c.lemmas e k
+    ⊎ ((b : Base) × IsShared m c.invariant c.lemmas b × IsFirstRefused (lemma_sections c.lemmas) (cases m b c.invariant a) c.sections e k)
 
 -- how the refusal of a proof is told of the section at k: out of memory has no section
 abbrev pub IsSectionError : StepError → ℕ → CheckError → Type 0
@@ -74,25 +114,31 @@ of_clauses (clauses.NotLatch k) = NotLatch k
 of_clauses (clauses.Repeated k) = Repeated k
 of_clauses (clauses.OutOfMemory refused) = OutOfMemory witness
 
-abbrev pub IsSectionFault : List Formula → List (List Line) → CheckError → Type 0
-IsSectionFault fs ps (Section e k) = IsFirstRefused fs ps e k
-IsSectionFault fs ps (OutOfMemory refused) = Unit {0}
-IsSectionFault fs ps _ = ⊥
+-- a refusal of one of the cases' sections, and of any section; memory is no fault of theirs
+abbrev pub IsCaseFault : ℕ → List Case → List (List Line) → CheckError → Type 0
+IsCaseFault before cs ps (Section e k) = IsFirstRefused before cs ps e k
+IsCaseFault before cs ps (OutOfMemory refused) = Unit {0}
+IsCaseFault before cs ps _ = ⊥
+
+abbrev pub IsSectionFault : Parts → Lit → Certificate → CheckError → Type 0
+IsSectionFault m a c (Section e k) = IsRefusedSection m a c e k
+IsSectionFault m a c (OutOfMemory refused) = Unit {0}
+IsSectionFault m a c _ = ⊥
 
 -- the counts are in order
 pub record IsCounted (c : Certificate) : Type 0 where
   pub few : length c.invariant < 4194304
   pub count : length c.sections ≡ 2 * length c.invariant + 1
 
--- the first cause of a refusal for a literal of a circuit: the number of clauses, the number of sections, a clause, a
--- section
+-- the first cause of a refusal for a literal of a circuit: the number of clauses, the number of sections but that of the
+-- lemmas, a clause, the lemmas, a section
 abbrev pub HasCauseFor : Parts → Lit → Certificate → CheckError → Type 0
 HasCauseFor m a c (NoProperty k) = ⊥
 HasCauseFor m a c Limit = 4194303 < length c.invariant
 HasCauseFor m a c (Sections k) = (length c.invariant < 4194304) × (k ≡ length c.sections) × (k ≢ 2 * length c.invariant + 1)
 HasCauseFor m a c (NotLatch k) = IsCounted c × IsFirstFault m c.invariant k fault.NotLatch
 HasCauseFor m a c (Repeated k) = IsCounted c × IsFirstFault m c.invariant k fault.Repeated
-HasCauseFor m a c (Section e k) = IsCounted c × All (IsGood m) c.invariant × IsFirstRefused (cases m c.invariant a) c.sections e k
+HasCauseFor m a c (Section e k) = IsCounted c × All (IsGood m) c.invariant × IsRefusedSection m a c e k
 HasCauseFor m a c (OutOfMemory refused) = Unit {0}
 
 -- it is the first cause for the property's circuit

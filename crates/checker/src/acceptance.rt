@@ -33,19 +33,19 @@ fn examine(
     ensures refused { IfErr result (HasCauseFor circuit.now bad certificate.now) }
 {
     let invariant = certificate.invariant.as_slice();
-    let sections = certificate.sections.as_slice();
+    let sections = certificate.sections.as_slice().len();
     if invariant.len() > MOST_CLAUSES {
         return Err(CheckError::Limit);
     }
-    if sections.len() != 2 * invariant.len() + 1 {
+    if sections != 2 * invariant.len() + 1 {
         return Err(CheckError::Sections {
-            found: sections.len() as u64,
+            found: sections as u64,
         });
     }
     circuit.parts();
     let table = NextTable::new(alloc, circuit)?;
     check_clauses(alloc, circuit, &table, invariant)?;
-    check_sections(alloc, circuit, &table, invariant, bad, sections)
+    check_sections(alloc, circuit, &table, certificate, bad)
 }
 
 /// Looks for the first cause where the certificate speaks of the justice property at position `n`:
@@ -97,11 +97,13 @@ fn examine_property(
 }
 
 /// Whether the certificate is accepted for the circuit: the circuit has its property, its clauses are
-/// over latches, and each section is an accepted proof that nothing satisfies its case. For a
-/// justice property the clauses and cases are those of the shadow circuit. Then no run of the circuit
-/// that keeps the constraints sets the bad literal, or the output that is taken as one, at any time,
-/// or holds more rounds of the justice property than the circuit has states. A refusal has the first
-/// cause.
+/// over latches, its lemmas, where there are some, follow from what the step cases and the bad case
+/// share, and each section is an accepted proof that nothing satisfies its case. For a justice
+/// property the clauses and cases are those of the shadow circuit. Then no run of the circuit that
+/// keeps the constraints sets the bad literal, or the output that is taken as one, at any time, or
+/// holds more rounds of the justice property than the circuit has states. A refusal has the first
+/// cause, in the order of the certificate's text: the property, the number of clauses and that of
+/// sections, the clauses, the lemmas, the sections of the cases.
 ///
 /// It costs the certificate's length and one circuit.
 pub fn check(alloc: Global, model: &Model, certificate: &Certificate) -> Result<(), CheckError>

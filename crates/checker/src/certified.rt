@@ -62,8 +62,8 @@ fn safe_property<M: Source, C: Source>(
 /// of the second, anywhere in it, before every fault of the certificate. Where memory is wanting or a
 /// source fails, nothing is put.
 ///
-/// It takes no memory beyond the file, the certificate, the clauses that the cases share, and
-/// those of one section. While a text is read, its bytes are held too.
+/// It takes no memory beyond the file, the certificate, the clauses that the cases share, lemmas
+/// too, and those of one section. While a text is read, its bytes are held too.
 pub fn run_safe<M: Source, C: Source, W: Sink>(
     alloc: Global,
     circuit: &mut M,

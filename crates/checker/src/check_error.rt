@@ -29,7 +29,8 @@ pub enum CheckError {
     /// the clause, from 0, has a literal that is repeated or opposed
     #[error("clause {clause}: a literal is repeated or opposed")]
     Repeated { clause: u64 },
-    /// the section, from 0, is no proof of its case
+    /// the section, from 0 and with that of the lemmas where there is one, is no proof of its case,
+    /// or has a line that is no lemma
     #[error("section {section}: {error}")]
     Section { error: StepError, section: u64 },
     /// out of memory
@@ -73,8 +74,8 @@ impl CheckError {
         }
     }
 
-    /// The refusal's place: the property's number, how many sections there are, the clause, or the
-    /// line of the section's proof; else 0.
+    /// The refusal's place: the property's number, how many sections there are but that of the
+    /// lemmas, the clause, or the line in the section; else 0.
     pub fn place(self) -> u64
         ensures { result ≡ place_of self }
     {
@@ -87,7 +88,8 @@ impl CheckError {
         }
     }
 
-    /// The position of the section that is refused, from 0; else 0.
+    /// The position of the section that is refused, from 0, where that of the lemmas counts: in
+    /// version 2 it is at 0, and the first initial case at 1. Else 0.
     pub fn section(self) -> u64
         ensures { result ≡ section_of self }
     {

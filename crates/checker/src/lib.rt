@@ -12,6 +12,10 @@
 //! - `run_stimulus` does the same for a circuit and a stimulus: `yes run b0` exactly where the
 //!   stimulus's replay shows the violation of its property.
 //!
+//! A certificate of version 2 has lemmas: lines that are checked once, and whose clauses the step
+//! cases and the bad case then begin with, beside those of the circuit and the invariant. The initial
+//! cases have none of them.
+//!
 //! Nothing is assumed of whoever wrote the evidence. A certificate costs its own length and one
 //! circuit: all sections of a kind are checked over one formula, and what a section adds is forgotten
 //! after it.

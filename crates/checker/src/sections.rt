@@ -1,20 +1,22 @@
-//! The sections of a certificate: a proof for each case of the invariant.
+//! The sections of a certificate: the lemmas, and a proof for each case of the invariant.
 
-ghost use Rattle.std.specs.Prelude.{◌≡◌, ◌+◌, ◌*◌, ◌<◌, ◌^◌, All, Contains, IfErr, None, OnOk, length};
+ghost use Rattle.std.specs.Prelude.{◌≡◌, ◌+◌, ◌*◌, ◌<◌, ◌≤◌, All, Contains, IfErr, IfOk, List, None, OnOk, length};
 ghost use Rattle.graph.specs.WellFormed.{used};
-ghost use Rattle.cnf.specs.Formulas.{IsInvariant};
+ghost use Rattle.graph.specs.declared.circuit.Lit.{Lit as ALit};
+ghost use Rattle.cnf.specs.Formulas.{IsInvariant, start_formula};
 ghost use Rattle.cnf.specs.Tables.{IsTableOf};
+ghost use Rattle.lrat.specs.Courses.{at_formula};
 ghost use Rattle.lrat.specs.Literals.{IsLiteral};
-ghost use Rattle.lrat.specs.Proofs.{IsRefusedProof};
-ghost use Rattle.lrat.specs.Shared.{base_of};
-ghost use Rattle.lrat.specs.declared.formula.Formula.{Formula};
-ghost use Rattle.checker.specs.Accepted.{cases, with_units, IsProofOf, RefuteBelow};
-ghost use Rattle.checker.specs.Causes.{IsSectionError, IsSectionFault};
+ghost use Rattle.lrat.specs.Shared.{Base, base_of};
+ghost use Rattle.checker.specs.Accepted.{Case, cases, IsProofOf, IsShared, RefuteBelow};
+ghost use Rattle.checker.specs.Causes.{IsCaseAt, IsCaseFault, IsRefusedCase, IsSectionError, IsSectionFault, lemma_sections as lemma_count};
 
 use crate::check_error::CheckError;
+use base::Refused;
+use certificate::Certificate;
 use cnf::{NextTable, bad_unit, init_units, shared_base, start_base, step_units};
-use graph::{Lit, Model, Seq};
-use lrat::{Fault, Proof, Refuter, StepError};
+use graph::{Lit, Model};
+use lrat::{Fault, Proof, Refuter, StepError, extends};
 use std::alloc::Global;
 
 /// Whether a proof refutes what the refuter shares, with the units. It costs the units and the
@@ -27,11 +29,10 @@ fn refute(
 ) -> Result<(), StepError>
     requires fresh { refuter.old.refusal ≡ None }
     requires in_range { All (IsLiteral refuter.old.base.vars) units.now }
-    requires few { refuter.old.base.top + length units.now < 2 ^ 32 }
     ensures base { refuter.new.base ≡ refuter.old.base }
     ensures fresh { OnOk result (refuter.new.refusal ≡ None) }
-    ensures accepted { OnOk result ((f : Formula) → refuter.old.base ≡ base_of f → IsProofOf (with_units f units.now) proof.now) }
-    ensures refused { IfErr result (λ e. (f : Formula) → refuter.old.base ≡ base_of f → IsRefusedProof (with_units f units.now) proof.now e) }
+    ensures accepted { OnOk result (IsProofOf (record { base = refuter.old.base; units = units.now }) proof.now) }
+    ensures refused { IfErr result (IsRefusedCase (record { base = refuter.old.base; units = units.now }) proof.now) }
 {
     match refuter.begin(alloc, units) {
         Ok(()) => {}
@@ -64,29 +65,95 @@ fn section_error(error: StepError, section: usize) -> CheckError
     }
 }
 
+/// How many sections stand before those of the cases: that of the lemmas, where there is one.
+fn lemma_sections(certificate: &Certificate) -> usize
+    ensures count { result ≡ lemma_count certificate.now.lemmas }
+    ensures few { result ≤ 1 }
+{
+    match &certificate.lemmas {
+        None => 0,
+        Some(_) => 1,
+    }
+}
+
+/// Whether a case's section refutes what the refuter shares, with the case's units. It costs the
+/// units and the section.
+fn check_case(
+    alloc: Global,
+    refuter: &mut Refuter,
+    units: &[i32],
+    certificate: &Certificate,
+    index: usize,
+) -> Result<(), CheckError>
+    requires fresh { refuter.old.refusal ≡ None }
+    requires in_range { All (IsLiteral refuter.old.base.vars) units.now }
+    requires stands { index < length certificate.now.sections }
+    ensures base { refuter.new.base ≡ refuter.old.base }
+    ensures fresh { OnOk result (refuter.new.refusal ≡ None) }
+    // Among cases whose earlier sections are proofs, it is the next proof, or the first that is refused.
+    ensures proved { OnOk result ((cs : List Case) → IsCaseAt cs index (record { base = refuter.old.base; units = units.now }) → RefuteBelow cs certificate.now.sections index → RefuteBelow cs certificate.now.sections (index + 1)) }
+    ensures refused { IfErr result (λ e. (cs : List Case) → IsCaseAt cs index (record { base = refuter.old.base; units = units.now }) → RefuteBelow cs certificate.now.sections index → IsCaseFault (lemma_count certificate.now.lemmas) cs certificate.now.sections e) }
+{
+    let sections = certificate.sections.as_slice();
+    match refute(alloc, refuter, units, &sections[index]) {
+        Ok(()) => Ok(()),
+        Err(error) => Err(section_error(error, lemma_sections(certificate) + index)),
+    }
+}
+
+/// The refuter of the initial cases.
+fn start_refuter(alloc: Global, model: &Model) -> Result<Refuter, Refused>
+    ensures { IfOk result (λ r. r ≡ at_formula (start_formula model.now)) }
+{
+    let base = start_base(alloc, model)?;
+    Refuter::new(alloc, &base)
+}
+
+/// The refuter of the step cases and the bad case, which has taken the lemmas where there are
+/// some. It costs the circuit, the invariant and the lemmas.
+fn shared_refuter(
+    alloc: Global,
+    model: &Model,
+    certificate: &Certificate,
+) -> Result<Refuter, CheckError>
+    requires { IsInvariant model.now certificate.now.invariant }
+    ensures fresh { IfOk result (λ r. r.refusal ≡ None) }
+    ensures shared { IfOk result (λ r. IsShared model.now certificate.now.invariant certificate.now.lemmas r.base) }
+    ensures refused { IfErr result (λ e. (a : ALit) → IsSectionFault model.now a certificate.now e) }
+{
+    let base = shared_base(alloc, model, certificate.invariant.as_slice())?;
+    match &certificate.lemmas {
+        None => Ok(Refuter::new(alloc, &base)?),
+        Some(lemmas) => {
+            // its lines are in the limits
+            lemmas.lines();
+            match extends(alloc, &base, lemmas) {
+                Ok(refuter) => Ok(refuter),
+                Err(error) => Err(section_error(error, 0)),
+            }
+        }
+    }
+}
+
 /// Whether the first sections refute the initial cases.
 fn check_initial(
     alloc: Global,
     model: &Model,
-    invariant: &[Seq<Lit>],
-    bad: Lit,
-    sections: &[Proof],
+    certificate: &Certificate,
+    refuter: &mut Refuter,
 ) -> Result<(), CheckError>
-    requires invariant { IsInvariant model.now invariant.now }
-    requires count { length sections.now ≡ 2 * length invariant.now + 1 }
-    ensures ok { OnOk result (RefuteBelow (cases model.now invariant.now bad) sections.now (length invariant.now)) }
-    ensures err { IfErr result (IsSectionFault (cases model.now invariant.now bad) sections.now) }
+    requires invariant { IsInvariant model.now certificate.now.invariant }
+    requires count { length certificate.now.sections ≡ 2 * length certificate.now.invariant + 1 }
+    requires fresh { refuter.old.refusal ≡ None }
+    requires base { refuter.old.base ≡ base_of (start_formula model.now) }
+    ensures ok { OnOk result ((b : Base) (a : ALit) → RefuteBelow (cases model.now b certificate.now.invariant a) certificate.now.sections (length certificate.now.invariant)) }
+    ensures err { IfErr result (λ e. (b : Base) (a : ALit) → IsCaseFault (lemma_count certificate.now.lemmas) (cases model.now b certificate.now.invariant a) certificate.now.sections e) }
 {
     model.parts();
-    let base = start_base(alloc, model)?;
-    let mut refuter = Refuter::new(alloc, &base)?;
-    drop(base);
+    let invariant = certificate.invariant.as_slice();
     for (k, clause) in invariant.iter().enumerate() {
         let units = init_units(alloc, model, clause.as_slice())?;
-        match refute(alloc, &mut refuter, units.as_slice(), &sections[k]) {
-            Ok(()) => {}
-            Err(error) => return Err(section_error(error, k)),
-        }
+        check_case(alloc, refuter, units.as_slice(), certificate, k)?;
     }
     Ok(())
 }
@@ -96,54 +163,48 @@ fn check_others(
     alloc: Global,
     model: &Model,
     table: &NextTable,
-    invariant: &[Seq<Lit>],
+    certificate: &Certificate,
     bad: Lit,
-    sections: &[Proof],
+    refuter: &mut Refuter,
 ) -> Result<(), CheckError>
-    requires invariant { IsInvariant model.now invariant.now }
+    requires invariant { IsInvariant model.now certificate.now.invariant }
     requires table { IsTableOf model.now.latches table.now }
     requires bad { Contains (used model.now) bad }
-    requires count { length sections.now ≡ 2 * length invariant.now + 1 }
-    requires initial { RefuteBelow (cases model.now invariant.now bad) sections.now (length invariant.now) }
-    ensures ok { OnOk result (RefuteBelow (cases model.now invariant.now bad) sections.now (length sections.now)) }
-    ensures err { IfErr result (IsSectionFault (cases model.now invariant.now bad) sections.now) }
+    requires count { length certificate.now.sections ≡ 2 * length certificate.now.invariant + 1 }
+    requires fresh { refuter.old.refusal ≡ None }
+    requires vars { refuter.old.base.vars ≡ model.now.max_var + 1 }
+    requires initial { RefuteBelow (cases model.now refuter.old.base certificate.now.invariant bad) certificate.now.sections (length certificate.now.invariant) }
+    ensures ok { OnOk result (RefuteBelow (cases model.now refuter.old.base certificate.now.invariant bad) certificate.now.sections (length certificate.now.sections)) }
+    ensures err { IfErr result (IsCaseFault (lemma_count certificate.now.lemmas) (cases model.now refuter.old.base certificate.now.invariant bad) certificate.now.sections) }
 {
-    model.parts();
-    let base = shared_base(alloc, model, invariant)?;
-    let mut refuter = Refuter::new(alloc, &base)?;
-    drop(base);
+    let invariant = certificate.invariant.as_slice();
     let count = invariant.len();
     for (k, clause) in invariant.iter().enumerate() {
         let units = step_units(alloc, model, table, clause.as_slice())?;
-        match refute(alloc, &mut refuter, units.as_slice(), &sections[count + k]) {
-            Ok(()) => {}
-            Err(error) => return Err(section_error(error, count + k)),
-        }
+        check_case(alloc, refuter, units.as_slice(), certificate, count + k)?;
     }
     let unit = bad_unit(model, bad);
-    match refute(alloc, &mut refuter, &[unit], &sections[2 * count]) {
-        Ok(()) => Ok(()),
-        Err(error) => Err(section_error(error, 2 * count)),
-    }
+    check_case(alloc, refuter, &[unit], certificate, 2 * count)
 }
 
-/// Whether each section refutes its case. It costs the sections, and the circuit and the invariant
-/// once.
+/// Whether the lemmas are shared and each section refutes its case. It costs the lemmas and the
+/// sections, and the circuit and the invariant once.
 pub fn check_sections(
     alloc: Global,
     model: &Model,
     table: &NextTable,
-    invariant: &[Seq<Lit>],
+    certificate: &Certificate,
     bad: Lit,
-    sections: &[Proof],
 ) -> Result<(), CheckError>
-    requires invariant { IsInvariant model.now invariant.now }
+    requires invariant { IsInvariant model.now certificate.now.invariant }
     requires table { IsTableOf model.now.latches table.now }
     requires bad { Contains (used model.now) bad }
-    requires count { length sections.now ≡ 2 * length invariant.now + 1 }
-    ensures ok { OnOk result (RefuteBelow (cases model.now invariant.now bad) sections.now (length sections.now)) }
-    ensures err { IfErr result (IsSectionFault (cases model.now invariant.now bad) sections.now) }
+    requires count { length certificate.now.sections ≡ 2 * length certificate.now.invariant + 1 }
+    ensures ok { OnOk result ((b : Base) × IsShared model.now certificate.now.invariant certificate.now.lemmas b × RefuteBelow (cases model.now b certificate.now.invariant bad) certificate.now.sections (length certificate.now.sections)) }
+    ensures err { IfErr result (IsSectionFault model.now bad certificate.now) }
 {
-    check_initial(alloc, model, invariant, bad, sections)?;
-    check_others(alloc, model, table, invariant, bad, sections)
+    let mut shared = shared_refuter(alloc, model, certificate)?;
+    let mut start = start_refuter(alloc, model)?;
+    check_initial(alloc, model, certificate, &mut start)?;
+    check_others(alloc, model, table, certificate, bad, &mut shared)
 }

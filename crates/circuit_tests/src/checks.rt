@@ -125,6 +125,7 @@ fn without_a_section(alloc: Global) -> Result<Certificate, Refused> {
     Ok(Certificate {
         property: Property::Bad(0),
         invariant,
+        lemmas: None,
         sections,
     })
 }

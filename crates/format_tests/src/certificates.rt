@@ -20,10 +20,11 @@ static SPELLED: [&[u8]; 4] = [
 ];
 
 /// Texts with the number and the place of their refusal.
-static REFUSED: [(&[u8], (u8, u64)); 42] = [
+static REFUSED: [(&[u8], (u8, u64)); 43] = [
     (b"", (6, 0)),
     (b"x", (70, 0)),
-    (b"aigcert 2\n", (70, 8)),
+    (b"aigcert 2\n", (6, 10)),
+    (b"aigcert 3\n", (70, 8)),
     (b"aigcert 10\n", (70, 9)),
     (b"aigcert 1\r\n", (70, 9)),
     (b"aigcert 1\nc0\n", (71, 10)),
@@ -169,6 +170,7 @@ fn without_a_section(alloc: Global) -> Result<Certificate, Refused> {
     Ok(Certificate {
         property: Property::Bad(0),
         invariant: Seq::from_vec(clauses),
+        lemmas: None,
         sections: Seq::from_vec(sections),
     })
 }

@@ -1,8 +1,9 @@
 -- Which texts begin as a certificate does.
-use Rattle.std.proofs.Common.{◌≡◌, ℕ, Bool, true, false, List, [], ◌∷◌, Result, refl, subst, inl, inr}
+use Rattle.std.proofs.Common.{◌≡◌, ℕ, Bool, true, false, List, [], ◌∷◌, ◌++◌, Option, None, Some, Result, refl, subst, inl, inr}
 use Rattle.certificate.specs.declared.certificate.Certificate.{Certificate}
-use Rattle.certificate.specs.Texts.{SpellsCertificate}
+use Rattle.certificate.specs.Texts.{SpellsCertificate, first_line}
 use Rattle.graph.specs.declared.circuit.Lit.{Lit}
+use Rattle.lrat.specs.declared.line.Line.{Line}
 use Rattle.invariant.specs.Reading.{begins_certificate}
 use Rattle.invariant.specs.Texts.{SpellsClauses, SpellsInvariant, IsRead}
 use Rattle.invariant.specs.declared.invariant_error.InvariantError.{InvariantError}
@@ -14,8 +15,13 @@ lines_begin t (c ∷ cs) (a, b, one, others, whole) =
     let f = clause_first a c one in
     rw (whole, f.3) f.2
 
+-- as do both versions of one
+version_begins : (lemmas : Option (List Line)) (a b c d e f : List ℕ) → begins_certificate (first_line lemmas ++ a ++ b ++ c ++ d ++ e ++ f) ≡ true
+version_begins None a b c d e f = refl
+version_begins (Some lemmas) a b c d e f = refl
+
 certificate_begins : (t : List ℕ) (c : Certificate) → SpellsCertificate t c → begins_certificate t ≡ true
-certificate_begins t c s = rw s.spells refl
+certificate_begins t c s = rw s.spells (version_begins c.lemmas _ _ _ _ _ _)
 
 both : {b : Bool} → b ≡ true → b ≡ false → ⊥
 both t f = absurd cc

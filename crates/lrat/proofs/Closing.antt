@@ -13,7 +13,7 @@ use Rattle.lrat.specs.declared.place.Place.{Place}
 abbrev pub EndsBy : ℕ → Place → Type 0
 EndsBy e p = p.start + p.len ≤ e
 
-from_lower : (f g : ℕ) (ps : List Place) → f ≤ g → AreInOrder g ps → AreInOrder f ps
+pub from_lower : (f g : ℕ) (ps : List Place) → f ≤ g → AreInOrder g ps → AreInOrder f ps
 from_lower f g [] le o = tt
 from_lower f g (p ∷ ps) le o = (let first = o.0 in omega arith, o.1)
 

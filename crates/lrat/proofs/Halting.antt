@@ -11,7 +11,7 @@ use Rattle.lrat.specs.Halts.{LacksOne, Halts}
 use Rattle.lrat.specs.declared.line.Line.{Line}
 use Rattle.lrat.specs.declared.line.Line.TheVariants.{Add, Delete}
 use Rattle.lrat.specs.declared.fault.Fault.{Fault}
-use Rattle.lrat.specs.declared.fault.Fault.TheVariants.{OutOfMemory, UnknownId, IdOrder, SeveralLeft, TrueAlready, NotFalse, EarlyConflict, NoHints, NegativeHint, RepeatedLiteral, NoEmptyClause, AfterEmpty, VariableRange}
+use Rattle.lrat.specs.declared.fault.Fault.TheVariants.{OutOfMemory, UnknownId, IdOrder, SeveralLeft, TrueAlready, NotFalse, EarlyConflict, NoHints, NegativeHint, RepeatedLiteral, NoEmptyClause, AfterEmpty, VariableRange, EmptyLemma, NoIds}
 use Rattle.lrat.proofs.Complete.{refused_not}
 use Rattle.lrat.proofs.Exact.{takes_next}
 
@@ -37,6 +37,8 @@ halts_add n s id c hints RepeatedLiteral o lt all why = (o, lt, all, why)
 halts_add n s id c hints NoEmptyClause o lt all why = (o, lt, all, why)
 halts_add n s id c hints AfterEmpty o lt all why = absurd (other_cause n _ c _ AfterEmpty (λ x. x) (λ x. cc) (λ t i x. x) (λ t i x. x) why)
 halts_add n s id c hints VariableRange o lt all why = (o, lt, all, why)
+halts_add n s id c hints EmptyLemma o lt all why = (o, lt, all, why)
+halts_add n s id c hints NoIds o lt all why = (o, lt, all, why)
 
 -- and what it says
 cause_add : (n : ℕ) (s : Stage) (id : ℕ) (c hints : List ℤ) (e : Fault) → e ≢ OutOfMemory witness → Halts n s (Add id c hints) e → s.closed ≡ false → s.top < id → All IsPositive hints → IsRefusedLine n (fin.get s.present) c (map unsigned_abs hints) e
@@ -53,6 +55,8 @@ cause_add n s id c hints RepeatedLiteral ne why o lt all = why.3
 cause_add n s id c hints NoEmptyClause ne why o lt all = why.3
 cause_add n s id c hints AfterEmpty ne why o lt all = absurd (let shut : s.closed ≡ true = why in cc)
 cause_add n s id c hints VariableRange ne why o lt all = why.3
+cause_add n s id c hints EmptyLemma ne why o lt all = why.3
+cause_add n s id c hints NoIds ne why o lt all = why.3
 
 lacks_not : (m n : ById) (ids : List ℕ) → LacksOne m ids → TakesOut m ids n → ⊥
 lacks_not m n ids lacks takes =
@@ -75,6 +79,8 @@ delete_not n s id ids RepeatedLiteral ne why t goes = why
 delete_not n s id ids NoEmptyClause ne why t goes = why
 delete_not n s id ids AfterEmpty ne why t goes = let shut : s.closed ≡ true = why in let o : s.closed ≡ false = goes.0 in cc
 delete_not n s id ids VariableRange ne why t goes = why
+delete_not n s id ids EmptyLemma ne why t goes = why
+delete_not n s id ids NoIds ne why t goes = why
 
 -- a line that is refused leads nowhere
 pub halts_not : (n : ℕ) (s : Stage) (l : Line) (e : Fault) → Halts n s l e → e ≢ OutOfMemory witness → (t : Stage) → Goes n s l t → ⊥

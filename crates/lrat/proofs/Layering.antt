@@ -5,11 +5,12 @@ use Rattle.std.proofs.lemmas.List.Elements.{All-contains, All-nil, All-push, All
 use Rattle.std.proofs.Math.Seq.{map-set_same}
 use Rattle.std.specs.FinMap as fin
 use Rattle.lrat.specs.Store.{ById}
-use Rattle.lrat.specs.Slots.{Slot, Row, blank, ids_in, live_at, live_of, revived, IsRising}
+use Rattle.lrat.specs.Slots.{Slot, Row, blank, ids_in, live_at, live_of, live_slots, revived, IsRising}
 use Rattle.lrat.specs.Layers.{layers_of, bare, AreLayered, AreFresh}
 use Rattle.lrat.specs.Proofs.{numbered_from}
 use Rattle.lrat.proofs.Numbered.{take_next, numbered_next}
 use Rattle.lrat.proofs.Closing.{by_lt}
+use Rattle.lrat.proofs.Kept.{all_live, live_everywhere, live_same, rising_count, rising_live}
 use Rattle.lrat.proofs.Rising.{rising_push, rising_take, live_push, revived_all}
 
 -- ---- slots one by one
@@ -60,7 +61,7 @@ fresh_next cs i ss lt f =
       live = λ k. live_push_at ss s k refl (f.live k);
     }
 
-pub fresh_layered : (ss : List Slot) (cs : List (List ℤ)) (hidden : List ℕ) → AreFresh ss cs → hidden ≡ [] → AreLayered ss (length cs) hidden (length cs)
+pub fresh_layered : (ss : List Slot) (cs : List (List ℤ)) (hidden : List ℕ) → AreFresh ss cs → hidden ≡ [] → AreLayered ss (length cs) (length cs) hidden (length cs)
 fresh_layered ss cs hidden f none = record {
   low = omega arith;
   shared = let e = f.number in omega arith;
@@ -71,7 +72,7 @@ fresh_layered ss cs hidden f none = record {
   listed = λ i lt off. absurd (let e : true ≡ false = sym (f.live i) ∙ off in cc);
 }
 
-pub fresh_layers : (r : Row) (cs : List (List ℤ)) → AreFresh r.slots cs → layers_of r (length cs) (length cs) ≡ bare (record { vars = r.vars; present = numbered_from 1 cs fin.empty; top = length cs })
+pub fresh_layers : (r : Row) (cs : List (List ℤ)) → AreFresh r.slots cs → layers_of r (length cs) (length cs) (length cs) ≡ bare (record { vars = r.vars; present = numbered_from 1 cs fin.empty; top = length cs })
 fresh_layers r cs f =
     let whole : take (length cs) r.slots ≡ r.slots = take_all (length cs) r.slots (let e = f.number in omega arith) in
     let same : live_of (map revived (take (length cs) r.slots)) ≡ numbered_from 1 cs fin.empty = ap (λ (ss : List Slot). live_of (map revived ss)) whole ∙ ap live_of (revived_all r.slots f.live) ∙ f.present in
@@ -79,12 +80,12 @@ fresh_layers r cs f =
 
 -- ---- a stack after a change of its slots
 
-pub changed_layers : (r s : Row) (mark top new : ℕ) (m : ById) → s.vars ≡ r.vars → map revived (take mark s.slots) ≡ map revived (take mark r.slots) → live_of s.slots ≡ m → layers_of s mark new ≡ record { base = (layers_of r mark top).base; present = m; top = new }
-changed_layers r s mark top new m v sh pr = λ i. record { base = record { vars = v i; present = live_of (sh i); top = mark }; present = pr i; top = new }
+pub changed_layers : (r s : Row) (mark last top new : ℕ) (m : ById) → s.vars ≡ r.vars → map revived (take mark s.slots) ≡ map revived (take mark r.slots) → live_of s.slots ≡ m → layers_of s mark last new ≡ record { base = (layers_of r mark last top).base; present = m; top = new }
+changed_layers r s mark last top new m v sh pr = λ i. record { base = record { vars = v i; present = live_of (sh i); top = last }; present = pr i; top = new }
 
 -- a clause of the refutation's own is added
-pub added_layered : (ss : List Slot) (mark : ℕ) (hidden : List ℕ) (top id : ℕ) (c : List ℤ) → AreLayered ss mark hidden top → top < id → AreLayered (ss ++ record { id = id; live = true; clause = c } ∷ []) mark hidden id
-added_layered ss mark hidden top id c old lt =
+pub added_layered : (ss : List Slot) (mark last : ℕ) (hidden : List ℕ) (top id : ℕ) (c : List ℤ) → AreLayered ss mark last hidden top → top < id → AreLayered (ss ++ record { id = id; live = true; clause = c } ∷ []) mark last hidden id
+added_layered ss mark last hidden top id c old lt =
     let s : Slot = record { id = id; live = true; clause = c } in
     let low = old.low in
     let shared : mark ≤ length ss = old.shared in
@@ -95,20 +96,20 @@ added_layered ss mark hidden top id c old lt =
       shared = omega (arith, length_push ss s);
       rising = subst (IsRising 0) (sym e) (rising_push 0 (ids_in ss) id old.rising (omega arith) (λ k d lk. let u = old.up k d lk in omega arith));
       up = subst (All (λ q. q ≤ id)) (sym e) (All-push (λ q. q ≤ id) (ids_in ss) id (higher (ids_in ss) top id (omega arith) old.up) (omega arith));
-      shared_up = subst (All (λ q. q ≤ mark)) (sym (ap (take mark) e ∙ take-append-le mark (ids_in ss) (id ∷ []) (omega arith))) old.shared_up;
+      shared_up = subst (All (λ q. q ≤ last)) (sym (ap (take mark) e ∙ take-append-le mark (ids_in ss) (id ∷ []) (omega arith))) old.shared_up;
       within = old.within;
       listed = λ i li off. old.listed i li (sym (live_push_below ss s i (omega arith)) ∙ off);
     }
 
-pub added_shared : (ss : List Slot) (mark : ℕ) (hidden : List ℕ) (top : ℕ) (s : Slot) → AreLayered ss mark hidden top → map revived (take mark (ss ++ s ∷ [])) ≡ map revived (take mark ss)
-added_shared ss mark hidden top s old = ap (map revived) (take-append-le mark ss (s ∷ []) old.shared)
+pub added_shared : (ss : List Slot) (mark last : ℕ) (hidden : List ℕ) (top : ℕ) (s : Slot) → AreLayered ss mark last hidden top → map revived (take mark (ss ++ s ∷ [])) ≡ map revived (take mark ss)
+added_shared ss mark last hidden top s old = ap (map revived) (take-append-le mark ss (s ∷ []) old.shared)
 
-pub added_present : (ss : List Slot) (mark : ℕ) (hidden : List ℕ) (top id : ℕ) (c : List ℤ) → AreLayered ss mark hidden top → top < id → live_of (ss ++ record { id = id; live = true; clause = c } ∷ []) ≡ fin.insert (live_of ss) id c
-added_present ss mark hidden top id c old lt = live_push ss id c (above_all (ids_in ss) top id old.up lt)
+pub added_present : (ss : List Slot) (mark last : ℕ) (hidden : List ℕ) (top id : ℕ) (c : List ℤ) → AreLayered ss mark last hidden top → top < id → live_of (ss ++ record { id = id; live = true; clause = c } ∷ []) ≡ fin.insert (live_of ss) id c
+added_present ss mark last hidden top id c old lt = live_push ss id c (above_all (ids_in ss) top id old.up lt)
 
 -- a shared clause is taken out for now
-pub hidden_layered : (ss : List Slot) (mark : ℕ) (hidden : List ℕ) (top i : ℕ) (s : Slot) → AreLayered ss mark hidden top → i < mark → s.id ≡ (get_or ss i blank).id → AreLayered (set ss i s) mark (hidden ++ i ∷ []) top
-hidden_layered ss mark hidden top i s old lt same =
+pub hidden_layered : (ss : List Slot) (mark last : ℕ) (hidden : List ℕ) (top i : ℕ) (s : Slot) → AreLayered ss mark last hidden top → i < mark → s.id ≡ (get_or ss i blank).id → AreLayered (set ss i s) mark last (hidden ++ i ∷ []) top
+hidden_layered ss mark last hidden top i s old lt same =
     let e : ids_in (set ss i s) ≡ ids_in ss = ids_set ss i s same in
     let shared : mark ≤ length ss = old.shared in
     record {
@@ -116,7 +117,7 @@ hidden_layered ss mark hidden top i s old lt same =
       shared = omega (arith, length-set ss i s);
       rising = subst (IsRising 0) (sym e) old.rising;
       up = subst (All (λ q. q ≤ top)) (sym e) old.up;
-      shared_up = subst (λ xs. All (λ q. q ≤ mark) (take mark xs)) (sym e) old.shared_up;
+      shared_up = subst (λ xs. All (λ q. q ≤ last) (take mark xs)) (sym e) old.shared_up;
       within = All-push (λ k. k < mark) hidden i old.within lt;
       listed = λ k lk off.
           by_lt k i (λ less. others k lk off (λ f. omega arith))
@@ -127,8 +128,8 @@ hidden_layered ss mark hidden top i s old lt same =
     others k lk off ne = Contains-append_left hidden (i ∷ []) k (old.listed k lk (ap (λ (t : Slot). t.live) (sym (get_or-set_other ss i k s blank ne)) ∙ off))
 
 -- a clause of the refutation's own is taken out
-pub dropped_layered : (ss : List Slot) (mark : ℕ) (hidden : List ℕ) (top i : ℕ) (s : Slot) → AreLayered ss mark hidden top → mark ≤ i → s.id ≡ (get_or ss i blank).id → AreLayered (set ss i s) mark hidden top
-dropped_layered ss mark hidden top i s old le same =
+pub dropped_layered : (ss : List Slot) (mark last : ℕ) (hidden : List ℕ) (top i : ℕ) (s : Slot) → AreLayered ss mark last hidden top → mark ≤ i → s.id ≡ (get_or ss i blank).id → AreLayered (set ss i s) mark last hidden top
+dropped_layered ss mark last hidden top i s old le same =
     let e : ids_in (set ss i s) ≡ ids_in ss = ids_set ss i s same in
     let shared : mark ≤ length ss = old.shared in
     record {
@@ -136,7 +137,7 @@ dropped_layered ss mark hidden top i s old le same =
       shared = omega (arith, length-set ss i s);
       rising = subst (IsRising 0) (sym e) old.rising;
       up = subst (All (λ q. q ≤ top)) (sym e) old.up;
-      shared_up = subst (λ xs. All (λ q. q ≤ mark) (take mark xs)) (sym e) old.shared_up;
+      shared_up = subst (λ xs. All (λ q. q ≤ last) (take mark xs)) (sym e) old.shared_up;
       within = old.within;
       listed = λ k lk off. old.listed k lk (ap (λ (t : Slot). t.live) (sym (get_or-set_other ss i k s blank (λ f. omega arith))) ∙ off);
     }
@@ -146,9 +147,9 @@ dropped_shared ss mark i s le = ap (map revived) (take-set-le mark ss i s le)
 
 -- ---- back to the shared clauses
 
-rewound_live : (ss now : List Slot) (mark : ℕ) (hidden : List ℕ) (top : ℕ) → AreLayered ss mark hidden top
+rewound_live : (ss now : List Slot) (mark last : ℕ) (hidden : List ℕ) (top : ℕ) → AreLayered ss mark last hidden top
     → ((i : ℕ) → live_at (take mark ss) i ≡ true ⊎ Contains hidden i → live_at now i ≡ true) → (i : ℕ) → live_at now i ≡ true
-rewound_live ss now mark hidden top old live i =
+rewound_live ss now mark last hidden top old live i =
     by_lt i mark
     (λ lt. elim (live_at ss i) as (λ b. live_at ss i ≡ b → live_at now i ≡ true) [
       | true ↦ λ e. live i (inl (ap (λ (t : Slot). t.live) (get_or-take mark ss i blank lt) ∙ e))
@@ -156,37 +157,67 @@ rewound_live ss now mark hidden top old live i =
     ] refl)
     (λ ge. live i (inl (ap (λ (t : Slot). t.live) (get_or_past (take mark ss) i blank (let n : length (take mark ss) ≡ mark = length-take-le mark ss old.shared in omega arith)))))
 
-pub rewound_slots : (ss now : List Slot) (mark : ℕ) (hidden : List ℕ) (top : ℕ) → AreLayered ss mark hidden top → map revived now ≡ map revived (take mark ss)
+pub rewound_slots : (ss now : List Slot) (mark last : ℕ) (hidden : List ℕ) (top : ℕ) → AreLayered ss mark last hidden top → map revived now ≡ map revived (take mark ss)
     → ((i : ℕ) → live_at (take mark ss) i ≡ true ⊎ Contains hidden i → live_at now i ≡ true) → now ≡ map revived (take mark ss)
-rewound_slots ss now mark hidden top old same live = sym (revived_all now (rewound_live ss now mark hidden top old live)) ∙ same
+rewound_slots ss now mark last hidden top old same live = sym (revived_all now (rewound_live ss now mark last hidden top old live)) ∙ same
 
-pub rewound_layered : (ss now : List Slot) (mark : ℕ) (hidden left : List ℕ) (top : ℕ) → AreLayered ss mark hidden top → map revived now ≡ map revived (take mark ss)
-    → ((i : ℕ) → live_at (take mark ss) i ≡ true ⊎ Contains hidden i → live_at now i ≡ true) → left ≡ [] → AreLayered now mark left mark
-rewound_layered ss now mark hidden left top old same live none =
-    let is : now ≡ map revived (take mark ss) = rewound_slots ss now mark hidden top old same live in
+pub rewound_layered : (ss now : List Slot) (mark last : ℕ) (hidden left : List ℕ) (top : ℕ) → AreLayered ss mark last hidden top → map revived now ≡ map revived (take mark ss)
+    → ((i : ℕ) → live_at (take mark ss) i ≡ true ⊎ Contains hidden i → live_at now i ≡ true) → left ≡ [] → AreLayered now mark last left last
+rewound_layered ss now mark last hidden left top old same live none =
+    let is : now ≡ map revived (take mark ss) = rewound_slots ss now mark last hidden top old same live in
     let ids : ids_in now ≡ take mark (ids_in ss) = ap ids_in is ∙ ids_revived (take mark ss) ∙ sym (take-map (λ (t : Slot). t.id) mark ss) in
     let n : length now ≡ mark = ap length is ∙ length-map (take mark ss) revived ∙ length-take-le mark ss old.shared in
-    let up : All (λ q. q ≤ mark) (ids_in now) = subst (All (λ q. q ≤ mark)) (sym ids) old.shared_up in
+    let up : All (λ q. q ≤ last) (ids_in now) = subst (All (λ q. q ≤ last)) (sym ids) old.shared_up in
     record {
       low = omega arith;
       shared = omega arith;
       rising = subst (IsRising 0) (sym ids) (rising_take 0 mark (ids_in ss) old.rising);
       up = up;
-      shared_up = All-take (λ q. q ≤ mark) mark (ids_in now) up;
+      shared_up = All-take (λ q. q ≤ last) mark (ids_in now) up;
       within = subst (All (λ i. i < mark)) (sym none) (All-nil (λ i. i < mark));
-      listed = λ i lt off. absurd (let e : true ≡ false = sym (rewound_live ss now mark hidden top old live i) ∙ off in cc);
+      listed = λ i lt off. absurd (let e : true ≡ false = sym (rewound_live ss now mark last hidden top old live i) ∙ off in cc);
     }
 
 twice_revived : (ss : List Slot) → map revived (map revived ss) ≡ map revived ss
 twice_revived [] = refl
 twice_revived (s ∷ ss) = ap (λ (ts : List Slot). revived s ∷ ts) (twice_revived ss)
 
-pub rewound_layers : (r s : Row) (mark : ℕ) (hidden : List ℕ) (top : ℕ) → AreLayered r.slots mark hidden top → s.vars ≡ r.vars → map revived s.slots ≡ map revived (take mark r.slots)
-    → ((i : ℕ) → live_at (take mark r.slots) i ≡ true ⊎ Contains hidden i → live_at s.slots i ≡ true) → layers_of s mark mark ≡ bare (layers_of r mark top).base
-rewound_layers r s mark hidden top old v same live =
-    let is : s.slots ≡ map revived (take mark r.slots) = rewound_slots r.slots s.slots mark hidden top old same live in
+pub rewound_layers : (r s : Row) (mark last : ℕ) (hidden : List ℕ) (top : ℕ) → AreLayered r.slots mark last hidden top → s.vars ≡ r.vars → map revived s.slots ≡ map revived (take mark r.slots)
+    → ((i : ℕ) → live_at (take mark r.slots) i ≡ true ⊎ Contains hidden i → live_at s.slots i ≡ true) → layers_of s mark last last ≡ bare (layers_of r mark last top).base
+rewound_layers r s mark last hidden top old v same live =
+    let is : s.slots ≡ map revived (take mark r.slots) = rewound_slots r.slots s.slots mark last hidden top old same live in
     let n : length s.slots ≡ mark = ap length is ∙ length-map (take mark r.slots) revived ∙ length-take-le mark r.slots old.shared in
-    changed_layers r s mark top mark (live_of (map revived (take mark r.slots))) v (ap (map revived) (take_all mark s.slots (omega arith)) ∙ same) (ap live_of is)
+    changed_layers r s mark last top last (live_of (map revived (take mark r.slots))) v (ap (map revived) (take_all mark s.slots (omega arith)) ∙ same) (ap live_of is)
+
+-- ---- what is present is shared from now on
+
+-- the live slots are no more than the greatest id
+pub few_live : (ss : List Slot) (mark last : ℕ) (hidden : List ℕ) (top : ℕ) → AreLayered ss mark last hidden top → length (live_slots ss) ≤ top
+few_live ss mark last hidden top old =
+    let count = rising_count 0 top (ids_in (live_slots ss)) (rising_live 0 ss old.rising) (omega arith) (all_live (λ q. q ≤ top) ss old.up) in
+    omega (arith, count, length-map (live_slots ss) (λ (s : Slot). s.id))
+
+pub shared_layered : (ss : List Slot) (mark last : ℕ) (hidden left : List ℕ) (top : ℕ) → AreLayered ss mark last hidden top → left ≡ [] → AreLayered (live_slots ss) (length (live_slots ss)) top left top
+shared_layered ss mark last hidden left top old none =
+    let up : All (λ q. q ≤ top) (ids_in (live_slots ss)) = all_live (λ q. q ≤ top) ss old.up in
+    record {
+      low = omega arith;
+      shared = omega arith;
+      rising = rising_live 0 ss old.rising;
+      up = up;
+      shared_up = All-take (λ q. q ≤ top) (length (live_slots ss)) (ids_in (live_slots ss)) up;
+      within = subst (All (λ i. i < length (live_slots ss))) (sym none) (All-nil (λ i. i < length (live_slots ss)));
+      listed = λ i lt off. absurd (let e : true ≡ false = sym (live_everywhere ss i) ∙ off in cc);
+    }
+
+pub shared_layers : (r : Row) (mark last : ℕ) (hidden : List ℕ) (top : ℕ) → AreLayered r.slots mark last hidden top
+    → layers_of (record { vars = r.vars; slots = live_slots r.slots }) (length (live_slots r.slots)) top top ≡ bare (record { vars = r.vars; present = live_of r.slots; top = top })
+shared_layers r mark last hidden top old =
+    let ss : List Slot = live_slots r.slots in
+    let present : live_of ss ≡ live_of r.slots = live_same r.slots old.rising in
+    let shared : live_of (map revived (take (length ss) ss)) ≡ live_of r.slots =
+    ap (λ (ts : List Slot). live_of (map revived ts)) (take_all (length ss) ss (omega arith)) ∙ ap live_of (revived_all ss (live_everywhere r.slots)) ∙ present in
+    λ i. record { base = record { vars = r.vars; present = shared i; top = top }; present = present i; top = top }
 
 -- ---- hidden clauses come back, one by one
 

@@ -14,9 +14,11 @@ pub mod Exact
 pub mod Sharing
 pub mod Maps
 pub mod Rising
+pub mod Kept
 pub mod Layering
 pub mod Halting
 pub mod Refusing
+pub mod Extending
 pub mod Trimmed
 pub mod Walked
 pub mod TextLaws

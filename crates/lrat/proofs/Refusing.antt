@@ -9,11 +9,11 @@ use Rattle.lrat.specs.declared.formula.Formula.{Formula}
 use Rattle.lrat.specs.declared.line.Line.{Line}
 use Rattle.lrat.specs.declared.step_error.StepError.{StepError}
 use Rattle.lrat.specs.declared.fault.Fault.{Fault}
-use Rattle.lrat.specs.declared.fault.Fault.TheVariants.{OutOfMemory, UnknownId, IdOrder, SeveralLeft, TrueAlready, NotFalse, EarlyConflict, NoHints, NegativeHint, RepeatedLiteral, NoEmptyClause, AfterEmpty, VariableRange}
+use Rattle.lrat.specs.declared.fault.Fault.TheVariants.{OutOfMemory, UnknownId, IdOrder, SeveralLeft, TrueAlready, NotFalse, EarlyConflict, NoHints, NegativeHint, RepeatedLiteral, NoEmptyClause, AfterEmpty, VariableRange, EmptyLemma, NoIds}
 use Rattle.lrat.proofs.Exact.{parts_at, along_next_is, along_unique}
 use Rattle.lrat.proofs.Halting.{halts_not}
 
-is_memory : (e : Fault) → (e ≡ OutOfMemory witness) ⊎ (e ≢ OutOfMemory witness)
+pub is_memory : (e : Fault) → (e ≡ OutOfMemory witness) ⊎ (e ≢ OutOfMemory witness)
 is_memory (OutOfMemory refused) = inl refl
 is_memory UnknownId = inr (λ x. cc)
 is_memory IdOrder = inr (λ x. cc)
@@ -27,8 +27,10 @@ is_memory RepeatedLiteral = inr (λ x. cc)
 is_memory NoEmptyClause = inr (λ x. cc)
 is_memory AfterEmpty = inr (λ x. cc)
 is_memory VariableRange = inr (λ x. cc)
+is_memory EmptyLemma = inr (λ x. cc)
+is_memory NoIds = inr (λ x. cc)
 
-same_error : (e : StepError) (fault : Fault) (line : ℕ) → e.fault ≡ fault → e.line ≡ line → e ≡ record { fault = fault; line = line }
+pub same_error : (e : StepError) (fault : Fault) (line : ℕ) → e.fault ≡ fault → e.line ≡ line → e ≡ record { fault = fault; line = line }
 same_error e fault line p q = λ i. record { fault = p i; line = q i }
 
 -- the line at place i is refused

@@ -42,7 +42,7 @@ numbered_true v k [] m sat all = sat
 numbered_true v k (c ∷ cs) m sat all =
     numbered_true v (k + 1) cs (fin.insert m k c) (inserted_true v m k c sat (All-head (IsSatisfied v) c cs all)) (All-tail (IsSatisfied v) c cs all)
 
-empty_true : (v : ℕ → Bool) → Satisfies v (fin.get {R = nat_cmp} fin.empty)
+pub empty_true : (v : ℕ → Bool) → Satisfies v (fin.get {R = nat_cmp} fin.empty)
 empty_true v q d e = absurd (none_is d (sym (fin.get-empty nat_cmp q) ∙ e))
 
 -- the clauses that are present are true, and the empty one did not come

@@ -102,7 +102,7 @@ found_slot a (s ∷ ss) (suc i) r lt =
     ap (λ b. cond b (state s) (found ss (get_or ss i blank).id)) (apart_keys (get_or ss i blank).id s.id (not_same s.id (get_or ss i blank).id (above_slot s.id ss i r.1 (omega arith))))
     ∙ found_slot s.id ss i r.1 (omega arith)
 
-found_none : (ss : List Slot) (q : ℕ) → (Contains (ids_in ss) q → ⊥) → found ss q ≡ None
+pub found_none : (ss : List Slot) (q : ℕ) → (Contains (ids_in ss) q → ⊥) → found ss q ≡ None
 found_none [] q lacks = refl
 found_none (s ∷ ss) q lacks =
     ap (λ b. cond b (state s) (found ss q)) (apart_keys q s.id (λ e. lacks (0, omega arith, sym e)))

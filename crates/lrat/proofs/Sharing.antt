@@ -6,6 +6,7 @@ use Rattle.std.proofs.lemmas.List.Elements.{All-map}
 use Rattle.lrat.specs.Literals.{IsSatisfied}
 use Rattle.lrat.specs.Store.{ById}
 use Rattle.lrat.specs.Proofs.{numbered_from}
+use Rattle.lrat.specs.Lemmas.{SharedLaw, NoLemmasLaw, base_at}
 use Rattle.lrat.specs.Shared.{unit_clauses, over, OverLaw, OverSoundLaw}
 use Rattle.lrat.proofs.Refuted.{numbered_true, along_true}
 
@@ -29,3 +30,10 @@ over_sound_law b us ls lines refuted v sat all =
       open_ = λ e. cc;
     })
     refuted.1).open_ refuted.2
+
+pub shared_law : SharedLaw
+shared_law b ls t lines along v sat =
+    (along_true v b.vars ls (over b []) t lines (record { sat = sat; open_ = λ e. cc }) along).sat
+
+pub no_lemmas_law : NoLemmasLaw
+no_lemmas_law f t extends = ap (base_at f.vars) extends.along

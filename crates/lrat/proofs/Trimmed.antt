@@ -40,7 +40,7 @@ trimmed_all P (l ∷ ls) all = kept_all P (is_needed l (trimmed ls)) l (trimmed 
 -- ---- hints show the same where they name the same clauses
 
 -- what these ids name in the first, they name in the second
-abbrev Agree : Finder → Finder → List ℕ → Type 0
+abbrev pub Agree : Finder → Finder → List ℕ → Type 0
 Agree m n ids = (q : ℕ) → Contains ids q → (c : List ℤ) → m q ≡ Some c → n q ≡ Some c
 
 leads_too : (m n : Finder) (ids : List ℕ) (s t : List ℤ) → Agree m n ids → Leads m s ids t → Leads n s ids t
@@ -51,7 +51,7 @@ leads_too m n (id ∷ ids) s t agree (l, one, rest) = (
   leads_too m n ids (s ++ l ∷ []) t (λ q has. agree q (Contains-append_right (id ∷ []) ids q has)) rest,
 )
 
-shows_too : (m n : Finder) (c : List ℤ) (hints : List ℕ) → Agree m n hints → Shows m c hints → Shows n c hints
+pub shows_too : (m n : Finder) (c : List ℤ) (hints : List ℕ) → Agree m n hints → Shows m c hints → Shows n c hints
 shows_too m n c hints agree s =
     let all : Agree m n (s.first ++ s.last ∷ []) = subst (Agree m n) s.are agree in
     record {
@@ -82,12 +82,12 @@ neither true b e = cc
 neither false b e = (refl, e)
 
 -- the clauses that the kept lines hint are in both, and the second has no later ids
-record Trails (s u : Stage) (kept : List Line) : Type 0 where
-  top : u.top ≤ s.top
-  closed : u.closed ≡ s.closed
-  named : (q : ℕ) → hinted kept q ≡ true → (c : List ℤ) → fin.get s.present q ≡ Some c → fin.get u.present q ≡ Some c
+pub record Trails (s u : Stage) (kept : List Line) : Type 0 where
+  pub top : u.top ≤ s.top
+  pub closed : u.closed ≡ s.closed
+  pub named : (q : ℕ) → hinted kept q ≡ true → (c : List ℤ) → fin.get s.present q ≡ Some c → fin.get u.present q ≡ Some c
 
-hint_found : (hints : List ℤ) (q : ℕ) → Contains (map unsigned_abs hints) q → list_any (λ h. unsigned_abs h == q) hints ≡ true
+pub hint_found : (hints : List ℤ) (q : ℕ) → Contains (map unsigned_abs hints) q → list_any (λ h. unsigned_abs h == q) hints ≡ true
 hint_found hints q (k, lt, at) =
     let k_in : k < length hints = omega (arith, length-map hints unsigned_abs) in
     let same : unsigned_abs (get_or hints k (pos q)) ≡ q = sym (get_or-map unsigned_abs hints k (pos q) q k_in) ∙ at in
@@ -107,7 +107,7 @@ not_removed true y d e = cc
 not_removed false y d e = e
 
 -- what is left was there
-was_there : (ids : List ℕ) (m n : ById) (q : ℕ) (d : List ℤ) → TakesOut m ids n → fin.get n q ≡ Some d → fin.get m q ≡ Some d
+pub was_there : (ids : List ℕ) (m n : ById) (q : ℕ) (d : List ℤ) → TakesOut m ids n → fin.get n q ≡ Some d → fin.get m q ≡ Some d
 was_there [] m n q d same e = ap (λ u. fin.get u q) (sym same) ∙ e
 was_there (id ∷ ids) m n q d takes e =
     not_removed (eq_by_cmp nat_cmp q id) (fin.get m q) d
@@ -117,7 +117,7 @@ abbrev after : Stage → ℕ → List ℤ → Stage
 after s id c = record { present = fin.insert s.present id c; top = id; closed = is_nil c }
 
 -- a line that is kept leads on in both
-keeps : (n : ℕ) (s u v : Stage) (id : ℕ) (c : List ℤ) (hints : List ℤ) (kept : List Line) → Trails s u (Add id c hints ∷ kept) → Goes n s (Add id c hints) v
+pub keeps : (n : ℕ) (s u v : Stage) (id : ℕ) (c : List ℤ) (hints : List ℤ) (kept : List Line) → Trails s u (Add id c hints ∷ kept) → Goes n s (Add id c hints) v
     → Goes n u (Add id c hints) (after u id c) × Trails v (after u id c) kept
 keeps n s u v id c hints kept r goes =
     let agree : Agree (fin.get s.present) (fin.get u.present) (map unsigned_abs hints) =
@@ -133,7 +133,7 @@ keeps n s u v id c hints kept r goes =
     )
 
 -- an addition that is not kept changes nothing that a kept line hints
-skips : (n : ℕ) (s u v : Stage) (id : ℕ) (c : List ℤ) (hints : List ℤ) (kept : List Line) → Trails s u kept → Goes n s (Add id c hints) v → is_needed (Add id c hints) kept ≡ false → Trails v u kept
+pub skips : (n : ℕ) (s u v : Stage) (id : ℕ) (c : List ℤ) (hints : List ℤ) (kept : List Line) → Trails s u kept → Goes n s (Add id c hints) v → is_needed (Add id c hints) kept ≡ false → Trails v u kept
 skips n s u v id c hints kept r goes out =
     let e = neither (is_nil c) (hinted kept id) out in
     subst (λ w. Trails w u kept) (sym goes.4)
@@ -143,7 +143,7 @@ skips n s u v id c hints kept r goes out =
       named = λ q has d f. r.named q has d (sym (get_new s.present id q c (λ same. let g : hinted kept id ≡ true = ap (hinted kept) (sym same) ∙ has in let h = e.1 in cc)) ∙ f);
     })
 
-deletes : (n : ℕ) (s u v : Stage) (id : ℕ) (ids : List ℕ) (kept : List Line) → Trails s u kept → Goes n s (Delete id ids) v → Trails v u kept
+pub deletes : (n : ℕ) (s u v : Stage) (id : ℕ) (ids : List ℕ) (kept : List Line) → Trails s u kept → Goes n s (Delete id ids) v → Trails v u kept
 deletes n s u v id ids kept r goes =
     record {
       top = let le = r.top in let same = goes.1 in omega (arith, le, same);
@@ -175,3 +175,56 @@ closes_too n (Delete id ids ∷ ls) s u t r (v, goes, along) e =
 pub trimmed_refutes : (f : Formula) (ls : List Line) → IsAcceptedProof f ls → IsAcceptedProof f (trimmed ls)
 trimmed_refutes f ls (t, along, e) =
     closes_too f.vars ls (first_stage f) (first_stage f) t (record { top = omega arith; closed = refl; named = λ q has c found. found }) along e
+
+-- ---- lines that lead to a stage, and those of them that the last one rests on
+
+-- what is kept is lines and the last one, and the lines lead to a stage that has what this one hints
+pub record Rests (n : ℕ) (u t : Stage) (ls kept : List Line) (last : Line) : Type 0 where
+  pub lines : List Line
+  pub are : kept ≡ lines ++ last ∷ []
+  pub among : IsSublist lines ls
+  pub reached : Stage
+  pub along : GoAlong n u lines reached
+  pub trails : Trails t reached (last ∷ [])
+
+rests_add : (n : ℕ) (s u v t : Stage) (id : ℕ) (c : List ℤ) (hints : List ℤ) (ls kept : List Line) (last : Line) → Trails s u (kept_before (Add id c hints) kept) → Goes n s (Add id c hints) v
+    → ((w : Stage) → Trails v w kept → Rests n w t ls kept last) → Rests n u t (Add id c hints ∷ ls) (kept_before (Add id c hints) kept) last
+rests_add n s u v t id c hints ls kept last r goes later =
+    elim (is_needed (Add id c hints) kept) as (λ b. is_needed (Add id c hints) kept ≡ b → Trails s u (cond b (Add id c hints ∷ kept) kept) → Rests n u t (Add id c hints ∷ ls) (cond b (Add id c hints ∷ kept) kept) last) [
+      | true ↦ λ e f.
+          let k = keeps n s u v id c hints kept f goes in
+          let l = later (after u id c) k.1 in
+          record {
+            lines = Add id c hints ∷ l.lines;
+            are = ap (λ ks. Add id c hints ∷ ks) l.are;
+            among = inr (l.lines, refl, l.among);
+            reached = l.reached;
+            along = (after u id c, k.0, l.along);
+            trails = l.trails;
+          }
+      | false ↦ λ e f.
+          let l = later u (skips n s u v id c hints kept f goes e) in
+          record { lines = l.lines; are = l.are; among = inl l.among; reached = l.reached; along = l.along; trails = l.trails }
+    ] refl r
+
+pub rests : (n : ℕ) (ls : List Line) (last : Line) (s u t : Stage) → kept_before last [] ≡ last ∷ [] → Trails s u (trimmed (ls ++ last ∷ [])) → GoAlong n s ls t
+    → Rests n u t ls (trimmed (ls ++ last ∷ [])) last
+rests n [] last s u t ends r same = record {
+  lines = [];
+  are = ends;
+  among = refl;
+  reached = u;
+  along = refl;
+  trails = subst (λ w. Trails w u (last ∷ [])) (sym same) (subst (Trails s u) ends r);
+}
+rests n (Add id c hints ∷ ls) last s u t ends r (v, goes, along) =
+    rests_add n s u v t id c hints ls (trimmed (ls ++ last ∷ [])) last r goes (λ w f. rests n ls last v w t ends f along)
+rests n (Delete id ids ∷ ls) last s u t ends r (v, goes, along) =
+    let l = rests n ls last v u t ends (deletes n s u v id ids (trimmed (ls ++ last ∷ [])) r goes) along in
+    record { lines = l.lines; are = l.are; among = inl l.among; reached = l.reached; along = l.along; trails = l.trails }
+
+-- what holds of all lines holds of those among them
+pub all_among : (P : Line → Type 0) (xs ls : List Line) → IsSublist xs ls → All P ls → All P xs
+all_among P xs [] none all = subst (All P) (sym none) all
+all_among P xs (l ∷ ls) (inl among) all = all_among P xs ls among (All-tail P l ls all)
+all_among P xs (l ∷ ls) (inr (zs, is, among)) all = subst (All P) (sym is) (All-cons P l zs (All-head P l ls all) (all_among P zs ls among (All-tail P l ls all)))

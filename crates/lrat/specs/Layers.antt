@@ -27,21 +27,21 @@ bare b = record { base = b; present = b.present; top = b.top }
 abbrev pub find_present : Layers → Finder
 find_present s id = fin.get s.present id
 
--- how the fields of `Stack` are seen: the first mark slots are shared, also where they are taken out for now
-abbrev pub layers_of : Row → ℕ → ℕ → Layers
-layers_of r mark top = record {
-  base = record { vars = r.vars; present = live_of (map revived (take mark r.slots)); top = mark };
+-- how the fields of `Stack` are seen: the first mark slots are shared, also where they are taken out for now, and their ids go up to last
+abbrev pub layers_of : Row → ℕ → ℕ → ℕ → Layers
+layers_of r mark last top = record {
+  base = record { vars = r.vars; present = live_of (map revived (take mark r.slots)); top = last };
   present = live_of r.slots;
   top = top;
 }
 
--- ids rise, those of the first mark slots up to mark, and the shared slots that are taken out for now are listed
-pub record AreLayered (ss : List Slot) (mark : ℕ) (hidden : List ℕ) (top : ℕ) : Type 0 where
-  pub low : mark ≤ top
+-- ids rise, those of the first mark slots up to last, and the shared slots that are taken out for now are listed
+pub record AreLayered (ss : List Slot) (mark last : ℕ) (hidden : List ℕ) (top : ℕ) : Type 0 where
+  pub low : last ≤ top
   pub shared : mark ≤ length ss
   pub rising : IsRising 0 (ids_in ss)
   pub up : All (λ q. q ≤ top) (ids_in ss)
-  pub shared_up : All (λ q. q ≤ mark) (take mark (ids_in ss))
+  pub shared_up : All (λ q. q ≤ last) (take mark (ids_in ss))
   pub within : All (λ i. i < mark) hidden
   pub listed : (i : ℕ) → i < mark → live_at ss i ≡ false → Contains hidden i
 

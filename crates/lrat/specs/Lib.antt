@@ -15,6 +15,7 @@ pub mod Halts
 pub mod Proofs
 pub mod Shared
 pub mod Layers
+pub mod Lemmas
 pub mod Courses
 pub mod Trimming
 pub mod Hinted

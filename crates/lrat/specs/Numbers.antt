@@ -3,7 +3,7 @@ use Rattle.std.specs.Prelude.{ℕ}
 use Rattle.lrat.specs.declared.lrat_error.LratError.{LratError}
 use Rattle.lrat.specs.declared.lrat_error.LratError.TheVariants.{Number, Byte, Truncated, OutOfMemory as NoMemory}
 use Rattle.lrat.specs.declared.fault.Fault.{Fault}
-use Rattle.lrat.specs.declared.fault.Fault.TheVariants.{OutOfMemory, UnknownId, IdOrder, SeveralLeft, TrueAlready, NotFalse, EarlyConflict, NoHints, NegativeHint, RepeatedLiteral, NoEmptyClause, AfterEmpty, VariableRange}
+use Rattle.lrat.specs.declared.fault.Fault.TheVariants.{OutOfMemory, UnknownId, IdOrder, SeveralLeft, TrueAlready, NotFalse, EarlyConflict, NoHints, NegativeHint, RepeatedLiteral, NoEmptyClause, AfterEmpty, VariableRange, EmptyLemma, NoIds}
 
 abbrev pub number_of : Fault → ℕ
 number_of (OutOfMemory refused) = 20
@@ -19,6 +19,8 @@ number_of RepeatedLiteral = 48
 number_of NoEmptyClause = 49
 number_of AfterEmpty = 50
 number_of VariableRange = 51
+number_of EmptyLemma = 52
+number_of NoIds = 53
 
 abbrev pub lrat_number_of : LratError → ℕ
 lrat_number_of (Number place) = 3

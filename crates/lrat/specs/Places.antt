@@ -1,5 +1,6 @@
 -- How places in a flat list are seen.
 use Rattle.std.specs.Prelude.{ℕ, ◌+◌, ◌≤◌, List, [], ◌∷◌, ℤ, map, take, drop, length, All}
+use Rattle.std.specs.List.{filter}
 use Rattle.lrat.specs.Literals.{IsLiteral}
 use Rattle.lrat.specs.Slots.{Slot}
 use Rattle.lrat.specs.declared.place.Place.{Place}
@@ -12,6 +13,10 @@ kept_at ls ps = map (kept_of ls) ps
 
 abbrev pub ids_of : List Place → List ℕ
 ids_of ps = map (λ (p : Place). p.id) ps
+
+-- the places of live clauses
+abbrev pub live_places : List Place → List Place
+live_places ps = filter (λ (p : Place). p.live) ps
 
 -- each clause begins where those before it have ended
 abbrev pub AreInOrder : ℕ → List Place → Type 0

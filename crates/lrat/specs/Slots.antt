@@ -1,6 +1,7 @@
 -- Clauses in a row by rising ids, each present or taken out.
 use Rattle.std.specs.Prelude.{ℕ, ◌<◌, Bool, true, List, [], ◌∷◌, map, get_or, ℤ, cond, refl}
 use Rattle.std.specs.Coded.{Coded, code_by, coded×, coded_ℕ, coded_ℤ, coded_bool, coded_list}
+use Rattle.std.specs.List.{filter}
 use Rattle.std.specs.FinMap as fin
 use Rattle.lrat.specs.Store.{ById}
 
@@ -27,6 +28,10 @@ row_code = code_by (ℕ × List Slot) (coded× coded_ℕ (coded_list slot_code))
 abbrev pub live_of : List Slot → ById
 live_of [] = fin.empty
 live_of (s ∷ ss) = cond s.live (fin.insert (live_of ss) s.id s.clause) (fin.remove (live_of ss) s.id)
+
+-- the slots of live clauses
+abbrev pub live_slots : List Slot → List Slot
+live_slots ss = filter (λ s. s.live) ss
 
 -- the slot with its clause live
 abbrev pub revived : Slot → Slot

@@ -50,6 +50,12 @@ pub enum Fault {
     /// a clause has a variable that the formula lacks
     #[error("a variable is out of range")]
     VariableRange,
+    /// a line that several refutations are to share adds the empty clause
+    #[error("the empty clause is a lemma")]
+    EmptyLemma,
+    /// the last unit's id would pass 4,294,967,295
+    #[error("the units' ids would pass 4,294,967,295")]
+    NoIds,
 }
 
 impl From<Refused> for Fault {
@@ -79,6 +85,8 @@ impl Fault {
             Fault::NoEmptyClause => 49,
             Fault::AfterEmpty => 50,
             Fault::VariableRange => 51,
+            Fault::EmptyLemma => 52,
+            Fault::NoIds => 53,
         }
     }
 }

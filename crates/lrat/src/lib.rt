@@ -10,7 +10,9 @@
 //!   then nothing satisfies the formula. Each refusal has its first cause and that line.
 //! - `Proof::trimmed` leaves out of a proof what its empty clause does not rest on. The rest refutes
 //!   what the proof refutes.
-//! - `Refuter` does the same line by line, for many refutations that begin with one formula.
+//! - `Refuter` does the same line by line, for many refutations that begin with one formula, or
+//!   with one formula and lemmas.
+//! - `extends` checks lines that follow from a formula, as lemmas that many refutations share.
 //! - `read` and `parse_line` answer Ok exactly on the texts that spell a proof and a line, want of
 //!   memory aside; `write` puts the one text that spells a proof. `next_line` is for readers of
 //!   texts that have lines of proofs among other things.
@@ -21,6 +23,7 @@
 mod clause;
 mod clauses;
 mod derivation;
+mod extension;
 mod fault;
 mod formula;
 mod line;
@@ -45,6 +48,7 @@ mod writing;
 pub use clause::Clause;
 pub use clauses::Clauses;
 pub use derivation::{derive, derive_with};
+pub use extension::extends;
 pub use fault::Fault;
 pub use formula::Formula;
 pub use line::Line;

@@ -1,7 +1,7 @@
 //! Where clauses lie in a flat list.
 
 ghost use Rattle.std.specs.Prelude.{◌≡◌, ◌+◌, ◌≤◌, ◌<◌, All, Contains, MatchOption, drop, get_or, length, take};
-ghost use Rattle.lrat.specs.Places.{AreInOrder, ids_of, kept_at};
+ghost use Rattle.lrat.specs.Places.{AreInOrder, ids_of, kept_at, live_places};
 ghost use Rattle.lrat.specs.Slots.{IsRising};
 
 /// Where a clause's literals lie in the flat list.
@@ -47,6 +47,13 @@ fn search(places: &[Place], id: u32) -> Option<usize>
         }
     }
     None
+}
+
+/// Drops the places of the clauses that were taken out.
+pub fn keep_live(places: &mut Vec<Place>)
+    ensures { places.new.items ≡ live_places places.old.items }
+{
+    places.retain(|place| place.live);
 }
 
 /// Moves the clauses from index `first` on together behind `end`, in their order, and answers

@@ -1,13 +1,14 @@
 //! Proofs, checked line by line.
 
 ghost use Rattle.base.specs.Witness.{witness};
-ghost use Rattle.std.specs.Prelude.{◌≡◌, ◌≢◌, ◌+◌, ◌<◌, ◌^◌, ◌⊎◌, Bool, true, false, None, Some, map, length, All, IfOk, IfErr, IfSome, OnOk, OnErr, unsigned_abs};
+ghost use Rattle.std.specs.Prelude.{◌≡◌, ◌≢◌, ◌+◌, ◌≤◌, ◌<◌, ◌^◌, ◌⊎◌, ◌↔◌, Bool, true, false, [], None, Some, map, length, All, IfOk, IfErr, IfSome, IsTrue, OnOk, OnErr, unsigned_abs};
 ghost use Rattle.lrat.specs.Courses.{at_formula, at_units};
 ghost use Rattle.lrat.specs.Halts.{Halts, LacksOne};
+ghost use Rattle.lrat.specs.Lemmas.{AddsEmpty, IsNoLemma, base_at};
 ghost use Rattle.lrat.specs.Limits.{IsFormula, IsHint, IsId, IsLine};
 ghost use Rattle.lrat.specs.Literals.{IsLiteral};
 ghost use Rattle.lrat.specs.Stages.{Stage, Goes, IsPositive, TakesOut};
-ghost use Rattle.lrat.specs.declared.fault.Fault.TheVariants.{OutOfMemory, NegativeHint, NoEmptyClause, UnknownId};
+ghost use Rattle.lrat.specs.declared.fault.Fault.TheVariants.{OutOfMemory, NegativeHint, NoEmptyClause, NoIds, UnknownId};
 ghost use Rattle.lrat.specs.declared.line.Line.TheVariants.{Add};
 
 use crate::derivation::derive_with;
@@ -21,6 +22,7 @@ use std::alloc::Global;
 use std::marker::Model;
 
 /// A refutation in progress, of a formula or of a formula with some literals as further clauses.
+/// Lemmas may come first: lines that all later refutations share, as they share the formula.
 /// After a refusal every further call answers that refusal.
 ///
 /// It keeps one mark for each variable and one buffer of hints through all lines and all
@@ -69,19 +71,65 @@ impl Refuter {
         })
     }
 
-    /// Begins anew at the formula of `new`, with each of these literals as a clause of its own
-    /// under the next ids. It costs what was fed since the last beginning, and the units.
-    pub fn begin(&mut self, _alloc: Global, units: &[i32]) -> Result<(), Fault>
-        requires in_range { All (IsLiteral self.old.base.vars) units.now }
-        requires few { self.old.base.top + length units.now < 2 ^ 32 }
+    /// Checks the next line as a lemma: as `feed`, but a line that adds the empty clause is refused
+    /// before anything else about it is looked at.
+    pub fn lemma(&mut self, line: &Line) -> Result<(), Fault>
+        requires { IsLine line.now }
         ensures base { self.new.base ≡ self.old.base }
         ensures stands { IfSome self.old.refusal (λ e. (result ≡ Err e) × (self.new ≡ self.old)) }
-        ensures ok { OnOk result ((self.old.refusal ≡ None) × (self.new ≡ at_units self.old.base units.now)) }
-        ensures memory { IfErr result (λ e. self.old.refusal ≡ None → e ≡ OutOfMemory witness) }
+        ensures ok { OnOk result ((self.old.refusal ≡ None) × (self.new.refusal ≡ None) × Goes self.old.base.vars self.old.stage line.now self.new.stage) }
+        ensures not_empty { OnOk result (AddsEmpty line.now → ⊥) }
+        ensures stays_open { OnOk result (self.new.stage.closed ≡ false) }
+        ensures refused { IfErr result (λ e. self.old.refusal ≡ None → IsNoLemma self.old.base.vars self.old.stage line.now e) }
+        ensures complete { IfErr result (λ e. self.old.refusal ≡ None → e ≢ OutOfMemory witness → (AddsEmpty line.now → ⊥) → (t : Stage) → Goes self.old.base.vars self.old.stage line.now t → ⊥) }
         ensures from_then { IfErr result (λ e. self.new.refusal ≡ Some e) }
     {
         if let Some(fault) = self.refusal {
             return Err(fault);
+        }
+        let answer = self.advance_lemma(line);
+        if let Err(fault) = answer {
+            self.refusal = Some(fault);
+        }
+        answer
+    }
+
+    /// Says that no lemma is left: the clauses that are present now are those that all further
+    /// refutations begin with, and the first of these begins, without units. It takes no memory,
+    /// and costs the clauses that are present or were deleted.
+    pub fn share(&mut self) -> Result<(), Fault>
+        ensures stands { IfSome self.old.refusal (λ e. (result ≡ Err e) × (self.new ≡ self.old)) }
+        ensures ok { OnOk result ((self.old.refusal ≡ None) × (self.new ≡ at_units (base_at self.old.base.vars self.old.stage) [])) }
+        ensures refused { IfErr result (λ e. self.old.refusal ≡ Some e) }
+    {
+        if let Some(fault) = self.refusal {
+            return Err(fault);
+        }
+        self.closed = false;
+        self.stack.share();
+        Ok(())
+    }
+
+    /// Begins anew at the clauses that are shared, those of the formula of `new` before `share`,
+    /// with each of these literals as a clause of its own under the next ids. Where these ids would
+    /// pass 4,294,967,295 it is refused, and nothing else changes. It costs what was fed since the
+    /// last beginning, and the units.
+    pub fn begin(&mut self, _alloc: Global, units: &[i32]) -> Result<(), Fault>
+        requires in_range { All (IsLiteral self.old.base.vars) units.now }
+        ensures base { self.new.base ≡ self.old.base }
+        ensures stands { IfSome self.old.refusal (λ e. (result ≡ Err e) × (self.new ≡ self.old)) }
+        ensures ok { OnOk result ((self.old.refusal ≡ None) × (self.new ≡ at_units self.old.base units.now)) }
+        ensures few { OnOk result (self.old.base.top + length units.now < 2 ^ 32) }
+        ensures memory { IfErr result (λ e. self.old.refusal ≡ None → ((e ≡ OutOfMemory witness) × (self.old.base.top + length units.now < 2 ^ 32)) ⊎ ((e ≡ NoIds) × (2 ^ 32 ≤ self.old.base.top + length units.now))) }
+        ensures no_ids { IfErr result (λ e. e ≡ NoIds → self.new ≡ record self.old { refusal = Some e }) }
+        ensures from_then { IfErr result (λ e. self.new.refusal ≡ Some e) }
+    {
+        if let Some(fault) = self.refusal {
+            return Err(fault);
+        }
+        if units.len() > (u32::MAX - self.stack.shared_top()) as usize {
+            self.refusal = Some(Fault::NoIds);
+            return Err(Fault::NoIds);
         }
         self.closed = false;
         self.stack.rewind();
@@ -149,6 +197,21 @@ impl Refuter {
         }
     }
 
+    /// Takes a line as a lemma where nothing was refused yet.
+    fn advance_lemma(&mut self, line: &Line) -> Result<(), Fault>
+        requires { IsLine line.now }
+        ensures base { self.new.base ≡ self.old.base }
+        ensures refusal { self.new.refusal ≡ self.old.refusal }
+        ensures ok { OnOk result (Goes self.old.base.vars self.old.stage line.now self.new.stage) }
+        ensures not_empty { OnOk result (AddsEmpty line.now → ⊥) }
+        ensures refused { IfErr result (λ e. IsNoLemma self.old.base.vars self.old.stage line.now e) }
+    {
+        if adds_empty(line) {
+            return Err(Fault::EmptyLemma);
+        }
+        self.advance(line)
+    }
+
     /// Adds a clause where the empty clause wasn't added yet.
     fn add(&mut self, id: u32, clause: &[i32], hints: &[i64]) -> Result<(), Fault>
         requires are_open { self.old.stage.closed ≡ false }
@@ -167,6 +230,16 @@ impl Refuter {
         self.stack.add(id, clause)?;
         self.closed = clause.is_empty();
         Ok(())
+    }
+}
+
+/// Whether the line adds the empty clause.
+fn adds_empty(line: &Line) -> bool
+    ensures { IsTrue result ↔ AddsEmpty line.now }
+{
+    match line {
+        Line::Add { clause, .. } => clause.as_slice().is_empty(),
+        Line::Delete { .. } => false,
     }
 }
 

@@ -2,9 +2,9 @@
 
 ghost use Rattle.std.specs.Prelude.{◌≡◌, ◌≤◌, ◌<◌, ◌++◌, ◌∷◌, [], true, false, All, Contains, MatchOption, OnOk, OnErr, get_or, length, set, take};
 ghost use Rattle.lrat.specs.Literals.{IsLiteral};
-ghost use Rattle.lrat.specs.Slots.{Slot, IsRising, blank, ids_in};
+ghost use Rattle.lrat.specs.Slots.{Slot, IsRising, blank, ids_in, live_slots};
 
-use crate::place::{Place, close_up, position};
+use crate::place::{Place, close_up, keep_live, position};
 use base::{Refused, extend, push};
 use std::alloc::Global;
 use std::marker::Model;
@@ -55,6 +55,13 @@ impl Row {
         ensures { result ≡ self.now.vars }
     {
         self.vars
+    }
+
+    /// How many clauses have a place, also those that were taken out.
+    pub fn len(&self) -> usize
+        ensures { result ≡ length self.now.slots }
+    {
+        self.places.len()
     }
 
     /// Adds a clause behind the others. Without memory nothing changes.
@@ -152,6 +159,17 @@ impl Row {
             return;
         }
         let end = close_up(&mut self.literals, &mut self.places, first, start);
+        self.literals.truncate(end);
+        self.dead = 0;
+    }
+
+    /// Drops the clauses that were taken out, with their places and literals, for good. It takes no
+    /// memory, and costs the places and the literals.
+    pub fn compact(&mut self)
+        ensures { self.new ≡ record { vars = self.old.vars; slots = live_slots self.old.slots } }
+    {
+        keep_live(&mut self.places);
+        let end = close_up(&mut self.literals, &mut self.places, 0, 0);
         self.literals.truncate(end);
         self.dead = 0;
     }

@@ -18,14 +18,16 @@ use std::alloc::Global;
 use std::marker::Model;
 
 /// Clauses that many refutations share, and over them those of the one in progress, which can be
-/// forgotten in time of what it did. Ids rise, so that the shared clauses come first. A shared
-/// clause is found in constant time, and another in time of the logarithm.
+/// forgotten in time of what it did. Ids rise, so that the shared clauses come first. A clause is
+/// found in constant time where no id up to it is skipped, and else in time of the logarithm.
 #[derive(Drop)]
 pub struct Stack {
     /// the shared clauses, and then the refutation's own
     row: Row,
-    /// how many clauses are shared, which is the greatest of their ids
+    /// how many clauses are shared
     mark: u32,
+    /// the greatest id that was ever present when they were shared
+    shared_top: u32,
     /// the indices of the shared clauses that the refutation deleted
     hidden: Vec<u32>,
     /// the greatest id that was ever present
@@ -39,9 +41,9 @@ impl Model for Stack {
 
     ghost coded = { layers_code };
 
-    ghost view = { λ s. layers_of s.row s.mark s.top };
+    ghost view = { λ s. layers_of s.row s.mark s.shared_top s.top };
 
-    ghost invariant = { λ s. AreLayered s.row.slots s.mark s.hidden.items s.top };
+    ghost invariant = { λ s. AreLayered s.row.slots s.mark s.shared_top s.hidden.items s.top };
 }
 
 impl Stack {
@@ -56,6 +58,7 @@ impl Stack {
         Ok(Stack {
             row,
             mark,
+            shared_top: mark,
             hidden: Vec::new(alloc),
             top: mark,
         })
@@ -66,6 +69,13 @@ impl Stack {
         ensures { result ≡ self.now.top }
     {
         self.top
+    }
+
+    /// The greatest id that was ever present when the clauses were shared.
+    pub fn shared_top(&self) -> u32
+        ensures { result ≡ self.now.base.top }
+    {
+        self.shared_top
     }
 
     /// Adds a clause of the refutation's own. Without memory nothing changes.
@@ -116,14 +126,25 @@ impl Stack {
         Ok(true)
     }
 
-    /// Forgets what was added and taken out since `new`.
+    /// Shares what is present, in place of what was shared. It takes no memory, and costs the
+    /// clauses that there are.
+    pub fn share(&mut self)
+        ensures { self.new ≡ bare (record { vars = self.old.base.vars; present = self.old.present; top = self.old.top }) }
+    {
+        self.row.compact();
+        self.hidden.clear();
+        self.mark = self.row.len() as u32;
+        self.shared_top = self.top;
+    }
+
+    /// Forgets what was added and taken out since the clauses were shared.
     pub fn rewind(&mut self)
         ensures { self.new ≡ bare self.old.base }
     {
         self.row.truncate(self.mark as usize);
         revive(&mut self.row, self.hidden.as_slice());
         self.hidden.clear();
-        self.top = self.mark;
+        self.top = self.shared_top;
     }
 }
 

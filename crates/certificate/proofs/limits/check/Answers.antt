@@ -13,5 +13,6 @@ returns-clause-ok c =
       short = subst (All (λ clause. length clause ≤ 4194303)) clauses (c.if-not-are_short.ensures.short.0 refl);
       position = rw (← c.position-position.ensures) c.position-position.type_inv;
       literals = subst (All AreSmall) clauses (c.if-not-are_short.ensures.small refl);
+      lemmas = c.lemmas_fit.ensures;
       lines = subst (All (All IsLine)) sections c.lines_fit.ensures;
     }

@@ -11,5 +11,5 @@ pub returns-in-Ok-clause-certified : goal.returns-in-Ok-clause-certified
 returns-in-Ok-clause-certified c = (
   refl,
   c.in_ok-copy.ensures,
-  accepted c.args.circuit.now _ c.args.bad c.args.invariant.now c.in_ok-copy.ensures c.in_ok-examine.ensures.few c.in_ok-examine.ensures.good c.in-Ok.ensures.proved,
+  accepted c.args.circuit.now _ c.args.bad c.args.invariant.now c.in_ok-copy.ensures refl c.in_ok-examine.ensures.few c.in_ok-examine.ensures.good c.in-Ok.ensures.proved,
 )

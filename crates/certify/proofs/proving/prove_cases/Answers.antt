@@ -1,14 +1,17 @@
 use Rattle.std.proofs.Common.{rules, ◌≡◌, ◌++◌, [], ◌∷◌, map, sym, subst, SFits, w32}
 use Rattle.base.specs.Witness.{witness}
+use Rattle.lrat.specs.declared.formula.Formula.{Formula}
+use Rattle.lrat.specs.Shared.{Base, base_of}
 use Rattle.lrat.proofs.Fit.{err_gives, read32}
 use Rattle.cnf.specs.Clauses.{bad_units}
-use Rattle.cnf.specs.Formulas.{bad_formula, init_formula, shared_formula, step_formula}
-use Rattle.checker.specs.Accepted.{cases, IsProofOf, with_units}
+use Rattle.cnf.specs.Formulas.{bad_formula, shared_formula}
+use Rattle.cdcl.specs.Logged.{with_units}
+use Rattle.checker.specs.Accepted.{Case, cases, init_case, step_case, bad_case, IsProofOf}
 use Rattle.certify.specs.Halts.{IsHalt, IsHaltOf}
-use Rattle.certify.specs.Sections.{AreProofs}
+use Rattle.certify.specs.Sections.{AreProofs, case_over}
 use Rattle.certify.specs.declared.halt.Halt.TheVariants.{OutOfMemory}
 use Rattle.certify.specs.declared.counterexample.Case.TheVariants.{Bad}
-use Rattle.certify.proofs.Pairs.{case_is, none_yet, one_more}
+use Rattle.certify.proofs.Pairs.{case_is, case_over_is, none_yet, one_more}
 use Rattle.certify.proofs.Stopped.{halt_of}
 use Rattle.certify.proofs.proving.prove_cases.Goals as goal
 
@@ -41,11 +44,15 @@ pub returns-clause-proved : goal.returns-clause-proved
 returns-clause-proved c =
     let m = c.args.model.now in
     let inv = c.args.invariant.now in
+    let b : Base = base_of (shared_formula m inv) in
     let fits : SFits w32 c.bad_unit-unit.result = search rules in
-    let case : with_units c.prove_steps.new.refuter.formula (c.bad_unit-unit.result ∷ []) ≡ bad_formula m inv c.args.bad =
-    case_is c.prove_steps.new.refuter.formula (shared_formula m inv) (c.bad_unit-unit.result ∷ []) (bad_units m c.args.bad) (search rules) (search rules) in
-    subst (AreProofs (cases m inv c.args.bad)) (sym c.in_ok-push.ensures.ok)
-    (one_more (map (init_formula m) inv ++ map (step_formula m inv) inv) c.prove_steps.new.sections (bad_formula m inv c.args.bad) c.in_ok-prove.field-0
-    (c.in_ok-prove_steps.ensures.proved (map (init_formula m) inv) (c.in_ok-prove_initial.ensures.proved [] (rw c.new-sections.ensures none_yet)))
-    (subst (λ f. IsProofOf f c.in_ok-prove.field-0) case
-    (subst (λ x. IsProofOf (with_units c.prove_steps.new.refuter.formula (x ∷ [])) c.in_ok-prove.field-0) (read32 _ fits) c.in_ok-prove.ensures.proved)))
+    let loaded : c.in_ok-refuter.refuter.formula ≡ shared_formula m inv = search rules in
+    let case : case_over c.prove_steps.new.refuter.formula (c.bad_unit-unit.result ∷ []) ≡ bad_case m b c.args.bad =
+    case_over_is c.prove_steps.new.refuter.formula (shared_formula m inv) (c.bad_unit-unit.result ∷ []) (bad_units m c.args.bad) (search rules) (search rules) in
+    let steps : AreProofs (map (init_case m) inv ++ map (step_case m b) inv) c.prove_steps.new.sections =
+    subst (λ (f : Formula). AreProofs (map (init_case m) inv ++ map (step_case m (base_of f)) inv) c.prove_steps.new.sections) loaded
+    (c.in_ok-prove_steps.ensures.proved (map (init_case m) inv) (c.in_ok-prove_initial.ensures.proved [] (rw c.new-sections.ensures none_yet))) in
+    subst (AreProofs (cases m b inv c.args.bad)) (sym c.in_ok-push.ensures.ok)
+    (one_more (map (init_case m) inv ++ map (step_case m b) inv) c.prove_steps.new.sections (bad_case m b c.args.bad) c.in_ok-prove.field-0 steps
+    (subst (λ (x : Case). IsProofOf x c.in_ok-prove.field-0) case
+    (subst (λ x. IsProofOf (case_over c.prove_steps.new.refuter.formula (x ∷ [])) c.in_ok-prove.field-0) (read32 _ fits) c.in_ok-prove.ensures.proved)))

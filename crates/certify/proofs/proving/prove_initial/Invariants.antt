@@ -1,7 +1,6 @@
 use Rattle.std.proofs.Common.{◌≡◌, List, ◌++◌, map, take}
 use Rattle.base.specs.Budget.{Spends}
-use Rattle.lrat.specs.declared.formula.Formula.{Formula}
-use Rattle.cnf.specs.Formulas.{init_formula}
+use Rattle.checker.specs.Accepted.{Case, init_case}
 use Rattle.certify.specs.Sections.{AreProofs}
 use Rattle.certify.proofs.proving.prove_initial.Given as goal
 
@@ -9,5 +8,5 @@ abbrev pub invariant-loop-place : goal.invariant-loop-place
 invariant-loop-place l = record {
   same : l.refuter ≡ l.initial.refuter;
   spends : Spends l.initial.budget l.budget;
-  proved : (fs : List Formula) → AreProofs fs l.initial.sections → AreProofs (fs ++ map (init_formula l.model) (take l.place l.invariant')) l.sections;
+  proved : (cs : List Case) → AreProofs cs l.initial.sections → AreProofs (cs ++ map (init_case l.model) (take l.place l.invariant')) l.sections;
 }

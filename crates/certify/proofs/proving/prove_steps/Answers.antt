@@ -1,17 +1,19 @@
 use Rattle.std.proofs.Common.{rules, ◌≡◌, ◌≤◌, ◌∙◌, ◌++◌, [], get_or, length, map, sym, ap, subst, arith}
 use Rattle.graph.specs.declared.circuit.Lit.{Lit}
 use Rattle.base.specs.Witness.{witness}
+use Rattle.lrat.specs.Shared.{base_of}
 use Rattle.lrat.proofs.Fit.{err_gives}
 use Rattle.std.proofs.lemmas.List.{length-map, take_all}
 use Rattle.cnf.specs.Clauses.{denial, next_of, step_units}
 use Rattle.cnf.specs.Formulas.{IsOverLatches, step_formula, shared_formula}
-use Rattle.checker.specs.Accepted.{with_units}
+use Rattle.cdcl.specs.Logged.{with_units}
+use Rattle.checker.specs.Accepted.{step_case}
 use Rattle.checker.proofs.InOrder.{clause_is}
 use Rattle.certify.specs.Halts.{IsHalt}
-use Rattle.certify.specs.Sections.{AreProofs}
+use Rattle.certify.specs.Sections.{AreProofs, case_over}
 use Rattle.certify.specs.declared.halt.Halt.TheVariants.{OutOfMemory}
 use Rattle.certify.specs.declared.counterexample.Case.TheVariants.{Step}
-use Rattle.certify.proofs.Pairs.{case_is, one_mapped}
+use Rattle.certify.proofs.Pairs.{case_is, case_over_is, one_mapped}
 use Rattle.certify.proofs.Stopped.{halt_of}
 use Rattle.certify.proofs.proving.prove_steps.Goals as goal
 
@@ -46,13 +48,13 @@ loop-place-preserved c =
     let m = c.args.model.now in
     let inv = c.args.invariant.now in
     let clause = clause_is inv c.loop-place.place c.index-invariant-place.result c.as_slice.result.now c.loop-place-test.true c.index-invariant-place.is c.as_slice.ensures in
-    let case : with_units c.loop-place.refuter.formula c.as_slice-in-loop-place.result.now ≡ step_formula m inv (get_or inv c.loop-place.place []) =
-    case_is _ (shared_formula m inv) _ (step_units m (get_or inv c.loop-place.place [])) (search rules) (search rules) in
+    let case : case_over c.loop-place.refuter.formula c.as_slice-in-loop-place.result.now ≡ step_case m (base_of c.args.refuter.now.formula) (get_or inv c.loop-place.place []) =
+    case_over_is _ c.args.refuter.now.formula _ (step_units m (get_or inv c.loop-place.place [])) (search rules) (search rules) in
     record {
       same = search rules;
       spends = search rules;
-      proved = λ fs are. one_mapped fs c.loop-place.sections c.push.new.self (step_formula m inv) inv c.loop-place.place [] _ c.in_ok-prove.field-0 c.loop-place-test.true case
-          c.in_ok-prove.ensures.proved c.in_ok-push.ensures.ok (c.loop-place.invariant.proved fs are);
+      proved = λ cs are. one_mapped cs c.loop-place.sections c.push.new.self (step_case m (base_of c.args.refuter.now.formula)) inv c.loop-place.place [] _ c.in_ok-prove.field-0 c.loop-place-test.true case
+          c.in_ok-prove.ensures.proved c.in_ok-push.ensures.ok (c.loop-place.invariant.proved cs are);
     }
 
 pub returns-in_err-push-clause-halted : goal.returns-in_err-push-clause-halted
@@ -64,7 +66,7 @@ returns-in_err-units-clause-halted c =
     err_gives (λ h. (a : Lit) → IsHalt c.args.model.now c.args.invariant.now a c.loop-place.budget h) _ (OutOfMemory witness) c.from_residual-in_err-units.ensures.1 (λ a. tt)
 
 pub returns-clause-proved : goal.returns-clause-proved
-returns-clause-proved c = λ fs are.
+returns-clause-proved c = λ cs are.
     let m = c.args.model.now in
     let inv = c.args.invariant.now in
-    subst (λ cs. AreProofs (fs ++ map (step_formula m inv) cs) c.loop-place.sections) (take_all c.loop-place.place inv (omega (arith, c.loop-place-test.false))) (c.loop-place.invariant.proved fs are)
+    subst (λ l. AreProofs (cs ++ map (step_case m (base_of c.args.refuter.now.formula)) l) c.loop-place.sections) (take_all c.loop-place.place inv (omega (arith, c.loop-place-test.false))) (c.loop-place.invariant.proved cs are)

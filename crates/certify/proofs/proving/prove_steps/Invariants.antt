@@ -1,7 +1,7 @@
 use Rattle.std.proofs.Common.{◌≡◌, List, ◌++◌, map, take}
 use Rattle.base.specs.Budget.{Spends}
-use Rattle.lrat.specs.declared.formula.Formula.{Formula}
-use Rattle.cnf.specs.Formulas.{step_formula}
+use Rattle.lrat.specs.Shared.{base_of}
+use Rattle.checker.specs.Accepted.{Case, step_case}
 use Rattle.certify.specs.Sections.{AreProofs}
 use Rattle.certify.proofs.proving.prove_steps.Given as goal
 
@@ -9,5 +9,5 @@ abbrev pub invariant-loop-place : goal.invariant-loop-place
 invariant-loop-place l = record {
   same : l.refuter ≡ l.initial.refuter;
   spends : Spends l.initial.budget l.budget;
-  proved : (fs : List Formula) → AreProofs fs l.initial.sections → AreProofs (fs ++ map (step_formula l.model l.invariant') (take l.place l.invariant')) l.sections;
+  proved : (cs : List Case) → AreProofs cs l.initial.sections → AreProofs (cs ++ map (step_case l.model (base_of l.initial.refuter.formula)) (take l.place l.invariant')) l.sections;
 }

@@ -1,11 +1,11 @@
-use Rattle.std.proofs.Common.{subst}
+use Rattle.std.proofs.Common.{rules, subst}
 use Rattle.aiger.proofs.LayoutLaws.{match_gives}
 use Rattle.checker.specs.Accepted.{IsAcceptedCertificate}
 use Rattle.checker.specs.Causes.{HasCause}
 use Rattle.checker.specs.Verdicts.{Accepts, IsRefusal}
 use Rattle.checker.specs.Numbers.{number_of}
 use Rattle.checker.specs.Stops.{IsStop, stop_of, stop_of_load}
-use Rattle.checker.proofs.Said.{load_stops}
+use Rattle.checker.proofs.Said.{load_stops, no_device}
 use Rattle.checker.proofs.CertificateLaws.{accepts, first_stops, second_stops, check_stops}
 use Rattle.checker.proofs.certified.safe_property.Goals as goal
 
@@ -38,3 +38,9 @@ returns-clause-says g c xs ys first second =
 
 pub returns-clause-unread : goal.returns-clause-unread
 returns-clause-unread g c xs first none = absurd (none c.in_ok-file.file ((c.in_ok-file.ensures.says xs first).spells))
+
+pub returns-in_err-check-clause-fails : goal.returns-in_err-check-clause-fails
+returns-in_err-check-clause-fails g c = record {
+  failed = λ device. absurd (no_device c.from_residual-in_err-check.result (number_of c.in_err-check.field-0.0) c.from_residual-in_err-check.ensures.1 device);
+  kept = λ none. search rules;
+}

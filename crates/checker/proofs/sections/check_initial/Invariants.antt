@@ -1,6 +1,7 @@
 use Rattle.std.proofs.Common.{◌≡◌, None}
+use Rattle.graph.specs.declared.circuit.Lit.{Lit}
+use Rattle.lrat.specs.Shared.{Base, base_of}
 use Rattle.cnf.specs.Formulas.{start_formula}
-use Rattle.lrat.specs.Shared.{base_of}
 use Rattle.checker.specs.Accepted.{cases, RefuteBelow}
 use Rattle.checker.proofs.sections.check_initial.Given as goal
 
@@ -8,5 +9,5 @@ abbrev pub invariant-loop-k : goal.invariant-loop-k
 invariant-loop-k l = record {
   fresh : l.refuter.refusal ≡ None;
   base : l.refuter.base ≡ base_of (start_formula l.model);
-  below : RefuteBelow (cases l.model l.fn.invariant l.fn.bad) l.sections l.k;
+  below : (b : Base) (a : Lit) → RefuteBelow (cases l.model b l.certificate.invariant a) l.certificate.sections l.k;
 }

@@ -1,13 +1,19 @@
-use Rattle.std.proofs.Common.{◌≡◌, ◌∙◌, ap, subst, take}
+use Rattle.std.proofs.Common.{◌≡◌, ◌∙◌, ap, subst, arith}
 use Rattle.std.proofs.lemmas.List.{take_all}
-use Rattle.lrat.specs.Stages.{GoAlong, Goes}
 use Rattle.lrat.specs.Halts.{Halts}
-use Rattle.lrat.specs.Proofs.{first_stage, IsAcceptedProof, IsRefusedProof}
+use Rattle.lrat.specs.Shared.{over, IsAcceptedOver}
+use Rattle.lrat.specs.Stages.{GoAlong, Goes}
 use Rattle.lrat.proofs.Refuted.{along_next}
-use Rattle.lrat.proofs.Refusing.{refused_at, refused_open}
-use Rattle.checker.specs.Accepted.{with_units}
-use Rattle.checker.proofs.Shared.{along_of, vars_of}
+use Rattle.checker.specs.Accepted.{Case}
+use Rattle.checker.specs.Causes.{HasIds, IsRefusedCase}
+use Rattle.checker.proofs.RefusedCases.{refused_units, refused_line, refused_open}
 use Rattle.checker.proofs.sections.refute.Goals as goal
+
+pub returns-in-Err-clause-refused : goal.returns-in-Err-clause-refused
+returns-in-Err-clause-refused c =
+    let case : Case = record { base = c.args.refuter.now.base; units = c.args.units.now } in
+    let a = c.at.ensures in
+    refused_units case c.args.proof.now c.in-Err.fault _ (c.in-Err.ensures.memory c.requires.fresh) a.fault a.line a.memory
 
 pub loop-i-preserved : goal.loop-i-preserved
 loop-i-preserved c =
@@ -21,31 +27,32 @@ loop-i-preserved c =
     }
 
 pub returns-in-Err-feed-clause-refused : goal.returns-in-Err-feed-clause-refused
-returns-in-Err-feed-clause-refused c f is =
+returns-in-Err-feed-clause-refused c =
     let i = c.loop-i.invariant in
-    let n : c.loop-i.refuter.base.vars ≡ f.vars = ap (λ b. b.vars) i.base ∙ vars_of _ f is in
+    let case : Case = record { base = c.args.refuter.now.base; units = c.args.units.now } in
+    let ids : HasIds case = let few = c.in-Ok.ensures.few in omega arith in
+    let n : c.loop-i.refuter.base.vars ≡ c.args.refuter.now.base.vars = ap (λ b. b.vars) i.base in
     let a = c.at-in-Err-feed.ensures in
-    let along : GoAlong f.vars (first_stage (with_units f c.args.units.now)) (take c.loop-i.i c.lines-lines.result.now) c.loop-i.refuter.stage =
-    along_of _ f c.args.units.now _ _ is i.along in
-    subst (λ ls. IsRefusedProof (with_units f c.args.units.now) ls c.at-in-Err-feed.result) c.lines-lines.ensures.lines
-    (refused_at (with_units f c.args.units.now) c.lines-lines.result.now c.loop-i.i c.loop-i.refuter.stage c.index-lines-i.result c.in-Err-feed.fault _ c.loop-i-test.true along c.index-lines-i.is
+    subst (λ ls. IsRefusedCase case ls c.at-in-Err-feed.result) c.lines-lines.ensures.lines
+    (refused_line case c.lines-lines.result.now c.loop-i.i c.loop-i.refuter.stage c.index-lines-i.result c.in-Err-feed.fault _ ids c.loop-i-test.true i.along c.index-lines-i.is
     (subst (λ k. Halts k c.loop-i.refuter.stage c.index-lines-i.result c.in-Err-feed.fault) n (c.in-Err-feed.ensures.refused i.open_)) a.fault a.line a.memory)
 
 pub returns-in-Err-finish-clause-refused : goal.returns-in-Err-finish-clause-refused
-returns-in-Err-finish-clause-refused c f is =
+returns-in-Err-finish-clause-refused c =
     let i = c.loop-i.invariant in
+    let case : Case = record { base = c.args.refuter.now.base; units = c.args.units.now } in
+    let ids : HasIds case = let few = c.in-Ok.ensures.few in omega arith in
     let a = c.at-in-Err-finish.ensures in
     let e = c.in-Err-finish.ensures.open_end i.open_ in
-    let along : GoAlong f.vars (first_stage (with_units f c.args.units.now)) c.lines-lines.result.now c.loop-i.refuter.stage =
-    subst (λ ls. GoAlong f.vars (first_stage (with_units f c.args.units.now)) ls c.loop-i.refuter.stage) (take_all _ _ c.loop-i-test.false)
-    (along_of _ f c.args.units.now _ _ is i.along) in
-    subst (λ ls. IsRefusedProof (with_units f c.args.units.now) ls c.at-in-Err-finish.result) c.lines-lines.ensures.lines
-    (refused_open (with_units f c.args.units.now) c.lines-lines.result.now c.loop-i.refuter.stage c.in-Err-finish.fault _ along e.1 e.0 a.fault a.line)
+    let along : GoAlong case.base.vars (over case.base case.units) c.lines-lines.result.now c.loop-i.refuter.stage =
+    subst (λ ls. GoAlong case.base.vars (over case.base case.units) ls c.loop-i.refuter.stage) (take_all _ _ c.loop-i-test.false) i.along in
+    subst (λ ls. IsRefusedCase case ls c.at-in-Err-finish.result) c.lines-lines.ensures.lines
+    (refused_open case c.lines-lines.result.now c.loop-i.refuter.stage c.in-Err-finish.fault _ ids along e.1 e.0 a.fault a.line)
 
 pub returns-clause-accepted : goal.returns-clause-accepted
-returns-clause-accepted c f is =
+returns-clause-accepted c =
     let i = c.loop-i.invariant in
-    let along : GoAlong f.vars (first_stage (with_units f c.args.units.now)) c.lines-lines.result.now c.loop-i.refuter.stage =
-    subst (λ ls. GoAlong f.vars (first_stage (with_units f c.args.units.now)) ls c.loop-i.refuter.stage) (take_all _ _ c.loop-i-test.false)
-    (along_of _ f c.args.units.now _ _ is i.along) in
-    (c.lines-lines.ensures.are_lines, subst (λ ls. IsAcceptedProof (with_units f c.args.units.now) ls) c.lines-lines.ensures.lines (c.loop-i.refuter.stage, along, c.in-Ok-finish.ensures.ok.1))
+    let case : Case = record { base = c.args.refuter.now.base; units = c.args.units.now } in
+    let along : GoAlong case.base.vars (over case.base case.units) c.lines-lines.result.now c.loop-i.refuter.stage =
+    subst (λ ls. GoAlong case.base.vars (over case.base case.units) ls c.loop-i.refuter.stage) (take_all _ _ c.loop-i-test.false) i.along in
+    (c.lines-lines.ensures.are_lines, subst (λ ls. IsAcceptedOver case.base case.units ls) c.lines-lines.ensures.lines (c.loop-i.refuter.stage, along, c.in-Ok-finish.ensures.ok.1))

@@ -15,7 +15,7 @@ pub invariant_of-self-then-index-mark : goal.invariant_of-self-then-index-mark
 invariant_of-self-then-index-mark c =
     let ss : List Slot = c.self.inside.row.slots in
     let s : Slot = record { id = (get_or ss c.in-Some.index blank).id; live = false; clause = (get_or ss c.in-Some.index blank).clause } in
-    rw (c.mark.ensures.slots, c.in_ok-push.ensures.items) (hidden_layered ss c.self.inside.mark c.self.inside.hidden.items c.self.inside.top c.in-Some.index s c.self.invariant c.if-index-mark.true refl)
+    rw (c.mark.ensures.slots, c.in_ok-push.ensures.items) (hidden_layered ss c.self.inside.mark c.self.inside.shared_top c.self.inside.hidden.items c.self.inside.top c.in-Some.index s c.self.invariant c.if-index-mark.true refl)
 
 pub returns-then-index-mark-clause-ok : goal.returns-then-index-mark-clause-ok
 returns-then-index-mark-clause-ok c =
@@ -23,7 +23,7 @@ returns-then-index-mark-clause-ok c =
     let ss : List Slot = u.row.slots in
     let s : Slot = record { id = (get_or ss c.in-Some.index blank).id; live = false; clause = (get_or ss c.in-Some.index blank).clause } in
     let at = c.in-Some.ensures in
-    rw (← c.self.view_is) (changed_layers u.row c.mark.new.self u.mark u.top u.top _ c.mark.ensures.vars
+    rw (← c.self.view_is) (changed_layers u.row c.mark.new.self u.mark u.shared_top u.top u.top _ c.mark.ensures.vars
     (ap (λ (ts : List Slot). map revived (take u.mark ts)) c.mark.ensures.slots ∙ revived_set ss u.mark c.in-Some.index false)
     (ap live_of c.mark.ensures.slots ∙ live_gone ss c.in-Some.index c.args.id s c.self.invariant.rising at.within at.here refl refl))
 
@@ -31,7 +31,7 @@ pub invariant_of-self-2 : goal.invariant_of-self-2
 invariant_of-self-2 c =
     let ss : List Slot = c.self.inside.row.slots in
     let s : Slot = record { id = (get_or ss c.in-Some.index blank).id; live = false; clause = [] } in
-    rw (c.tidy.ensures, c.drop_at.ensures.slots) (dropped_layered ss c.self.inside.mark c.self.inside.hidden.items c.self.inside.top c.in-Some.index s c.self.invariant (omega (arith, c.if-index-mark.false)) refl)
+    rw (c.tidy.ensures, c.drop_at.ensures.slots) (dropped_layered ss c.self.inside.mark c.self.inside.shared_top c.self.inside.hidden.items c.self.inside.top c.in-Some.index s c.self.invariant (omega (arith, c.if-index-mark.false)) refl)
 
 pub returns-clause-ok : goal.returns-clause-ok
 returns-clause-ok c =
@@ -40,6 +40,6 @@ returns-clause-ok c =
     let s : Slot = record { id = (get_or ss c.in-Some.index blank).id; live = false; clause = [] } in
     let at = c.in-Some.ensures in
     let slots = ap (λ (r : Row). r.slots) c.tidy.ensures ∙ c.drop_at.ensures.slots in
-    rw (← c.self.view_is) (changed_layers u.row c.tidy.new.self u.mark u.top u.top _ (ap (λ (r : Row). r.vars) c.tidy.ensures ∙ c.drop_at.ensures.vars)
+    rw (← c.self.view_is) (changed_layers u.row c.tidy.new.self u.mark u.shared_top u.top u.top _ (ap (λ (r : Row). r.vars) c.tidy.ensures ∙ c.drop_at.ensures.vars)
     (ap (λ (ts : List Slot). map revived (take u.mark ts)) slots ∙ dropped_shared ss u.mark c.in-Some.index s (omega (arith, c.if-index-mark.false)))
     (ap live_of slots ∙ live_gone ss c.in-Some.index c.args.id s c.self.invariant.rising at.within at.here refl refl))
