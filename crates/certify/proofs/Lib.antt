@@ -1,3 +1,4 @@
+pub mod Closed
 pub mod Pairs
 pub mod Stopped
 mod Shown

@@ -1,5 +1,5 @@
 -- Proofs, each of its own case, one after the other.
-use Rattle.std.proofs.Common.{◌≡◌, ℕ, ◌+◌, ◌*◌, ◌<◌, ◌≤◌, true, List, [], ◌∷◌, ◌++◌, map, length, get_or, take, All, Option, None, ℤ, refl, sym, ap, subst, ◌∙◌, arith, length-append, append_assoc}
+use Rattle.std.proofs.Common.{◌≡◌, ℕ, ◌+◌, ◌*◌, ◌<◌, ◌≤◌, true, List, [], ◌∷◌, ◌++◌, map, length, get_or, take, All, ℤ, refl, sym, ap, subst, ◌∙◌, arith, length-append, append_assoc}
 use Rattle.std.proofs.lemmas.List.{get_or_append_left, get_or_at, length-map, map_more}
 use Rattle.graph.specs.declared.circuit.Lit.{Lit}
 use Rattle.graph.specs.declared.parts.Parts.{Parts}
@@ -7,12 +7,11 @@ use Rattle.lrat.specs.declared.formula.Formula.{Formula}
 use Rattle.lrat.specs.declared.line.Line.{Line}
 use Rattle.lrat.specs.Limits.{IsLine}
 use Rattle.lrat.specs.Proofs.{IsAcceptedProof}
-use Rattle.lrat.specs.Shared.{Base, base_of}
+use Rattle.lrat.specs.Shared.{Base}
 use Rattle.lrat.specs.Stages.{Stage, GoAlong}
 use Rattle.lrat.proofs.Sharing.{over_law}
 use Rattle.certificate.specs.declared.certificate.Certificate.{Certificate}
 use Rattle.cdcl.specs.Logged.{with_units}
-use Rattle.cnf.specs.Formulas.{shared_formula}
 use Rattle.checker.specs.Accepted.{Case, init_case, step_case, bad_case, cases, IsAcceptedFor, IsGood, IsProofOf, IsShared, RefuteBelow}
 use Rattle.checker.proofs.InOrder.{refute_more}
 use Rattle.certify.specs.Sections.{AreProofs, case_over}
@@ -42,12 +41,12 @@ one_more cs ps c p are proof =
       each = λ k k_in. more k (omega (arith, length-append ps (p ∷ [])));
     }
 
--- one more of the cases of a list of clauses, and its proof
-pub one_mapped : (cs : List Case) (ps qs : List (List Line)) (h : List Lit → Case) (inv : List (List Lit)) (k : ℕ) (d : List Lit) (c : Case) (p : List Line) → k < length inv →
-    c ≡ h (get_or inv k d) → IsProofOf c p → qs ≡ ps ++ p ∷ [] → AreProofs (cs ++ map h (take k inv)) ps → AreProofs (cs ++ map h (take (k + 1) inv)) qs
-one_mapped cs ps qs h inv k d c p k_in is proof same are =
-    rw (map_more h inv k d k_in, sym is, sym (append_assoc cs (map h (take k inv)) (c ∷ [])), same)
-    (one_more (cs ++ map h (take k inv)) ps c p are proof)
+-- one more of the cases of a list, and its proof
+pub one_mapped : {X : Type 0} (cs : List Case) (ps qs : List (List Line)) (h : X → Case) (xs : List X) (k : ℕ) (d : X) (c : Case) (p : List Line) → k < length xs →
+    c ≡ h (get_or xs k d) → IsProofOf c p → qs ≡ ps ++ p ∷ [] → AreProofs (cs ++ map h (take k xs)) ps → AreProofs (cs ++ map h (take (k + 1) xs)) qs
+one_mapped cs ps qs h xs k d c p k_in is proof same are =
+    rw (map_more h xs k d k_in, sym is, sym (append_assoc cs (map h (take k xs)) (c ∷ [])), same)
+    (one_more (cs ++ map h (take k xs)) ps c p are proof)
 
 -- a case is what its cases share, with its units
 pub case_is : (f g : Formula) (us vs : List ℤ) → f ≡ g → us ≡ vs → with_units f us ≡ with_units g vs
@@ -67,16 +66,14 @@ count_of_cases m b inv a =
       length-map inv (step_case m b),
     )
 
--- proofs of all cases make a certificate that is accepted, with no lemmas
-pub accepted : (m : Parts) (c : Certificate) (a : Lit) (inv : List (List Lit)) → c.invariant ≡ inv → c.lemmas ≡ None → length inv ≤ 4194303 → All (IsGood m) inv →
-    AreProofs (cases m (base_of (shared_formula m inv)) inv a) c.sections → IsAcceptedFor m a c
-accepted m c a inv is_inv none few good are =
-    let b : Base = base_of (shared_formula m inv) in
-    record {
-      few = subst (λ (i : List (List Lit)). length i ≤ 4194303) (sym is_inv) few;
-      count = are.count ∙ count_of_cases m b inv a ∙ ap (λ (i : List (List Lit)). 2 * length i + 1) (sym is_inv);
-      clauses = subst (All (IsGood m)) (sym is_inv) good;
-      base = b;
-      shared = subst (λ (i : List (List Lit)). IsShared m i c.lemmas b) (sym is_inv) (subst (λ (ls : Option (List Line)). IsShared m inv ls b) (sym none) refl);
-      sections = subst (λ (i : List (List Lit)). RefuteBelow (cases m b i a) c.sections (length c.sections)) (sym is_inv) are.each;
-    }
+-- proofs of all cases make a certificate that is accepted
+pub accepted : (m : Parts) (c : Certificate) (a : Lit) (inv : List (List Lit)) (b : Base) → c.invariant ≡ inv → length inv ≤ 4194303 → All (IsGood m) inv →
+    IsShared m inv c.lemmas b → AreProofs (cases m b inv a) c.sections → IsAcceptedFor m a c
+accepted m c a inv b is_inv few good shared are = record {
+  few = subst (λ (i : List (List Lit)). length i ≤ 4194303) (sym is_inv) few;
+  count = are.count ∙ count_of_cases m b inv a ∙ ap (λ (i : List (List Lit)). 2 * length i + 1) (sym is_inv);
+  clauses = subst (All (IsGood m)) (sym is_inv) good;
+  base = b;
+  shared = subst (λ (i : List (List Lit)). IsShared m i c.lemmas b) (sym is_inv) shared;
+  sections = subst (λ (i : List (List Lit)). RefuteBelow (cases m b i a) c.sections (length c.sections)) (sym is_inv) are.each;
+}

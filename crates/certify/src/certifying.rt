@@ -54,11 +54,11 @@ fn certify_for(
     let copy = copied(alloc, invariant)?;
     circuit.parts();
     match prove_cases(alloc, circuit, invariant, bad, budget) {
-        Ok(sections) => Ok(Certified::Certificate(Certificate {
+        Ok(proofs) => Ok(Certified::Certificate(Certificate {
             property,
             invariant: copy,
-            lemmas: None,
-            sections,
+            lemmas: Some(proofs.lemmas),
+            sections: proofs.sections,
         })),
         Err(Halt::NotInvariant(found)) => Ok(Certified::NotInvariant(found)),
         Err(Halt::Spent) => Ok(Certified::Spent),
@@ -132,7 +132,7 @@ fn certify_property(
     }
 }
 
-/// A certificate of the clauses for the property, which the checker accepts. The clauses are not
+/// A certificate of the clauses for the property, of version 2, which the checker accepts. The clauses are not
 /// believed: each of their cases is to be refuted, and where something satisfies one, the case and
 /// the values are answered. They say that the clauses are no inductive invariant which excludes the
 /// bad literal, and nothing of the property. For a justice property the clauses are about its shadow

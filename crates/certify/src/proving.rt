@@ -1,17 +1,19 @@
 //! A proof for each case of an invariant.
 
-ghost use Rattle.std.specs.Prelude.{◌≡◌, ◌≤◌, ◌++◌, All, Contains, List, map, length, IfErr, IfOk, OnOk};
+ghost use Rattle.std.specs.Prelude.{◌≡◌, ◌≤◌, ◌++◌, ◌∷◌, [], All, Contains, List, Some, map, length, IfErr, IfOk, OnOk};
 ghost use Rattle.graph.specs.declared.circuit.Lit.{Lit};
 ghost use Rattle.graph.specs.WellFormed.{used};
 ghost use Rattle.base.specs.Budget.{Spends};
 ghost use Rattle.lrat.specs.Literals.{IsLiteral};
-ghost use Rattle.lrat.specs.Shared.{base_of};
+ghost use Rattle.lrat.specs.Shared.{Base};
+ghost use Rattle.cnf.specs.Clauses.{step_units};
 ghost use Rattle.cnf.specs.Formulas.{IsInvariant, shared_formula};
 ghost use Rattle.cdcl.specs.Logged.{with_units};
-ghost use Rattle.checker.specs.Accepted.{Case as AnyCase, IsProofOf, cases, init_case, step_case};
+ghost use Rattle.checker.specs.Accepted.{Case as AnyCase, IsProofOf, IsShared, bad_case, cases, init_case, step_case};
 ghost use Rattle.certify.specs.Halts.{IsHalt, IsHaltOf};
-ghost use Rattle.certify.specs.Sections.{AreProofs, case_over};
+ghost use Rattle.certify.specs.Sections.{AreClosed, AreProofs, case_over};
 
+use crate::closed_cases::ClosedCases;
 use crate::counterexample::{Case, Counterexample};
 use crate::halt::Halt;
 use base::Budget;
@@ -20,6 +22,15 @@ use cnf::{NextTable, bad_unit, init_units, shared_base, start_base, step_units};
 use graph::{Lit, Model, Seq};
 use lrat::Proof;
 use std::alloc::Global;
+
+/// The proofs of an invariant's cases.
+#[derive(Drop)]
+pub struct Proofs {
+    /// what the step cases and the bad case share
+    pub lemmas: Proof,
+    /// a section for each case
+    pub sections: Seq<Proof>,
+}
 
 /// A proof that nothing satisfies what is loaded with these units, which are the case's.
 fn prove(
@@ -52,18 +63,16 @@ fn prove_initial(
     alloc: Global,
     model: &Model,
     invariant: &[Seq<Lit>],
-    room: u32,
     sections: &mut Seq<Proof>,
     budget: &mut Budget,
 ) -> Result<(), Halt>
     requires invariant { IsInvariant model.now invariant.now }
-    requires room { All (λ c. length c ≤ room) invariant.now }
     ensures spends { Spends budget.old budget.new }
     ensures proved { OnOk result ((cs : List AnyCase) → AreProofs cs sections.old → AreProofs (cs ++ map (init_case model.now) invariant.now) sections.new) }
     ensures halted { IfErr result (λ h. (a : Lit) → IsHalt model.now invariant.now a budget.new h) }
 {
     let start = start_base(alloc, model)?;
-    let mut refuter = Refuter::new(alloc, &start, room)?;
+    let mut refuter = Refuter::new(alloc, &start, most_literals(invariant))?;
     for (place, clause) in invariant.iter().enumerate() {
         let units = init_units(alloc, model, clause.as_slice())?;
         let case = Case::Initial(place as u64);
@@ -72,28 +81,29 @@ fn prove_initial(
     Ok(())
 }
 
-/// Adds a proof for the step case of each clause, where the circuit and the clauses are loaded.
-fn prove_steps(
+/// Closes the step case of each clause, where the circuit and the clauses are loaded.
+fn close_steps(
     alloc: Global,
     model: &Model,
     invariant: &[Seq<Lit>],
-    refuter: &mut Refuter,
-    sections: &mut Seq<Proof>,
+    cases: &mut ClosedCases,
     budget: &mut Budget,
 ) -> Result<(), Halt>
     requires invariant { IsInvariant model.now invariant.now }
-    requires loaded { refuter.old.formula ≡ shared_formula model.now invariant.now }
-    requires room { All (λ c. length c ≤ refuter.old.room) invariant.now }
-    ensures same { refuter.new ≡ refuter.old }
+    requires loaded { cases.old.refuter.formula ≡ shared_formula model.now invariant.now }
+    requires none { cases.old.units ≡ [] }
+    requires closed { AreClosed cases.old }
+    ensures formula { cases.new.refuter.formula ≡ cases.old.refuter.formula }
     ensures spends { Spends budget.old budget.new }
-    ensures proved { OnOk result ((cs : List AnyCase) → AreProofs cs sections.old → AreProofs (cs ++ map (step_case model.now (base_of refuter.old.formula)) invariant.now) sections.new) }
+    ensures closed { OnOk result (AreClosed cases.new) }
+    ensures units { OnOk result (cases.new.units ≡ map (step_units model.now) invariant.now) }
     ensures halted { IfErr result (λ h. (a : Lit) → IsHalt model.now invariant.now a budget.new h) }
 {
     let table = NextTable::new(alloc, model)?;
     for (place, clause) in invariant.iter().enumerate() {
         let units = step_units(alloc, model, &table, clause.as_slice())?;
         let case = Case::Step(place as u64);
-        sections.push(prove(alloc, refuter, case, units.as_slice(), budget)?)?;
+        cases.close(alloc, case, Seq::from_vec(units), budget)?;
     }
     Ok(())
 }
@@ -111,6 +121,52 @@ fn most_literals(invariant: &[Seq<Lit>]) -> u32
     most
 }
 
+/// Closes the step cases and the bad case, where the circuit and the clauses are loaded, adds a section
+/// for each, and answers the lemmas that they share.
+fn close_others(
+    alloc: Global,
+    model: &Model,
+    invariant: &[Seq<Lit>],
+    bad: Lit,
+    cases: &mut ClosedCases,
+    sections: &mut Seq<Proof>,
+    budget: &mut Budget,
+) -> Result<Proof, Halt>
+    requires invariant { IsInvariant model.now invariant.now }
+    requires bad { Contains (used model.now) bad }
+    requires loaded { cases.old.refuter.formula ≡ shared_formula model.now invariant.now }
+    requires none { cases.old.units ≡ [] }
+    requires closed { AreClosed cases.old }
+    ensures spends { Spends budget.old budget.new }
+    ensures proved { IfOk result (λ l. (b : Base) × IsShared model.now invariant.now (Some l) b × ((cs : List AnyCase) → AreProofs cs sections.old → AreProofs (cs ++ map (step_case model.now b) invariant.now ++ bad_case model.now b bad ∷ []) sections.new)) }
+    ensures halted { IfErr result (IsHalt model.now invariant.now bad budget.new) }
+{
+    close_steps(alloc, model, invariant, cases, budget)?;
+    let units = Seq::from_slice(alloc, &[bad_unit(model, bad)])?;
+    cases.close(alloc, Case::Bad, units, budget)?;
+    Ok(cases.write(alloc, sections)?)
+}
+
+/// Adds proofs for the step cases and the bad case, and answers the lemmas that they share. The circuit and
+/// the clauses are loaded once.
+fn prove_others(
+    alloc: Global,
+    model: &Model,
+    invariant: &[Seq<Lit>],
+    bad: Lit,
+    sections: &mut Seq<Proof>,
+    budget: &mut Budget,
+) -> Result<Proof, Halt>
+    requires invariant { IsInvariant model.now invariant.now }
+    requires bad { Contains (used model.now) bad }
+    ensures spends { Spends budget.old budget.new }
+    ensures proved { IfOk result (λ l. (b : Base) × IsShared model.now invariant.now (Some l) b × ((cs : List AnyCase) → AreProofs cs sections.old → AreProofs (cs ++ map (step_case model.now b) invariant.now ++ bad_case model.now b bad ∷ []) sections.new)) }
+    ensures halted { IfErr result (IsHalt model.now invariant.now bad budget.new) }
+{
+    let mut cases = ClosedCases::new(alloc, &shared_base(alloc, model, invariant)?)?;
+    close_others(alloc, model, invariant, bad, &mut cases, sections, budget)
+}
+
 /// A proof for each case: those of the initial states, of the steps, and of the bad literal.
 pub fn prove_cases(
     alloc: Global,
@@ -118,20 +174,15 @@ pub fn prove_cases(
     invariant: &[Seq<Lit>],
     bad: Lit,
     budget: &mut Budget,
-) -> Result<Seq<Proof>, Halt>
+) -> Result<Proofs, Halt>
     requires invariant { IsInvariant model.now invariant.now }
     requires bad { Contains (used model.now) bad }
     ensures spends { Spends budget.old budget.new }
-    ensures proved { IfOk result (AreProofs (cases model.now (base_of (shared_formula model.now invariant.now)) invariant.now bad)) }
+    ensures proved { IfOk result (λ r. (b : Base) × IsShared model.now invariant.now (Some r.lemmas) b × AreProofs (cases model.now b invariant.now bad) r.sections) }
     ensures halted { IfErr result (IsHalt model.now invariant.now bad budget.new) }
 {
-    let room = most_literals(invariant);
     let mut sections = Seq::new(alloc);
-    prove_initial(alloc, model, invariant, room, &mut sections, budget)?;
-    let shared = shared_base(alloc, model, invariant)?;
-    let mut refuter = Refuter::new(alloc, &shared, room)?;
-    prove_steps(alloc, model, invariant, &mut refuter, &mut sections, budget)?;
-    let unit = bad_unit(model, bad);
-    sections.push(prove(alloc, &mut refuter, Case::Bad, &[unit], budget)?)?;
-    Ok(sections)
+    prove_initial(alloc, model, invariant, &mut sections, budget)?;
+    let lemmas = prove_others(alloc, model, invariant, bad, &mut sections, budget)?;
+    Ok(Proofs { lemmas, sections })
 }

@@ -8,8 +8,9 @@ prove_cases-requires-clause-invariant c =
     invariant_from c.args.circuit.now c.args.invariant.now c.parts.ensures.well_formed c.in_ok-examine.ensures.few c.in_ok-examine.ensures.good
 
 pub returns-in-Ok-clause-certified : goal.returns-in-Ok-clause-certified
-returns-in-Ok-clause-certified c = (
-  refl,
-  c.in_ok-copy.ensures,
-  accepted c.args.circuit.now _ c.args.bad c.args.invariant.now c.in_ok-copy.ensures refl c.in_ok-examine.ensures.few c.in_ok-examine.ensures.good c.in-Ok.ensures.proved,
-)
+returns-in-Ok-clause-certified c =
+    let p = c.in-Ok.ensures.proved in (
+      refl,
+      c.in_ok-copy.ensures,
+      accepted c.args.circuit.now _ c.args.bad c.args.invariant.now p.0 c.in_ok-copy.ensures c.in_ok-examine.ensures.few c.in_ok-examine.ensures.good p.1 p.2,
+    )

@@ -29,7 +29,7 @@ prove-requires-clause-few c =
     let is = clause_is inv c.loop-place.place c.index-invariant-place.result c.as_slice.result.now c.loop-place-test.true c.index-invariant-place.is c.as_slice.ensures in
     let units : c.as_slice-in-loop-place.result.now ≡ init_units m (get_or inv c.loop-place.place []) = c.as_slice-in-loop-place.ensures.value ∙ c.in_ok-units.ensures.units ∙ ap (init_units m) is in
     let long : length c.as_slice-in-loop-place.result.now ≡ length (get_or inv c.loop-place.place []) = ap length units ∙ length-map (get_or inv c.loop-place.place []) (denial m.max_var 0) in
-    let short : length (get_or inv c.loop-place.place []) ≤ c.args.room = c.requires.room c.loop-place.place [] c.loop-place-test.true in
+    let short : length (get_or inv c.loop-place.place []) ≤ c.most_literals.result = c.most_literals.ensures.all c.loop-place.place [] c.loop-place-test.true in
     search rules
 
 pub returns-in_err-prove-clause-halted : goal.returns-in_err-prove-clause-halted
