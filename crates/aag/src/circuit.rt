@@ -7,8 +7,8 @@ ghost use Rattle.aag.specs.Sections.{lists_at, circuit_at};
 use crate::header::{Header, read_header};
 use crate::lines::{GREATEST, GateLine, InputLine, LatchLine, NotDefining};
 use crate::refusal::Refusal;
-use crate::uses::{Uses, read_uses};
-use graph::{Parts, Seq};
+use crate::uses::read_uses;
+use graph::Parts;
 use scan::{Fault, lines};
 use std::alloc::Global;
 
@@ -27,24 +27,7 @@ fn lists(
     let (latches, rest) = lines::<LatchLine>(alloc, header.latches, rest, max_var)?;
     let (uses, rest) = read_uses::<NotDefining>(alloc, header, rest)?;
     let (gates, rest) = lines::<GateLine>(alloc, header.gates, rest, max_var)?;
-    let Uses {
-        outputs,
-        bad,
-        constraints,
-        justice,
-        fairness,
-    } = uses;
-    let parts = Parts {
-        max_var,
-        inputs: Seq::from_vec(inputs),
-        latches: Seq::from_vec(latches),
-        outputs,
-        bad,
-        constraints,
-        justice,
-        fairness,
-        gates: Seq::from_vec(gates),
-    };
+    let parts = uses.into_parts(max_var, inputs, latches, gates);
     Ok((parts, rest))
 }
 

@@ -8,7 +8,7 @@ use crate::header::Header;
 use crate::justice::justice;
 use crate::lines::{GREATEST, UseLine};
 use crate::refusal::Refusal;
-use graph::{Lit, Seq};
+use graph::{Gate, Latch, Lit, Parts, Seq};
 use scan::{Fault, lines};
 use std::alloc::Global;
 
@@ -20,6 +20,38 @@ pub struct Uses {
     pub constraints: Seq<Lit>,
     pub justice: Seq<Seq<Lit>>,
     pub fairness: Seq<Lit>,
+}
+
+impl Uses {
+    /// The circuit that uses its literals so, with what it defines.
+    pub fn into_parts(
+        self,
+        max_var: u32,
+        inputs: Vec<Lit>,
+        latches: Vec<Latch>,
+        gates: Vec<Gate>,
+    ) -> Parts
+        ensures { result ≡ record { max_var = max_var; inputs = inputs.items; latches = latches.items; outputs = self.outputs; bad = self.bad; constraints = self.constraints; justice = self.justice; fairness = self.fairness; gates = gates.items } }
+    {
+        let Uses {
+            outputs,
+            bad,
+            constraints,
+            justice,
+            fairness,
+        } = self;
+        Parts {
+            max_var,
+            inputs: Seq::from_vec(inputs),
+            latches: Seq::from_vec(latches),
+            outputs,
+            bad,
+            constraints,
+            justice,
+            fairness,
+            gates: Seq::from_vec(gates),
+        }
+    }
 }
 
 /// As many outputs, bad literals, constraints, justice properties and fairness literals as the

@@ -7,8 +7,8 @@ ghost use Rattle.aig.specs.Sections.{lists_at, circuit_at};
 use crate::delta::NoDelta;
 use crate::lines::{GateDeltas, Input, LatchLine};
 use crate::numbered::numbered;
-use aag::{Header, Refusal, Uses, read_header, read_uses};
-use graph::{Parts, Seq};
+use aag::{Header, Refusal, read_header, read_uses};
+use graph::Parts;
 use scan::Fault;
 use std::alloc::Global;
 
@@ -31,24 +31,7 @@ fn lists(
     let (uses, rest) = read_uses::<NoDelta>(alloc, header, rest)?;
     let (gates, rest) = numbered::<GateDeltas>(alloc, max_var, gate, header.gates, rest)?;
     let (inputs, rest) = numbered::<Input>(alloc, max_var, 1, header.inputs, rest)?;
-    let Uses {
-        outputs,
-        bad,
-        constraints,
-        justice,
-        fairness,
-    } = uses;
-    let parts = Parts {
-        max_var,
-        inputs: Seq::from_vec(inputs),
-        latches: Seq::from_vec(latches),
-        outputs,
-        bad,
-        constraints,
-        justice,
-        fairness,
-        gates: Seq::from_vec(gates),
-    };
+    let parts = uses.into_parts(max_var, inputs, latches, gates);
     Ok((parts, rest))
 }
 
