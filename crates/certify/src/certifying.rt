@@ -3,10 +3,11 @@
 ghost use Rattle.std.specs.Prelude.{◌≡◌, Contains, IfErr, IfOk};
 ghost use Rattle.base.specs.Budget.{Spends};
 ghost use Rattle.graph.specs.declared.circuit.Property.TheVariants.{Justice};
-ghost use Rattle.graph.specs.Properties.{position_of};
+ghost use Rattle.graph.specs.Properties.{HasProperty, position_of};
 ghost use Rattle.graph.specs.WellFormed.{used};
 ghost use Rattle.cnf.specs.Invariants.{IsInductive};
 ghost use Rattle.checker.specs.Accepted.{circuit_of, bad_of};
+ghost use Rattle.live_safe.specs.Shadow.{shadow_of};
 ghost use Rattle.certify.specs.Causes.{HasCause, HasCauseFor, IsUnspent};
 ghost use Rattle.certify.specs.Outcomes.{IsCertified, IsCertifiedFor};
 ghost use Rattle.certify.specs.declared.certified.Certified.TheVariants.{NotInvariant};
@@ -67,6 +68,30 @@ fn certify_for(
     }
 }
 
+/// A certificate of the justice property at position `n`, as `certify` makes it, for a caller that has the
+/// shadow circuit already.
+pub fn certify_shadow(
+    alloc: Global,
+    model: &Model,
+    n: u32,
+    shadow: &Model,
+    invariant: &[Seq<Lit>],
+    budget: &mut Budget,
+) -> Result<Certified, CertifyError>
+    requires there { HasProperty model.now (Justice n) }
+    requires shadow { shadow.now ≡ shadow_of model.now n }
+    ensures spends { Spends budget.old budget.new }
+    ensures certified { IfOk result (IsCertified model.now (Justice n) invariant.now budget.new) }
+    // What is inductive and excludes the bad literal is never called no invariant.
+    ensures honest { IfOk result (λ r. (x : Counterexample) → r ≡ NotInvariant x → IsInductive (circuit_of model.now (Justice n)) invariant.now (bad_of model.now (Justice n)) → ⊥) }
+    ensures refused { IfErr result (HasCause model.now (Justice n) invariant.now) }
+    ensures unspent { IfErr result (IsUnspent budget.old budget.new) }
+{
+    shadow.parts();
+    let bad = shadow.bad()[0];
+    certify_for(alloc, shadow, bad, Property::Justice(n), invariant, budget)
+}
+
 /// A certificate of the justice property at position `n`, by clauses about its shadow circuit.
 fn certify_justice(
     alloc: Global,
@@ -81,14 +106,7 @@ fn certify_justice(
     ensures unspent { IfErr result (IsUnspent budget.old budget.new) }
 {
     match to_safety(alloc, model, n) {
-        Ok(shadow) => certify_for(
-            alloc,
-            &shadow,
-            shadow.bad()[0],
-            Property::Justice(n),
-            invariant,
-            budget,
-        ),
+        Ok(shadow) => certify_shadow(alloc, model, n, &shadow, invariant, budget),
         Err(LiveError::NoProperty(_)) => Err(CertifyError::NoProperty(n)),
         Err(LiveError::Limit) => Err(CertifyError::Limit),
         Err(LiveError::OutOfMemory(refused)) => Err(CertifyError::OutOfMemory(refused)),

@@ -22,5 +22,5 @@ mod proving;
 
 pub use certified::Certified;
 pub use certify_error::CertifyError;
-pub use certifying::certify;
+pub use certifying::{certify, certify_shadow};
 pub use counterexample::{Case, Counterexample};

@@ -1,5 +1,5 @@
 -- What is known of engines that were asked one after the other.
-use Rattle.std.proofs.Common.{◌≡◌, ℕ, ◌+◌, ◌-◌, ◌<◌, ◌≤◌, List, [], ◌∷◌, ◌++◌, length, take, drop, get_or, set, Bool, Option, Some, None, Result, Ok, Err, IfOk, IfErr, IsErrAnd, All, arith, refl, inl, inr, sym, ap, ◌∙◌, subst, length-drop}
+use Rattle.std.proofs.Common.{◌≡◌, ℕ, ◌+◌, ◌-◌, ◌<◌, ◌≤◌, List, [], ◌∷◌, ◌++◌, length, take, drop, get_or, set, Bool, Some, None, Result, Ok, Err, IfOk, IfErr, arith, refl, inl, inr, sym, ap, ◌∙◌, subst, length-drop}
 use Rattle.std.proofs.lemmas.List.{drop_more, drop-drop, drop-set-lt, get_or_at, length-take-le, take-append-drop, take_all, take_more}
 use Rattle.base.specs.Budget.{Spends, Steps}
 use Rattle.base.specs.Witness.{witness}
@@ -9,14 +9,12 @@ use Rattle.graph.specs.declared.parts.Parts.{Parts}
 use Rattle.graph.specs.Properties.{HasProperty}
 use Rattle.graph.specs.WellFormed.{IsWellFormed}
 use Rattle.stimulus.specs.declared.value.Stimulus.{Stimulus}
-use Rattle.cnf.specs.Invariants.{IsInductive}
 use Rattle.certificate.specs.declared.certificate.Certificate.{Certificate}
-use Rattle.checker.specs.Accepted.{IsGood, IsUpheld, bad_of, circuit_of}
+use Rattle.checker.specs.Accepted.{IsUpheld, circuit_of}
 use Rattle.checker.specs.declared.invariant.ClauseFault.TheVariants as fault
 use Rattle.checker.proofs.Accepted.{accepted_law, first_fault_refuses}
 use Rattle.certify.specs.Causes.{HasCause as IsUncertified}
 use Rattle.certify.specs.Outcomes.{IsCertified}
-use Rattle.certify.specs.declared.certified.Certified.{Certified}
 use Rattle.certify.specs.declared.certified.Certified.TheVariants as outcome
 use Rattle.certify.specs.declared.certify_error.CertifyError.{CertifyError}
 use Rattle.certify.specs.declared.certify_error.CertifyError.TheVariants as certify
@@ -24,14 +22,13 @@ use Rattle.engine.specs.declared.engine_error.EngineError.{EngineError}
 use Rattle.engine.specs.declared.finding.Finding.{Finding}
 use Rattle.engine.specs.declared.finding.Finding.TheVariants as finding
 use Rattle.engine.specs.declared.finding.Reason.{Reason}
-use Rattle.engine.specs.declared.finding.Reason.TheVariants.{Budget, Depth, NoEvidence}
-use Rattle.verdict.specs.Asked.{AllTold, AskedInOrder, ComesOf, EndsAt, HaveTold, IsHeard, IsOfClauses, IsOfReplay, IsOfRun, Stops}
+use Rattle.engine.specs.declared.finding.Reason.TheVariants.{NoEvidence}
+use Rattle.verdict.specs.Asked.{AskedInOrder, HaveTold, IsHeard, IsOfClauses, IsOfReplay, IsOfRun, Stops}
 use Rattle.verdict.specs.Causes.{of_certify}
-use Rattle.verdict.specs.Numbers.{of_engine}
 use Rattle.verdict.specs.Reasons.{reason_in, reason_of, weightier_of}
 use Rattle.verdict.specs.Verdicts.{IsBacked, IsMeant, IsUnsafe, IsViolation, IsWhy}
 use Rattle.verdict.specs.declared.decide_error.DecideError.{DecideError}
-use Rattle.verdict.specs.declared.decide_error.DecideError.TheVariants.{NoProperty, Limit, OutOfMemory}
+use Rattle.verdict.specs.declared.decide_error.DecideError.TheVariants.{OutOfMemory}
 use Rattle.verdict.specs.declared.verdict.Verdict.{Verdict}
 use Rattle.verdict.specs.declared.verdict.Verdict.TheVariants.{Safe, Unsafe, Unknown}
 

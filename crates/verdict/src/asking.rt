@@ -10,6 +10,10 @@ ghost use Rattle.stimulus.specs.Texts.{property_of};
 ghost use Rattle.graph.specs.Properties.{HasProperty};
 ghost use Rattle.engine.specs.Findings.{IsForBad, IsSo};
 ghost use Rattle.base.specs.Witness.{witness};
+ghost use Rattle.certify.specs.Causes.{HasCause as HasCertifyCause};
+ghost use Rattle.certify.specs.Outcomes.{IsCertified};
+ghost use Rattle.certify.specs.declared.certified.Certified.TheVariants.{NotInvariant};
+ghost use Rattle.certify.specs.declared.counterexample.Counterexample.{Counterexample as ACounterexample};
 ghost use Rattle.verdict.specs.Asked.{IsHeard, IsOfClauses, IsOfReplay, Stops};
 ghost use Rattle.verdict.specs.Causes.{HasCause, of_certify};
 ghost use Rattle.verdict.specs.Verdicts.{IsAsked, IsBacked, IsMeant, IsUnsafe, IsViolation};
@@ -17,7 +21,7 @@ ghost use Rattle.verdict.specs.declared.decide_error.DecideError.TheVariants.{Ou
 
 use crate::decide_error::DecideError;
 use crate::verdict::Verdict;
-use certify::{Certified, CertifyError, certify};
+use certify::{Certified, CertifyError, certify, certify_shadow};
 use engine::{Engine, EngineError, Finding, Reason};
 use graph::{Budget, Lit, Model, Property, Seq};
 use live_safe::lasso_of;
@@ -97,16 +101,41 @@ fn ran(
     }
 }
 
+/// A certificate of the clauses, which the checker accepts. For a justice property they are about its shadow circuit,
+/// which is `circuit`.
+fn certificate_of(
+    alloc: Global,
+    model: &Model,
+    property: Property,
+    circuit: &Model,
+    invariant: &[Seq<Lit>],
+    budget: &mut Budget,
+) -> Result<Certified, CertifyError>
+    requires asked { IsAsked model.now property circuit.now }
+    ensures spends { Spends budget.old budget.new }
+    ensures certified { IfOk result (IsCertified model.now property invariant.now budget.new) }
+    ensures honest { IfOk result (λ r. (x : ACounterexample) → r ≡ NotInvariant x → IsInductive (circuit_of model.now property) invariant.now (bad_of model.now property) → ⊥) }
+    ensures refused { IfErr result (HasCertifyCause model.now property invariant.now) }
+{
+    match property {
+        Property::Justice(n) => certify_shadow(alloc, model, n, circuit, invariant, budget),
+        Property::Bad(_) | Property::Output(_) => {
+            certify(alloc, model, property, invariant, budget)
+        }
+    }
+}
+
 /// What comes of clauses that are said to be an invariant which upholds the property: a certificate,
-/// where each of their cases is refuted. `certify` promises that the checker accepts it.
+/// where each of their cases is refuted.
 fn certified(
     alloc: Global,
     model: &Model,
     property: Property,
+    circuit: &Model,
     invariant: &[Seq<Lit>],
     budget: &mut Budget,
 ) -> Result<Verdict, DecideError>
-    requires there { HasProperty model.now property }
+    requires asked { IsAsked model.now property circuit.now }
     ensures spends { Spends budget.old budget.new }
     ensures backed { IfOk result (IsBacked model.now property) }
     ensures meant { All (IsGood (circuit_of model.now property)) invariant.now → IsInductive (circuit_of model.now property) invariant.now (bad_of model.now property) → IfOk result (IsMeant model.now property budget.new) }
@@ -115,7 +144,7 @@ fn certified(
     ensures refused { IfErr result (HasCause model.now property) }
 {
     model.parts();
-    match certify(alloc, model, property, invariant, budget) {
+    match certificate_of(alloc, model, property, circuit, invariant, budget) {
         Ok(Certified::Certificate(certificate)) => Ok(Verdict::Safe(certificate)),
         Ok(Certified::NotInvariant(_)) => Ok(Verdict::Unknown(Reason::NoEvidence)),
         Ok(Certified::Spent) => Ok(Verdict::Unknown(Reason::Budget)),
@@ -161,6 +190,7 @@ pub fn hear(
             alloc,
             model,
             property,
+            circuit,
             clauses.as_slice(),
             budget,
         ),

@@ -1,16 +1,16 @@
 use Rattle.std.proofs.Common.{rules, subst}
 use Rattle.certify.specs.Outcomes.{IsCertified}
 use Rattle.verdict.proofs.Asked.{certificate_backs, refused_comes, refused_stops}
-use Rattle.verdict.proofs.Heard.{refused_meant}
+use Rattle.verdict.proofs.Heard.{asked_there, refused_meant}
 use Rattle.verdict.proofs.asking.certified.Goals as goal
 
 pub returns-in-Ok-Certificate : goal.returns-in-Ok-Certificate
 returns-in-Ok-Certificate c =
-    let is = IsCertified c.args.model.now c.args.property c.args.invariant.now c.certify.new.budget in
+    let is = IsCertified c.args.model.now c.args.property c.args.invariant.now c.certificate_of.new.budget in
     let certified = subst is c.in-Ok-Certificate.field-0-is c.in-Ok-Certificate.ensures.certified in
     record {
       spends = search rules;
-      backed = certificate_backs c.args.model.now c.args.property c.args.invariant.now c.certify.new.budget _ c.parts.ensures.well_formed certified;
+      backed = certificate_backs c.args.model.now c.args.property c.args.invariant.now c.certificate_of.new.budget _ c.parts.ensures.well_formed certified;
       meant = λ good inductive. tt;
       comes = certified;
       stopped = tt;
@@ -18,10 +18,10 @@ returns-in-Ok-Certificate c =
     }
 
 pub returns-clause-meant : goal.returns-clause-meant
-returns-clause-meant c = λ good inductive. refused_meant _ c.args.property _ c.certify.new.budget _ _ c.uncertified.ensures c.requires.there c.in-Err.ensures.refused good
+returns-clause-meant c = λ good inductive. refused_meant _ c.args.property _ c.certificate_of.new.budget _ _ c.uncertified.ensures (asked_there _ _ _ c.requires.asked) c.in-Err.ensures.refused good
 
 pub returns-clause-comes : goal.returns-clause-comes
-returns-clause-comes c = refused_comes _ c.args.property _ c.certify.new.budget _ _ c.uncertified.ensures c.requires.there c.in-Err.ensures.refused
+returns-clause-comes c = refused_comes _ c.args.property _ c.certificate_of.new.budget _ _ c.uncertified.ensures (asked_there _ _ _ c.requires.asked) c.in-Err.ensures.refused
 
 pub returns-clause-stopped : goal.returns-clause-stopped
 returns-clause-stopped c = refused_stops _ c.args.property _ _ _ c.uncertified.ensures c.in-Err.ensures.refused

@@ -8,9 +8,6 @@ ask-requires g c = asked_for_bad _ _ _ c.requires.asked
 pub ran-requires : goal.ran-requires
 ran-requires g c = record { there = asked_there _ _ _ c.requires.asked }
 
-pub certified-requires : goal.certified-requires
-certified-requires g c = record { there = asked_there _ _ _ c.requires.asked }
-
 pub returns-in-Run-clause-meant : goal.returns-in-Run-clause-meant
 returns-in-Run-clause-meant g c honest = run_meant _ _ _ c.ask.new.budget _ _ _ _ c.requires.asked c.in-Run.is (c.in_ok-initial.ensures.so honest) c.ran.ensures.shown
 
