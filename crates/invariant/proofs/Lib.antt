@@ -2,3 +2,5 @@ pub mod ClauseLaws
 pub mod LiteralLoop
 pub mod LineLoop
 pub mod Begun
+pub mod RowLoop
+pub mod PlaLaws

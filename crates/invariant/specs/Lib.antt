@@ -2,3 +2,5 @@ pub mod Numbers
 pub mod Refusals
 pub mod Reading
 pub mod Texts
+pub mod Plas
+pub mod PlaReading

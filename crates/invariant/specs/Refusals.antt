@@ -8,13 +8,14 @@ use Rattle.certificate.specs.declared.cert_error.CertError.TheVariants as cert
 use Rattle.invariant.specs.declared.invariant_error.InvariantError.{InvariantError}
 use Rattle.invariant.specs.declared.invariant_error.InvariantError.TheVariants as error
 use Rattle.invariant.specs.declared.refusal.Refusal.{Refusal}
-use Rattle.invariant.specs.declared.refusal.Refusal.TheVariants.{Number, Byte, Truncated}
+use Rattle.invariant.specs.declared.refusal.Refusal.TheVariants.{Number, Byte, Truncated, Latch}
 
 -- a refusal at a byte
 abbrev pub at_byte : Refusal → ℕ → InvariantError
 at_byte Number p = error.Number p
 at_byte Byte p = error.Byte p
 at_byte Truncated p = error.Truncated p
+at_byte Latch p = error.Latch p
 
 -- the error that a fault is in a text of this length
 abbrev pub error_of : ℕ → Fault Refusal → InvariantError

@@ -20,6 +20,9 @@ pub enum InvariantError {
     /// the text ends too early
     #[error("byte {place}: the text ends too early")]
     Truncated { place: u64 },
+    /// columns of a PLA that are no latches of the circuit
+    #[error("byte {place}: a column is no latch of the circuit")]
+    Latch { place: u64 },
     /// the text begins as a certificate, and is none
     #[error("{0}")]
     Certificate(CertError),
@@ -53,6 +56,7 @@ impl InvariantError {
             InvariantError::Number { .. } => 3,
             InvariantError::Byte { .. } => 5,
             InvariantError::Truncated { .. } => 6,
+            InvariantError::Latch { .. } => 32,
             InvariantError::Certificate(e) => e.number(),
             InvariantError::OutOfMemory(_) => 20,
         }
@@ -65,7 +69,8 @@ impl InvariantError {
         match self {
             InvariantError::Number { place }
             | InvariantError::Byte { place }
-            | InvariantError::Truncated { place } => place,
+            | InvariantError::Truncated { place }
+            | InvariantError::Latch { place } => place,
             InvariantError::Certificate(e) => e.place(),
             InvariantError::OutOfMemory(_) => 0,
         }

@@ -9,10 +9,14 @@
 //! for `certify::certify` to find out.
 #![tactic(auto)]
 
+mod columns;
 mod invariant_error;
 mod lines;
+mod pla;
 mod reading;
 mod refusal;
+mod rows;
 
 pub use invariant_error::InvariantError;
+pub use pla::read_pla;
 pub use reading::read;

@@ -15,6 +15,8 @@ pub enum Refusal {
     Byte,
     /// A byte that is needed is missing.
     Truncated,
+    /// Columns that are no latches of the circuit.
+    Latch,
 }
 
 /// The faults of a line.
@@ -37,5 +39,6 @@ pub fn error(length: usize, fault: Fault<Refusal>) -> InvariantError
         Refusal::Number => InvariantError::Number { place },
         Refusal::Byte => InvariantError::Byte { place },
         Refusal::Truncated => InvariantError::Truncated { place },
+        Refusal::Latch => InvariantError::Latch { place },
     }
 }
