@@ -4,3 +4,4 @@ pub mod LineLoop
 pub mod Begun
 pub mod RowLoop
 pub mod PlaLaws
+pub mod ColumnLoop

@@ -1,7 +1,7 @@
 -- A PLA is read as it is spelled.
 use Rattle.base.specs.Witness.{witness}
-use Rattle.std.proofs.Common.{◌≡◌, ℕ, zero, suc, ◌+◌, ◌^◌, ◌<◌, ◌≤◌, Bool, true, false, cond, eqb, List, [], ◌∷◌, ◌++◌, length, map, All, Option, Some, None, refl, sym, ap, subst, ◌∙◌, append_assoc, arith, inl, inr}
-use Rattle.std.specs.Prelude.{decimal, codes, flat_map, Result}
+use Rattle.std.proofs.Common.{◌≡◌, ℕ, suc, ◌^◌, ◌<◌, Bool, true, false, cond, eqb, List, [], ◌∷◌, ◌++◌, length, map, All, Option, Some, None, refl, sym, ap, subst, ◌∙◌, append_assoc, arith, inl, inr}
+use Rattle.std.specs.Prelude.{decimal, codes, flat_map}
 use Rattle.std.proofs.lemmas.Bool.{cases_Bool, eqb-true, eq-eqb, and_parts}
 use Rattle.std.proofs.lemmas.List.{append-nil, length-map}
 use Rattle.std.proofs.lemmas.List.Elements.{All-nil, All-cons, All-head, All-tail}
@@ -12,8 +12,8 @@ use Rattle.scan.specs.Reading.{◌>>=◌, Read, Fails}
 use Rattle.scan.specs.Bytes.{tag_at}
 use Rattle.scan.specs.Lists.{Each, many_at}
 use Rattle.scan.specs.Spelling.{Nothing, Then, After}
-use Rattle.scan.specs.Words.{any, IsField, field_at}
-use Rattle.scan.proofs.ListLaws.{Many, many_reads}
+use Rattle.scan.specs.Words.{any, IsField}
+use Rattle.scan.proofs.ListLaws.{many_reads}
 use Rattle.scan.proofs.NumberLaws.{cond_some_to}
 use Rattle.scan.proofs.Toolbox.{Reads, bind_some, reads_as, reads_nothing, reads_then, reads_after, skips_tag}
 use Rattle.scan.proofs.WordLaws.{field_reads}

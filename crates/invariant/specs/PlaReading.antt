@@ -1,10 +1,13 @@
 -- How a PLA is read, step by step.
-use Rattle.std.specs.Prelude.{ℕ, zero, suc, Bool, true, false, ◌&&◌, List, [], ◌∷◌, ◌++◌, length, codes, Option, Some, None, ◌==◌, if◌then◌else◌}
+use Rattle.std.specs.Prelude.{ℕ, Bool, true, false, ◌&&◌, List, [], ◌∷◌, ◌++◌, length, codes, Option, Some, None, slice_get, option_map, ◌==◌, if◌then◌else◌}
 use Rattle.scan.specs.Reading.{◌>>=◌, Read}
 use Rattle.scan.specs.Bytes.{tag_at}
 use Rattle.scan.specs.Lists.{many_at}
 use Rattle.scan.specs.Words.{any, field_at}
 use Rattle.graph.specs.File.{File}
+use Rattle.graph.specs.Symbols.{index_of}
+use Rattle.graph.specs.declared.symbol.Symbol.{Symbol}
+use Rattle.graph.specs.declared.symbol.SymbolKind.{SymbolKind}
 use Rattle.graph.specs.declared.circuit.Latch.{Latch}
 use Rattle.graph.specs.declared.circuit.Lit.{Lit}
 use Rattle.invariant.specs.Plas.{behind_comments, columns_at, literals_against}
@@ -57,3 +60,12 @@ pla_at file bytes = do
   rows ← many_at (row_at columns.0) counts.0.1 columns.1
   end ← end_at rows.1
   Some rows.0
+
+-- the symbol of this kind and position is of the latch at position k
+abbrev pub is_symbol_of : SymbolKind → ℕ → ℕ → Bool
+is_symbol_of kind position k = (index_of kind == 1) && (position == k)
+
+-- the name of the symbol at this place
+abbrev pub name_by : List Symbol → Option ℕ → Option (List ℕ)
+name_by symbols None = None
+name_by symbols (Some i) = option_map (λ s. s.name) (slice_get symbols i)

@@ -1,13 +1,14 @@
 -- ABC's PLA: cubes of states that are not reached, whose columns are latches.
-use Rattle.std.specs.Prelude.{◌≡◌, ℕ, ◌+◌, ◌*◌, ◌<◌, ◌^◌, Bool, true, false, not, List, [], ◌∷◌, ◌++◌, length, map, flat_map, All, codes, decimal, Option, Some, None, ◌==◌, if◌then◌else◌}
+use Rattle.std.specs.Prelude.{◌≡◌, ℕ, ◌+◌, ◌*◌, ◌<◌, ◌^◌, Bool, true, false, not, ◌&&◌, ◌||◌, List, [], ◌∷◌, ◌++◌, length, map, flat_map, All, codes, decimal, Option, Some, None, ◌==◌, if◌then◌else◌}
 use Rattle.scan.specs.Reading.{◌>>=◌, Read}
 use Rattle.scan.specs.Bytes.{tag_at}
-use Rattle.scan.specs.Lists.{many_at}
-use Rattle.scan.specs.Words.{any, field_at}
+use Rattle.scan.specs.Numbers.{begins_digit, digits_after}
 use Rattle.graph.specs.File.{File}
+use Rattle.graph.specs.Symbols.{index_of}
 use Rattle.graph.specs.Valuation.{variable}
 use Rattle.graph.specs.declared.circuit.Latch.{Latch}
 use Rattle.graph.specs.declared.circuit.Lit.{Lit}
+use Rattle.graph.specs.declared.symbol.Symbol.{Symbol}
 
 -- ---- cubes and their clauses
 
@@ -51,9 +52,66 @@ behind_comments false (c ∷ cs) = if c == 35 then behind_comments true cs else 
 abbrev pub head : ℕ → ℕ → List ℕ
 head columns cubes = codes ".i " ++ (decimal columns ++ (codes "\n.o 1\n.p " ++ (decimal cubes ++ codes "\n")))
 
--- the columns, and what follows their names
+-- ---- the columns
+
+-- a space or a line end comes next
+abbrev pub ends_name : List ℕ → Bool
+ends_name [] = false
+ends_name (c ∷ cs) = (c == 32) || (c == 10)
+
+-- what follows a space and the name
+abbrev pub name_at : List ℕ → List ℕ → Option (List ℕ)
+name_at name bytes = do
+  behind ← tag_at (codes " ") bytes
+  rest ← tag_at name behind
+  if ends_name rest then Some rest else None
+
+abbrev pub name_ended : Read ℕ → Read ℕ
+name_ended read = read >>= λ r. if ends_name r.1 then Some r else None
+
+-- the number in ABC's own name of a latch, with zeros before it or not, and what follows
+abbrev pub own_name_at : List ℕ → Read ℕ
+own_name_at bytes = do
+  digits ← tag_at (codes " lo") bytes
+  if begins_digit digits then name_ended (Some (digits_after 4294967295 0 digits)) else None
+
+-- the name that the last such symbol gives the latch at a position
+abbrev pub symbol_name : Option (List ℕ) → List Symbol → ℕ → Option (List ℕ)
+symbol_name before [] k = before
+symbol_name before (s ∷ ss) k = symbol_name (if (index_of s.kind == 1) && (s.position == k) then Some s.name else before) ss k
+
+abbrev pub behind_own : ℕ → Read ℕ → Option (List ℕ)
+behind_own k None = None
+behind_own k (Some own) = if own.0 == k then Some own.1 else None
+
+abbrev pub first_of : Option (List ℕ) → Option (List ℕ) → Option (List ℕ)
+first_of None other = other
+first_of (Some rest) other = Some rest
+
+-- what follows the name of the latch at position k: its symbol's, or ABC's own
+abbrev pub latch_at : Option (List ℕ) → ℕ → Read ℕ → List ℕ → Option (List ℕ)
+latch_at None k own bytes = behind_own k own
+latch_at (Some name) k own bytes = first_of (name_at name bytes) (behind_own k own)
+
+abbrev pub with_column : Latch → Option (List ℕ) → List ℕ → (List ℕ → List Latch × List ℕ) → List Latch × List ℕ
+with_column l None bytes later = later bytes
+with_column l (Some rest) bytes later = (l ∷ (later rest).0, (later rest).1)
+
+-- the latches from position k on whose names come next, in their order, and what follows those
+abbrev pub named_from : (ℕ → Option (List ℕ)) → ℕ → List Latch → List ℕ → List Latch × List ℕ
+named_from names k [] bytes = ([], bytes)
+named_from names k (l ∷ ls) bytes = with_column l (latch_at (names k) k (own_name_at bytes) bytes) bytes (named_from names (k + 1) ls)
+
+abbrev pub names_ended : List Latch × List ℕ → Read (List Latch)
+names_ended r = tag_at (codes "\n.ob inv\n") r.1 >>= λ rest. Some (r.0, rest)
+
+abbrev pub columns_behind : File → Option (List ℕ) → List ℕ → Read (List Latch)
+columns_behind file None bytes = Some (file.model.latches, bytes)
+columns_behind file (Some names) bytes = names_ended (named_from (symbol_name None file.symbols) 0 file.model.latches names)
+
+-- the columns that the names give, or all latches where there are none, and what follows
 abbrev pub columns_at : File → List ℕ → Read (List Latch)
-columns_at file bytes = Some (file.model.latches, bytes)
+columns_at file bytes = columns_behind file (tag_at (codes ".ilb") bytes) bytes
 
 -- the text is a PLA over latches of the circuit, and these are the clauses of its cubes
 pub record SpellsPla (file : File) (text : List ℕ) (clauses : List (List Lit)) : Type 0 where

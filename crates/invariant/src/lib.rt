@@ -12,6 +12,7 @@
 mod columns;
 mod invariant_error;
 mod lines;
+mod names;
 mod pla;
 mod reading;
 mod refusal;

@@ -1,6 +1,4 @@
-use Rattle.std.proofs.Common.{◌≡◌, ◌≤◌, ◌<◌, length, arith}
 use Rattle.std.proofs.lemmas.Result.{err_from_is_err_and}
-use Rattle.graph.specs.declared.circuit.Latch.{Latch}
 use Rattle.invariant.specs.PlaReading.{row_at}
 use Rattle.invariant.proofs.RowLoop.{no_latch, row_more, row_fails, row_done, row_unended}
 use Rattle.invariant.proofs.rows.row.Goals as goal
