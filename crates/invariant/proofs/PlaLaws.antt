@@ -2,7 +2,7 @@
 use Rattle.base.specs.Witness.{witness}
 use Rattle.std.proofs.Common.{◌≡◌, ℕ, suc, ◌^◌, ◌<◌, Bool, true, false, cond, eqb, List, [], ◌∷◌, ◌++◌, length, map, All, Option, Some, None, refl, sym, ap, subst, ◌∙◌, append_assoc, arith, inl, inr}
 use Rattle.std.specs.Prelude.{decimal, codes, flat_map}
-use Rattle.std.proofs.lemmas.Bool.{cases_Bool, eqb-true, eq-eqb, and_parts}
+use Rattle.std.proofs.lemmas.Bool.{cases_Bool, eqb-true, eq-eqb}
 use Rattle.std.proofs.lemmas.List.{append-nil, length-map}
 use Rattle.std.proofs.lemmas.List.Elements.{All-nil, All-cons, All-head, All-tail}
 use Rattle.std.proofs.lemmas.Option.{same_Some, none-some}
@@ -24,7 +24,7 @@ use Rattle.invariant.specs.Plas.{value_byte, cube_row, literals_against, clause_
 use Rattle.invariant.specs.Refusals.{error_of}
 use Rattle.invariant.specs.declared.invariant_error.InvariantError.TheVariants.{OutOfMemory}
 use Rattle.invariant.specs.declared.refusal.Refusal.{Refusal}
-use Rattle.invariant.specs.PlaReading.{head_at, value_at, row_at, are_lines, end_at, wide_at, pla_at}
+use Rattle.invariant.specs.PlaReading.{head_at, value_at, row_at, behind_lines, end_at, wide_at, pla_at}
 
 -- ---- the counts
 
@@ -170,13 +170,14 @@ rows_of columns (cube ∷ cubes) wide = (
 
 -- ---- the end
 
-lines_all : (bytes : List ℕ) → are_lines bytes ≡ true → All (λ c. c ≡ 10) bytes
+lines_all : (bytes : List ℕ) → length (behind_lines bytes) ≡ 0 → All (λ c. c ≡ 10) bytes
 lines_all [] e = All-nil (λ (c : ℕ). c ≡ 10)
-lines_all (c ∷ cs) e =
-    let p = and_parts (eqb c 10) (are_lines cs) e in
-    All-cons (λ (c : ℕ). c ≡ 10) c cs (eqb-true c 10 p.0) (lines_all cs p.1)
+lines_all (c ∷ cs) e = elim (cases_Bool (eqb c 10)) [
+  | inl y ↦ All-cons (λ (c : ℕ). c ≡ 10) c cs (eqb-true c 10 y) (lines_all cs (rw y at e))
+  | inr n ↦ let f : suc (length cs) ≡ 0 = rw n at e in absurd (omega (arith, f))
+]
 
-all_lines : (bytes : List ℕ) → All (λ c. c ≡ 10) bytes → are_lines bytes ≡ true
+all_lines : (bytes : List ℕ) → All (λ c. c ≡ 10) bytes → behind_lines bytes ≡ []
 all_lines [] a = refl
 all_lines (c ∷ cs) a =
     rw (eq-eqb c 10 (All-head (λ (c : ℕ). c ≡ 10) c cs a)) (all_lines cs (All-tail (λ (c : ℕ). c ≡ 10) c cs a))
@@ -184,10 +185,10 @@ all_lines (c ∷ cs) a =
 end_takes : (bytes rest : List ℕ) → end_at bytes ≡ Some rest → (bytes ≡ codes ".e\n" ++ rest) × All (λ c. c ≡ 10) rest
 unfolding end_at
 end_takes bytes rest e =
-    let b = bind_some (tag_at (codes ".e\n") bytes) (λ r. cond (are_lines r) (Some r) None) rest e in
-    let g = cond_some_to (are_lines b.0) (Some b.0) rest b.2 in
+    let b = bind_some (tag_at (codes ".e\n") bytes) (λ r. cond (eqb (length (behind_lines r)) 0) (Some r) None) rest e in
+    let g = cond_some_to (eqb (length (behind_lines b.0)) 0) (Some b.0) rest b.2 in
     let same : b.0 ≡ rest = same_Some b.0 rest g.1 in
-    ((skips_tag (codes ".e\n")).sound bytes rest (b.1 ∙ ap (λ (w : List ℕ). Some w) same), subst (λ (w : List ℕ). All (λ c. c ≡ 10) w) same (lines_all b.0 g.0))
+    ((skips_tag (codes ".e\n")).sound bytes rest (b.1 ∙ ap (λ (w : List ℕ). Some w) same), subst (λ (w : List ℕ). All (λ c. c ≡ 10) w) same (lines_all b.0 (eqb-true (length (behind_lines b.0)) 0 g.0)))
 
 end_again : (blank : List ℕ) → All (λ c. c ≡ 10) blank → end_at (codes ".e\n" ++ blank) ≡ Some blank
 unfolding end_at

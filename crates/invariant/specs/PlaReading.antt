@@ -40,13 +40,14 @@ abbrev pub begins_dot : List ℕ → Bool
 begins_dot [] = false
 begins_dot (c ∷ cs) = c == 46
 
-abbrev pub are_lines : List ℕ → Bool
-are_lines [] = true
-are_lines (c ∷ cs) = (c == 10) && are_lines cs
+-- what follows the line ends that come next
+abbrev pub behind_lines : List ℕ → List ℕ
+behind_lines [] = []
+behind_lines (c ∷ cs) = if c == 10 then behind_lines cs else c ∷ cs
 
 -- the end, and lines of no bytes
 unfoldable pub end_at : List ℕ → Option (List ℕ)
-end_at bytes = tag_at (codes ".e\n") bytes >>= λ rest. if are_lines rest then Some rest else None
+end_at bytes = tag_at (codes ".e\n") bytes >>= λ lines. if length (behind_lines lines) == 0 then Some lines else None
 
 -- the columns, as many as were said
 unfoldable pub wide_at : File → ℕ → List ℕ → Read (List Latch)

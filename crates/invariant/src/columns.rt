@@ -1,6 +1,7 @@
 //! The columns of a PLA.
 
-ghost use Rattle.std.specs.Prelude.{◌≡◌, ◌<◌, ℕ, None, Some, get_or, length, option_map, IfOk, ◌==◌, if◌then◌else◌};
+ghost use Rattle.std.specs.Prelude.{◌≡◌, ◌<◌, ℕ, None, Some, codes, get_or, length, option_map, IfOk, ◌==◌, if◌then◌else◌};
+ghost use Rattle.scan.specs.Bytes.{tag_at};
 ghost use Rattle.scan.specs.Reading.{Gives};
 ghost use Rattle.graph.specs.Symbols.{index_of};
 ghost use Rattle.invariant.specs.Plas.{columns_at, named_from, symbol_name};
@@ -84,6 +85,20 @@ fn named<'a>(
     Ok((columns, rest))
 }
 
+/// What follows the end of the names. Another name there is that of no latch, or of one that came before.
+#[tactic(auto, unfolding(scan::specs::Bytes::tag_at))]
+fn names_end(text: &[u8]) -> Result<&[u8], Fault<Refusal>>
+    ensures { Gives (λ rest. rest.now) result (tag_at (codes "\n.ob inv\n") text.now) }
+{
+    match text {
+        [b' ', name @ ..] => Err(Fault::Text {
+            kind: Refusal::Latch,
+            left: name.len(),
+        }),
+        _ => tag(text, b"\n.ob inv\n", IN_LINE),
+    }
+}
+
 /// The latches of the columns, and what follows their names.
 pub fn columns<'a>(
     alloc: Global,
@@ -98,6 +113,6 @@ pub fn columns<'a>(
         return Ok((columns, text));
     };
     let (columns, rest) = named(alloc, latches, file.symbols(), names)?;
-    let rest = tag(rest, b"\n.ob inv\n", IN_LINE)?;
+    let rest = names_end(rest)?;
     Ok((columns, rest))
 }

@@ -5,7 +5,7 @@ ghost use Rattle.std.specs.Prelude.{◌≡◌, List, false, IfOk, MatchResult};
 ghost use Rattle.scan.specs.Reading.{Gives};
 ghost use Rattle.graph.specs.declared.circuit.Lit.{Lit as ALit};
 ghost use Rattle.invariant.specs.Plas.{SpellsPla, behind_comments};
-ghost use Rattle.invariant.specs.PlaReading.{are_lines, end_at, head_at, pla_at, wide_at};
+ghost use Rattle.invariant.specs.PlaReading.{behind_lines, end_at, head_at, pla_at, wide_at};
 ghost use Rattle.invariant.specs.Texts.{IsRead};
 
 use crate::columns::columns;
@@ -66,16 +66,16 @@ fn wide<'a>(
     }
 }
 
-/// Whether the text is lines of no bytes.
-fn are_lines(text: &[u8]) -> bool
-    ensures { result ≡ are_lines text.now }
+/// What follows the line ends that come next.
+fn behind_lines(text: &[u8]) -> &[u8]
+    ensures { result.now ≡ behind_lines text.now }
 {
-    for byte in text {
-        if *byte != b'\n' {
-            return false;
+    for (i, c) in text.iter().enumerate() {
+        if *c != b'\n' {
+            return &text[i..];
         }
     }
-    true
+    &text[text.len()..]
 }
 
 /// The lines of no bytes that follow the end.
@@ -83,9 +83,10 @@ fn are_lines(text: &[u8]) -> bool
 fn end(text: &[u8]) -> Result<&[u8], Fault<Refusal>>
     ensures { Gives (λ x. x.now) result (end_at text.now) }
 {
-    let rest = tag(text, b".e\n", IN_LINE)?;
-    if are_lines(rest) {
-        Ok(rest)
+    let lines = tag(text, b".e\n", IN_LINE)?;
+    let rest = behind_lines(lines);
+    if rest.is_empty() {
+        Ok(lines)
     } else {
         Err(Fault::Text {
             kind: Refusal::Byte,
