@@ -11,27 +11,68 @@ use certify::{Certified, certify};
 use cli::{CliError, Layout, Verdict, property_named};
 use graph::{AigerFile, Budget, FromRead, Lit, Property, ReadToEndError, Seq, read_to_end};
 use inputs::{is_standard, open};
+use std::alloc::Global;
 
 /// The status of clauses that are no inductive invariant which excludes the property's literal.
 const NO_INVARIANT: u8 = 1;
 /// The status of a budget that is exhausted, and of a search that found nothing.
 const SPENT: u8 = 2;
 
-/// The clauses that the file of this name spells.
-fn read_clauses(rt: &HostRuntime, name: &str) -> Result<Seq<Seq<Lit>>, Stop> {
+/// The text of the file of this name.
+fn read_text(rt: &HostRuntime, name: &str) -> Result<Vec<u8>, Stop> {
     let file = finished(open(rt, name))?;
-    let text = match read_to_end(rt.alloc(), &mut FromRead::new(file)) {
-        Ok(text) => text,
-        Err(ReadToEndError::OutOfMemory(refused)) => return Err(Stop::from(refused)),
-        Err(ReadToEndError::Device) => return Err(Stop::Refused(CliError::Device)),
-    };
-    let clauses = invariant::read(rt.alloc(), text.as_slice())?;
+    match read_to_end(rt.alloc(), &mut FromRead::new(file)) {
+        Ok(text) => Ok(text),
+        Err(ReadToEndError::OutOfMemory(refused)) => Err(Stop::from(refused)),
+        Err(ReadToEndError::Device) => Err(Stop::Refused(CliError::Device)),
+    }
+}
+
+/// Whether the text begins as a PLA does, and as no line of clauses and no certificate.
+fn is_pla(text: &[u8]) -> bool {
+    matches!(text, [b'.' | b'#', ..])
+}
+
+/// The clauses that the PLA spells, over the latches of the circuit in `file`.
+fn pla_over(alloc: Global, file: &AigerFile, text: &[u8]) -> Result<Seq<Seq<Lit>>, Stop> {
+    let clauses = invariant::read_pla(alloc, file, text)?;
     Ok(clauses)
 }
 
-/// The clauses in the file of this name.
-fn clauses_of(rt: &HostRuntime, name: &str) -> Result<Seq<Seq<Lit>>, Stop> {
-    read_of(Role::Invariant, read_clauses(rt, name))
+/// The clauses that the PLA spells, over the latches of the circuit that is asked about: of a justice property its shadow
+/// circuit.
+fn pla_clauses(
+    alloc: Global,
+    file: &AigerFile,
+    property: Property,
+    text: &[u8],
+) -> Result<Seq<Seq<Lit>>, Stop> {
+    let Property::Justice(position) = property else {
+        return about(Role::Invariant, pla_over(alloc, file, text));
+    };
+    let shadow = about(Role::Circuit, shadow_file(alloc, file, position))?;
+    about(Role::Invariant, pla_over(alloc, &shadow, text))
+}
+
+/// The clauses that the text spells, a line for each or in a certificate.
+fn line_clauses(alloc: Global, text: &[u8]) -> Result<Seq<Seq<Lit>>, Stop> {
+    let clauses = invariant::read(alloc, text)?;
+    Ok(clauses)
+}
+
+/// The clauses in the file of this name, over the latches of the circuit that is asked about.
+fn clauses_of(
+    rt: &HostRuntime,
+    name: &str,
+    file: &AigerFile,
+    property: Property,
+) -> Result<Seq<Seq<Lit>>, Stop> {
+    let text = read_of(Role::Invariant, read_text(rt, name))?;
+    if is_pla(text.as_slice()) {
+        pla_clauses(rt.alloc(), file, property, text.as_slice())
+    } else {
+        about(Role::Invariant, line_clauses(rt.alloc(), text.as_slice()))
+    }
 }
 
 /// Looks by IC3 for an invariant, beginning with the clauses, of which nothing is believed.
@@ -106,6 +147,20 @@ fn certified(
     }
 }
 
+/// Makes a certificate of the clauses in the file that is named, of which each case is proved over the circuit.
+fn certified_clauses(
+    rt: &HostRuntime,
+    asked: &Claim,
+    property: Property,
+    file: &AigerFile,
+) -> Result<u8, Stop> {
+    let clauses = clauses_of(rt, asked.invariant.as_str(), file, property)?;
+    about(
+        Role::Circuit,
+        certified(rt, asked, property, file, clauses),
+    )
+}
+
 /// Makes a certificate of the clauses in a file, in the file of that name.
 pub fn certify_clauses(rt: &HostRuntime, asked: &Claim) -> Result<u8, Stop> {
     let property = property_named(asked.property.as_str()).ok_or(Stop::BadArgument)?;
@@ -116,11 +171,7 @@ pub fn certify_clauses(rt: &HostRuntime, asked: &Claim) -> Result<u8, Stop> {
         return Err(Stop::BadArgument);
     }
     let file = circuit(rt, asked.file.as_str())?;
-    let clauses = clauses_of(rt, asked.invariant.as_str())?;
-    about(
-        Role::Circuit,
-        certified(rt, asked, property, &file, clauses),
-    )
+    certified_clauses(rt, asked, property, &file)
 }
 
 /// The shadow circuit of the justice property at the position, of the circuit in the file of this name.

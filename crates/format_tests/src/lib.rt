@@ -1,4 +1,4 @@
-//! Tests of what is read and written: devices, numbers, circuits, proofs, certificates and stimuli.
+//! Tests of what is read and written: devices, numbers, circuits, proofs, certificates, PLAs and stimuli.
 //!
 //! They stand over the public calls alone, in a crate of their own, so that no library is proved twice. A test
 //! asserts small answers, and one function (`questions::asked`) has each file: so the proof of each is short.
@@ -12,6 +12,8 @@ mod circuits;
 mod devices;
 #[cfg(test)]
 mod numbers;
+#[cfg(test)]
+mod plas;
 #[cfg(test)]
 mod proof_lines;
 #[cfg(test)]
