@@ -108,7 +108,7 @@ static ROWS: [Row; 51] = [
     },
     Row {
         number: 32,
-        meaning: "a literal of the invariant is not a latch's",
+        meaning: "a literal of the invariant, or a column of a PLA, is not a latch's",
         remedy: "write the invariant over latches alone",
     },
     Row {

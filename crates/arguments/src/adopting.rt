@@ -8,6 +8,7 @@ static CERTIFY: &str =
     "Status: 0 a certificate was made, 1 the clauses are no inductive invariant that excludes the property's literal, 2 the budget is exhausted, 3 failed.
 Examples:
   aigmc certify design.aig -p b0 --invariant b0.clauses --cert b0.cert
+  aigmc certify design.aig -p b0 --invariant design_inv.pla --cert b0.cert
   aigmc certify design.aig -p b0 --invariant old.cert --cert b0.cert";
 
 static TO_SAFETY: &str = "Status: 0 done, 3 failed.
@@ -80,7 +81,7 @@ pub fn certify_command<'a>(alloc: Global) -> Result<Command<'a>, AllocError> {
     let invariant = named(
         alloc,
         "invariant",
-        "The clauses: a line for each, or a certificate",
+        "The clauses: a line for each, a certificate, or what ABC's pdr -d writes",
         "INV",
     );
     let certificate = named(alloc, "cert", "The file to make of the certificate", "OUT");
