@@ -5,3 +5,4 @@ pub mod Begun
 pub mod RowLoop
 pub mod PlaLaws
 pub mod ColumnLoop
+pub mod Negated

@@ -211,6 +211,33 @@ wide_again file bytes columns rest e =
 
 -- ---- the whole
 
+spelled_by : (file : File) (text names rest after blank : List ℕ) (counts : ℕ × ℕ) (columns : List Latch) (cs : List (List Lit)) → head_at (behind_comments false text) ≡ Some (counts, names)
+    → wide_at file counts.0 names ≡ Some (columns, rest) → many_at (row_at columns) counts.1 rest ≡ Some (cs, after) → end_at after ≡ Some blank → SpellsPla file text cs
+spelled_by file text names rest after blank counts columns cs h w r t =
+    let hs = head_reads.sound (behind_comments false text) counts names h in
+    let ws = wide_takes file counts.0 names (columns, rest) w in
+    let rs = (many_reads (row_reads columns) counts.1).sound rest cs after r in
+    let es = end_takes after blank t in
+    let k = cubes_of columns rs.0 cs rs.1.1 in
+    let many : length k.0 ≡ counts.1 = k.1.many ∙ rs.1.0 in
+    let counted : head counts.0 counts.1 ≡ head (length columns) (length k.0) = rw (ws.1, many) refl in
+    let begins : behind_comments false text ≡ head counts.0 counts.1 ++ names = hs.2 ∙ ap (λ (u : List ℕ). u ++ names) hs.1.2 in
+    let spelled : rest ≡ flat_map cube_row k.0 ++ after = rs.2 ∙ ap (λ (u : List ℕ). u ++ after) k.1.spelled in
+    record {
+      columns = columns;
+      cubes = k.0;
+      names = names;
+      rest = rest;
+      blank = blank;
+      few = (omega (arith, ws.1, hs.1.0), omega (arith, many, hs.1.1));
+      begins = begins ∙ ap (λ (u : List ℕ). u ++ names) counted;
+      named = ws.0;
+      rows = spelled ∙ ap (λ (u : List ℕ). flat_map cube_row k.0 ++ u) es.0;
+      lines = es.1;
+      wide = k.1.wide;
+      negated = k.1.negated;
+    }
+
 pub pla_found : (file : File) (text : List ℕ) (cs : List (List Lit)) → pla_at file text ≡ Some cs → SpellsPla file text cs
 unfolding pla_at
 pla_found file text cs e =
@@ -218,28 +245,8 @@ pla_found file text cs e =
     let w = bind_some (wide_at file h.0.0.0 h.0.1) (λ columns. many_at (row_at columns.0) h.0.0.1 columns.1 >>= λ rows. end_at rows.1 >>= λ end. Some rows.0) cs h.2 in
     let r = bind_some (many_at (row_at w.0.0) h.0.0.1 w.0.1) (λ rows. end_at rows.1 >>= λ end. Some rows.0) cs w.2 in
     let t = bind_some (end_at r.0.1) (λ end. Some r.0.0) cs r.2 in
-    let hs = head_reads.sound (behind_comments false text) h.0.0 h.0.1 h.1 in
-    let ws = wide_takes file h.0.0.0 h.0.1 w.0 w.1 in
-    let rs = (many_reads (row_reads w.0.0) h.0.0.1).sound w.0.1 r.0.0 r.0.1 r.1 in
-    let es = end_takes r.0.1 t.0 t.1 in
-    let k = cubes_of w.0.0 rs.0 r.0.0 rs.1.1 in
-    record {
-      columns = w.0.0;
-      cubes = k.0;
-      names = h.0.1;
-      rest = w.0.1;
-      blank = t.0;
-      few = (omega (arith, ws.1, hs.1.0), omega (arith, k.1.many, rs.1.0, hs.1.1));
-      begins =
-          hs.2
-          ∙ ap (λ (u : List ℕ). u ++ h.0.1)
-          (hs.1.2 ∙ ap (λ (n : ℕ). head n h.0.0.1) (sym ws.1) ∙ ap (λ (n : ℕ). head (length w.0.0) n) (sym rs.1.0 ∙ sym k.1.many));
-      named = ws.0;
-      rows = rs.2 ∙ ap (λ (u : List ℕ). u ++ r.0.1) k.1.spelled ∙ ap (λ (u : List ℕ). flat_map cube_row k.0 ++ u) es.0;
-      lines = es.1;
-      wide = k.1.wide;
-      negated = sym (same_Some r.0.0 cs t.2) ∙ k.1.negated;
-    }
+    let spelled = spelled_by file text h.0.1 w.0.1 r.0.1 t.0 h.0.0 w.0.0 r.0.0 h.1 w.1 r.1 t.1 in
+    subst (λ (ds : List (List Lit)). SpellsPla file text ds) {x = r.0.0} (same_Some r.0.0 cs t.2) spelled
 
 pub pla_again : (file : File) (text : List ℕ) (cs : List (List Lit)) → SpellsPla file text cs → pla_at file text ≡ Some cs
 unfolding pla_at

@@ -1,11 +1,11 @@
 -- ABC's PLA: cubes of states that are not reached, whose columns are latches.
-use Rattle.std.specs.Prelude.{◌≡◌, ℕ, ◌+◌, ◌*◌, ◌<◌, ◌^◌, Bool, true, false, not, ◌&&◌, ◌||◌, List, [], ◌∷◌, ◌++◌, length, map, flat_map, All, codes, decimal, Option, Some, None, ◌==◌, if◌then◌else◌}
+use Rattle.std.specs.Prelude.{◌≡◌, ◌↔◌, ℕ, ◌+◌, ◌*◌, ◌<◌, ◌^◌, Bool, true, false, not, ◌&&◌, ◌||◌, List, [], ◌∷◌, ◌++◌, length, map, flat_map, All, codes, decimal, Option, Some, None, ◌==◌, if◌then◌else◌}
 use Rattle.scan.specs.Reading.{◌>>=◌, Read}
 use Rattle.scan.specs.Bytes.{tag_at}
 use Rattle.scan.specs.Numbers.{begins_digit, digits_after}
 use Rattle.graph.specs.File.{File}
 use Rattle.graph.specs.Symbols.{index_of}
-use Rattle.graph.specs.Valuation.{variable}
+use Rattle.graph.specs.Valuation.{Valuation, place, value_of, variable}
 use Rattle.graph.specs.declared.circuit.Latch.{Latch}
 use Rattle.graph.specs.declared.circuit.Lit.{Lit}
 use Rattle.graph.specs.declared.symbol.Symbol.{Symbol}
@@ -39,6 +39,17 @@ abbrev pub clause_of : List Latch → List (Option Bool) → List Lit
 clause_of [] cube = []
 clause_of (l ∷ ls) [] = []
 clause_of (l ∷ ls) (b ∷ cube) = literals_against l b ++ clause_of ls cube
+
+-- the latches have the values that the cube says
+abbrev pub IsIn : Valuation → List Latch → List (Option Bool) → Type 0
+IsIn w [] cube = Unit {0}
+IsIn w (l ∷ ls) [] = Unit {0}
+IsIn w (l ∷ ls) (None ∷ cube) = IsIn w ls cube
+IsIn w (l ∷ ls) (Some b ∷ cube) = (place w (variable l.lit) ≡ latch_value l b) × IsIn w ls cube
+
+-- a clause is false exactly where the latches have the values of its cube
+abbrev pub NegationLaw : Type 0
+NegationLaw = (w : Valuation) (columns : List Latch) (cube : List (Option Bool)) → IsIn w columns cube ↔ All (λ a. value_of w a ≡ false) (clause_of columns cube)
 
 -- ---- the text
 

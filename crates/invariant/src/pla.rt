@@ -4,7 +4,7 @@ ghost use Rattle.base.specs.Witness.{witness};
 ghost use Rattle.std.specs.Prelude.{◌≡◌, List, false, IfOk, MatchResult};
 ghost use Rattle.scan.specs.Reading.{Gives};
 ghost use Rattle.graph.specs.declared.circuit.Lit.{Lit as ALit};
-ghost use Rattle.invariant.specs.Plas.{SpellsPla, behind_comments};
+ghost use Rattle.invariant.specs.Plas.{NegationLaw, SpellsPla, behind_comments};
 ghost use Rattle.invariant.specs.PlaReading.{behind_lines, end_at, head_at, pla_at, wide_at};
 ghost use Rattle.invariant.specs.Texts.{IsRead};
 
@@ -117,6 +117,8 @@ pub fn read_pla(
 ) -> Result<Seq<Seq<Lit>>, InvariantError>
     // What is read is spelled so.
     ensures found { IfOk result (λ cs. SpellsPla file.now text.now cs) }
+    // A clause is false exactly in the states of its cube.
+    ensures negation { NegationLaw }
     // What is spelled so is read, unless memory runs out.
     ensures only { (cs : List (List ALit)) → SpellsPla file.now text.now cs → IsRead result cs }
 {

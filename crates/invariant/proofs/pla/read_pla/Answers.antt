@@ -1,5 +1,6 @@
 use Rattle.std.proofs.Common.{sym, length, ◌∙◌}
 use Rattle.std.proofs.lemmas.Option.{same_Some}
+use Rattle.invariant.proofs.Negated.{negation_law}
 use Rattle.invariant.proofs.PlaLaws.{pla_found, pla_again, pla_fails}
 use Rattle.invariant.proofs.pla.read_pla.Goals as goal
 
@@ -13,3 +14,9 @@ returns-in-Ok-clause-only c =
 pub returns-in-Err-clause-only : goal.returns-in-Err-clause-only
 returns-in-Err-clause-only c =
     λ cs s. c.error.ensures ∙ pla_fails c.args.file.now c.args.text.now cs (length c.args.text.now) c.in-Err.fault c.in-Err.ensures s
+
+pub returns-in-Ok-clause-negation : goal.returns-in-Ok-clause-negation
+returns-in-Ok-clause-negation c = negation_law
+
+pub returns-in-Err-clause-negation : goal.returns-in-Err-clause-negation
+returns-in-Err-clause-negation c = negation_law
