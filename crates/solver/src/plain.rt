@@ -54,6 +54,8 @@ impl Sat for Plain {
 
     ghost clauses = { λ s. s.clauses };
 
+    ghost is_full = { λ s. length s.clauses ≡ 4294967295 };
+
     fn reset(&mut self, alloc: Global, count: u32) -> Result<(), SatError> {
         self.formula = Formula {
             vars: count,
@@ -73,7 +75,7 @@ impl Sat for Plain {
         ensures ok { OnOk result (self.new.clauses ≡ self.old.clauses ++ clause.now ∷ []) }
         ensures few { OnOk result (length self.new.clauses ≤ 4294967295) }
         ensures err { OnErr result (self.new.clauses ≡ self.old.clauses) }
-        ensures limit { IfErr result (λ e. e ≡ Limit → length self.old.clauses ≡ 4294967295) }
+        ensures limit { IfErr result (λ e. e ≡ Limit → (length self.old.clauses ≡ 4294967295) × (length self.new.clauses ≡ 4294967295)) }
     {
         if self.formula.clauses.len() >= 4_294_967_295 {
             return Err(SatError::Limit);
