@@ -6,3 +6,4 @@ pub mod Units
 pub mod Refutations
 pub mod Refuting
 pub mod Closings
+pub mod Solving

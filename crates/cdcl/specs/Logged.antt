@@ -74,7 +74,8 @@ IsLog Open n v ks ls end = AreLines (formula_of v ks) n ls × LeadTo (formula_of
 IsLog Closed n v ks ls end = AreLines (formula_of v ks) n ls × ((l : Line) × (end ≡ Some l) × IsNext (formula_of v ks) n ls [] l)
 
 -- what a search may not change: the variables, the clauses that were added, how far a log has come, its room for
--- units and its lines on which closings rest; and the clause of the line that may follow
+-- units and its lines on which closings rest; and the clause of the line that may follow, and how many ids are taken, by
+-- clauses and by the room for units
 pub record Logged : Type 0 where
   pub vars : ℕ
   pub clauses : List (List ℤ)
@@ -82,11 +83,16 @@ pub record Logged : Type 0 where
   pub room : ℕ
   pub shared : List Line
   pub end : Option (List ℤ)
+  pub ids : ℕ
 
 abbrev pub is_wanted : Logging → Bool
 is_wanted Unwanted = false
 is_wanted Open = true
 is_wanted Closed = true
+
+-- all ids are taken
+abbrev pub IsFull : Logged → Type 0
+IsFull k = 4294967295 ≤ k.ids
 
 -- the clause that may follow denies some of these literals, and no others
 abbrev pub EndDenies : Logged → List ℤ → Type 0

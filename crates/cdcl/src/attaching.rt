@@ -1,6 +1,10 @@
 //! Clauses that were added since the last call.
 
+ghost use Rattle.std.specs.Prelude.{◌≡◌, IfErr};
 ghost use Rattle.cdcl.specs.Keeping.{Keeps};
+ghost use Rattle.solver.specs.declared.sat_error.SatError.TheVariants.{Limit, OutOfMemory};
+ghost use Rattle.base.specs.Witness.{witness};
+ghost use Rattle.cdcl.specs.Logged.{IsFull};
 
 use crate::guide::Guide;
 use crate::levels::go_back;
@@ -15,7 +19,8 @@ use solver::SatError;
 /// brought on the trail in each call, until one begins at level 0. All have their places first,
 /// since a literal that comes on the trail at level 0 is learned as a clause behind them.
 pub fn attach_new(kernel: &mut LoggedKernel, guide: &mut Guide) -> Result<(), SatError>
-    ensures { Keeps kernel.old kernel.new }
+    ensures keeps { Keeps kernel.old kernel.new }
+    ensures limit { IfErr result (λ e. e ≡ Limit → IsFull kernel.new) }
 {
     let first = guide.watches.len();
     let last = kernel.known().clauses();
@@ -31,7 +36,8 @@ pub fn attach_new(kernel: &mut LoggedKernel, guide: &mut Guide) -> Result<(), Sa
 /// Watches a clause. One of a single literal is kept to be brought on the trail; any other that can't be
 /// watched is looked at at level 0.
 fn attach(kernel: &mut LoggedKernel, guide: &mut Guide, id: u32) -> Result<(), SatError>
-    ensures { Keeps kernel.old kernel.new }
+    ensures keeps { Keeps kernel.old kernel.new }
+    ensures limit { IfErr result (λ e. e ≡ Limit → IsFull kernel.new) }
 {
     if let Some(clause) = kernel.known().clause(id) {
         guide.take_in(clause)?;
@@ -51,7 +57,9 @@ fn attach(kernel: &mut LoggedKernel, guide: &mut Guide, id: u32) -> Result<(), S
 }
 
 /// Watches a clause that has two literals which are not false, and answers whether it has.
-fn watch(kernel: &Kernel, guide: &mut Guide, id: u32) -> Result<bool, SatError> {
+fn watch(kernel: &Kernel, guide: &mut Guide, id: u32) -> Result<bool, SatError>
+    ensures refused { IfErr result (λ e. e ≡ OutOfMemory witness) }
+{
     let Some(clause) = kernel.clause(id) else {
         return Ok(false);
     };
@@ -64,7 +72,8 @@ fn watch(kernel: &Kernel, guide: &mut Guide, id: u32) -> Result<bool, SatError> 
 
 /// Brings the literal that a clause leaves on the trail. A clause that is false waits to be met.
 fn bring(kernel: &mut LoggedKernel, guide: &mut Guide, id: u32) -> Result<(), SatError>
-    ensures { Keeps kernel.old kernel.new }
+    ensures keeps { Keeps kernel.old kernel.new }
+    ensures limit { IfErr result (λ e. e ≡ Limit → IsFull kernel.new) }
 {
     if let Found::Conflict = imply(kernel, guide, id)? {
         guide.waiting = Some(id);
@@ -74,7 +83,8 @@ fn bring(kernel: &mut LoggedKernel, guide: &mut Guide, id: u32) -> Result<(), Sa
 
 /// Brings the literal of the clause at a place of those that have one.
 fn bring_at(kernel: &mut LoggedKernel, guide: &mut Guide, at: usize) -> Result<(), SatError>
-    ensures { Keeps kernel.old kernel.new }
+    ensures keeps { Keeps kernel.old kernel.new }
+    ensures limit { IfErr result (λ e. e ≡ Limit → IsFull kernel.new) }
 {
     match guide.single.get(at).copied() {
         Some(id) => bring(kernel, guide, id),
@@ -84,7 +94,8 @@ fn bring_at(kernel: &mut LoggedKernel, guide: &mut Guide, at: usize) -> Result<(
 
 /// Brings the literals of the clauses on the trail that have one. At level 0 they stay there.
 fn bring_single(kernel: &mut LoggedKernel, guide: &mut Guide) -> Result<(), SatError>
-    ensures { Keeps kernel.old kernel.new }
+    ensures keeps { Keeps kernel.old kernel.new }
+    ensures limit { IfErr result (λ e. e ≡ Limit → IsFull kernel.new) }
 {
     for at in 0..guide.single.len() {
         bring_at(kernel, guide, at)?;
@@ -104,7 +115,8 @@ fn two_open(kernel: &Kernel, id: u32) -> Option<(i32, i32)> {
 
 /// Lets a clause wait no longer that is not false.
 pub fn recall(kernel: &mut LoggedKernel, guide: &mut Guide) -> Result<(), SatError>
-    ensures { Keeps kernel.old kernel.new }
+    ensures keeps { Keeps kernel.old kernel.new }
+    ensures limit { IfErr result (λ e. e ≡ Limit → IsFull kernel.new) }
 {
     if let Some(id) = guide.waiting {
         guide.waiting = match imply(kernel, guide, id)? {

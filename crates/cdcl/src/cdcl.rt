@@ -1,6 +1,6 @@
 //! The conflict-driven solver.
 
-ghost use Rattle.std.specs.Prelude.{◌≡◌, []};
+ghost use Rattle.std.specs.Prelude.{◌≡◌, ◌≤◌, []};
 
 use crate::guide::Guide;
 use crate::logged_kernel::LoggedKernel;
@@ -21,21 +21,21 @@ pub struct Cdcl {
 }
 
 impl Model for Cdcl {
-    ghost use Rattle.lrat.specs.declared.formula.Formula.{Formula};
     ghost use Rattle.cdcl.specs.Logged.{is_wanted};
+    ghost use Rattle.cdcl.specs.Solving.{Solving};
     ghost use Rattle.std.specs.Prelude.{◌≡◌, false};
 
-    ghost Value = { Formula };
+    ghost Value = { Solving };
 
-    ghost view = { λ s. record { vars = s.kernel.vars; clauses = s.kernel.clauses } };
+    ghost view = { λ s. record { vars = s.kernel.vars; clauses = s.kernel.clauses; ids = s.kernel.ids } };
 
-    ghost invariant = { λ s. is_wanted s.kernel.log ≡ false };
+    ghost invariant = { λ s. (is_wanted s.kernel.log ≡ false) × (s.kernel.room ≡ 0) };
 }
 
 impl Cdcl {
     /// A solver over no variables and without clauses, which takes no memory.
     pub fn new(alloc: Global) -> Cdcl
-        ensures { result ≡ record { vars = 0; clauses = [] } }
+        ensures { result ≡ record { vars = 0; clauses = []; ids = 0 } }
     {
         Cdcl {
             kernel: LoggedKernel::new(alloc),
@@ -48,6 +48,8 @@ impl Sat for Cdcl {
     ghost vars = { λ s. s.vars };
 
     ghost clauses = { λ s. s.clauses };
+
+    ghost is_full = { λ s. 4294967295 ≤ s.ids };
 
     /// It costs the number of variables, and two bytes of memory for each.
     fn reset(&mut self, alloc: Global, count: u32) -> Result<(), SatError> {
@@ -68,7 +70,7 @@ impl Sat for Cdcl {
     }
 
     /// A step of the budget is a clause that is looked at in propagation, or a decision or a
-    /// conflict. After a refusal the clauses are watched anew.
+    /// conflict. After a refusal the clauses are watched anew. What it learns takes ids too.
     fn solve(
         &mut self,
         alloc: Global,

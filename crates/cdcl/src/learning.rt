@@ -4,7 +4,10 @@
 //! The kernel refuses a clause that its hints do not show. Then the decision clause is learned,
 //! which denies all decisions and follows from any conflict.
 
+ghost use Rattle.std.specs.Prelude.{◌≡◌, IfErr};
 ghost use Rattle.cdcl.specs.Keeping.{Keeps};
+ghost use Rattle.solver.specs.declared.sat_error.SatError.TheVariants.{Limit};
+ghost use Rattle.cdcl.specs.Logged.{IsFull};
 
 use crate::analysis::analyse;
 use crate::guide::Guide;
@@ -22,7 +25,8 @@ pub fn learn(
     conflict: u32,
     level: usize,
 ) -> Result<(), SatError>
-    ensures { Keeps kernel.old kernel.new }
+    ensures keeps { Keeps kernel.old kernel.new }
+    ensures limit { IfErr result (λ e. e ≡ Limit → IsFull kernel.new) }
 {
     go_back(kernel, guide, level)?;
     analyse(kernel.known(), guide, conflict, level)?;
@@ -44,7 +48,8 @@ fn learn_clause(
     guide: &mut Guide,
     conflict: u32,
 ) -> Result<bool, SatError>
-    ensures { Keeps kernel.old kernel.new }
+    ensures keeps { Keeps kernel.old kernel.new }
+    ensures limit { IfErr result (λ e. e ≡ Limit → IsFull kernel.new) }
 {
     if kernel.learn(guide.alloc, guide.clause.as_slice(), guide.hints.as_slice())? {
         return Ok(true);

@@ -4,7 +4,10 @@
 //! assumptions have the first levels, in order, and an assumption that is true already has a
 //! level without a decision, so that the level alone says which assumption is next.
 
+ghost use Rattle.std.specs.Prelude.{◌≡◌, IfErr};
 ghost use Rattle.cdcl.specs.Keeping.{Keeps};
+ghost use Rattle.solver.specs.declared.sat_error.SatError.TheVariants.{OutOfMemory};
+ghost use Rattle.base.specs.Witness.{witness};
 
 use crate::guide::Guide;
 use crate::logged_kernel::LoggedKernel;
@@ -84,7 +87,8 @@ impl Levels {
 
 /// Goes back to a level. What goes from the trail keeps its value as a phase.
 pub fn go_back(kernel: &mut LoggedKernel, guide: &mut Guide, level: usize) -> Result<(), SatError>
-    ensures { Keeps kernel.old kernel.new }
+    ensures keeps { Keeps kernel.old kernel.new }
+    ensures refused { IfErr result (λ e. e ≡ OutOfMemory witness) }
 {
     give_up(kernel, guide, level, Phases::Kept)
 }
@@ -92,7 +96,8 @@ pub fn go_back(kernel: &mut LoggedKernel, guide: &mut Guide, level: usize) -> Re
 /// Goes back to a level at the end of a call. The phases of what goes from the trail are the negative
 /// ones again, so that the models of the next call have few variables that are true.
 pub fn leave(kernel: &mut LoggedKernel, guide: &mut Guide, level: usize) -> Result<(), SatError>
-    ensures { Keeps kernel.old kernel.new }
+    ensures keeps { Keeps kernel.old kernel.new }
+    ensures refused { IfErr result (λ e. e ≡ OutOfMemory witness) }
 {
     give_up(kernel, guide, level, Phases::Negative)
 }
@@ -113,7 +118,8 @@ fn give_up(
     level: usize,
     phases: Phases,
 ) -> Result<(), SatError>
-    ensures { Keeps kernel.old kernel.new }
+    ensures keeps { Keeps kernel.old kernel.new }
+    ensures refused { IfErr result (λ e. e ≡ OutOfMemory witness) }
 {
     let Some(start) = guide.levels.starts.get(level) else {
         return Ok(());
@@ -139,7 +145,8 @@ pub fn open_level(
     guide: &mut Guide,
     literal: i32,
 ) -> Result<(), SatError>
-    ensures { Keeps kernel.old kernel.new }
+    ensures keeps { Keeps kernel.old kernel.new }
+    ensures refused { IfErr result (λ e. e ≡ OutOfMemory witness) }
 {
     let place = kernel.known().len();
     push(&mut guide.levels.starts, place)?;

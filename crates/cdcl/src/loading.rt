@@ -1,8 +1,9 @@
 //! The clauses of a formula in a kernel.
 
-ghost use Rattle.std.specs.Prelude.{◌≡◌, IfOk, OnOk, map};
+ghost use Rattle.std.specs.Prelude.{◌≡◌, ◌≢◌, IfErr, IfOk, OnOk, map};
 ghost use Rattle.cdcl.specs.Logged.{as_added};
 ghost use Rattle.lrat.specs.Limits.{IsFormula};
+ghost use Rattle.solver.specs.declared.sat_error.SatError.TheVariants.{Limit};
 
 use cdcl_kernel::Kernel;
 use lrat::Formula;
@@ -14,6 +15,7 @@ pub fn load(alloc: Global, formula: &Formula) -> Result<Kernel, SatError>
     requires { IsFormula formula.now }
     ensures vars { IfOk result (λ k. k.vars ≡ formula.now.vars) }
     ensures clauses { IfOk result (λ k. k.kept ≡ map as_added formula.now.clauses) }
+    ensures unlimited { IfErr result (λ e. e ≢ Limit) }
 {
     let mut kernel = Kernel::new(alloc);
     kernel.reset(alloc, formula.vars)?;

@@ -6,11 +6,11 @@
 //! and the lines that this rests on are a proof that is accepted. What is forgotten stays in the
 //! log, since a later line may rest on what rests on it. Where no log is wanted nothing is kept.
 
-ghost use Rattle.std.specs.Prelude.{◌≡◌, ◌≤◌, ◌<◌, ◌++◌, ◌∷◌, [], None, Some, ℤ, false, true, if◌then◌else◌, All, List, IfOk, IfErr, IfSome, IsOk, OnOk, OnErr, length, unsigned_abs};
+ghost use Rattle.std.specs.Prelude.{◌≡◌, ◌+◌, ◌≢◌, ◌≤◌, ◌<◌, ◌++◌, ◌∷◌, [], None, Some, ℤ, false, true, if◌then◌else◌, All, List, IfOk, IfErr, IfSome, IsOk, OnOk, OnErr, length, unsigned_abs};
 ghost use Rattle.std.specs.Vec.{vec_capacity, vec_len};
 ghost use Rattle.cdcl.specs.Closings.{AreLemmas, IsClosingOf, StaysShown};
 ghost use Rattle.cdcl.specs.Keeping.{Keeps};
-ghost use Rattle.cdcl.specs.Logged.{Logged, EndDenies, added_to, is_wanted, with_units};
+ghost use Rattle.cdcl.specs.Logged.{Logged, EndDenies, added_to, is_wanted, with_units, IsFull};
 ghost use Rattle.cdcl.specs.Refuting.{refuting};
 ghost use Rattle.cdcl.specs.Settled.{Ends};
 ghost use Rattle.cdcl.specs.declared.logging.Logging.TheVariants.{Unwanted, Open};
@@ -20,6 +20,8 @@ ghost use Rattle.lrat.specs.Limits.{IsFormula};
 ghost use Rattle.lrat.specs.Literals.{IsLiteral};
 ghost use Rattle.lrat.specs.Proofs.{IsAcceptedProof};
 ghost use Rattle.solver.specs.Answers.{IsCore, IsModel};
+ghost use Rattle.solver.specs.declared.sat_error.SatError.TheVariants.{Limit, OutOfMemory};
+ghost use Rattle.base.specs.Witness.{witness};
 
 use crate::closing::{closing_line, denied_places, opposed_line};
 use crate::lemmas::{Lemmas, all_hints, greatest_id};
@@ -49,13 +51,13 @@ pub struct LoggedKernel {
 }
 
 impl Model for LoggedKernel {
-    ghost use Rattle.std.specs.Prelude.{option_map, take};
+    ghost use Rattle.std.specs.Prelude.{◌+◌, length, option_map, take};
     ghost use Rattle.cdcl.specs.Logged.{Logged, IsLog, clause_of};
     ghost use Rattle.cdcl_kernel.specs.Kept.{added};
 
     ghost Value = { Logged };
 
-    ghost view = { λ s. record { vars = s.kernel.vars; clauses = added s.kernel.kept; log = s.log; room = s.numbering.room; shared = take s.numbering.shared s.lines.items; end = option_map clause_of s.end } };
+    ghost view = { λ s. record { vars = s.kernel.vars; clauses = added s.kernel.kept; log = s.log; room = s.numbering.room; shared = take s.numbering.shared s.lines.items; end = option_map clause_of s.end; ids = length s.kernel.kept + s.numbering.room } };
 
     ghost invariant = { λ s. IsLog s.log s.numbering s.kernel.vars s.kernel.kept s.lines.items s.end };
 }
@@ -63,7 +65,7 @@ impl Model for LoggedKernel {
 impl LoggedKernel {
     /// No variables, no clauses and no log, which take no memory.
     pub fn new(alloc: Global) -> LoggedKernel
-        ensures { result ≡ record { vars = 0; clauses = []; log = Unwanted; room = 0; shared = []; end = None } }
+        ensures { result ≡ record { vars = 0; clauses = []; log = Unwanted; room = 0; shared = []; end = None; ids = 0 } }
     {
         LoggedKernel {
             kernel: Kernel::new(alloc),
@@ -81,7 +83,8 @@ impl LoggedKernel {
     /// The clauses of the formula, and a log without lines, which has room for this number of units.
     pub fn of_formula(alloc: Global, formula: &Formula, room: u32) -> Result<LoggedKernel, SatError>
         requires { IsFormula formula.now }
-        ensures { IfOk result (λ k. k ≡ record { vars = formula.now.vars; clauses = formula.now.clauses; log = Open; room = room; shared = []; end = None }) }
+        ensures loaded { IfOk result (λ k. k ≡ record { vars = formula.now.vars; clauses = formula.now.clauses; log = Open; room = room; shared = []; end = None; ids = length formula.now.clauses + room }) }
+        ensures unlimited { IfErr result (λ e. e ≢ Limit) }
     {
         let base = formula.clauses.len() as u32;
         Ok(LoggedKernel {
@@ -110,8 +113,9 @@ impl LoggedKernel {
     pub fn reset(&mut self, alloc: Global, vars: u32) -> Result<(), SatError>
         requires small { vars ≤ 2147483647 }
         requires unlogged { is_wanted self.old.log ≡ false }
-        ensures ok { OnOk result (self.new ≡ record { vars = vars; clauses = []; log = Unwanted; room = self.old.room; shared = self.old.shared; end = self.old.end }) }
+        ensures ok { OnOk result (self.new ≡ record { vars = vars; clauses = []; log = Unwanted; room = self.old.room; shared = self.old.shared; end = self.old.end; ids = self.old.room }) }
         ensures err { OnErr result (self.new ≡ self.old) }
+        ensures refused { IfErr result (λ e. e ≡ OutOfMemory witness) }
     {
         self.kernel.reset(alloc, vars)
     }
@@ -125,7 +129,9 @@ impl LoggedKernel {
         ensures room { self.new.room ≡ self.old.room }
         ensures shared { self.new.shared ≡ self.old.shared }
         ensures ok { OnOk result (self.new.clauses ≡ self.old.clauses ++ clause.now ∷ []) }
+        ensures taken { OnOk result (self.new.ids ≡ self.old.ids + 1) }
         ensures err { OnErr result (self.new ≡ self.old) }
+        ensures limit { IfErr result (λ e. e ≡ Limit → IsFull self.old) }
     {
         self.kernel.add(clause)
     }
@@ -133,14 +139,16 @@ impl LoggedKernel {
     /// `Kernel::imply`.
     #[inline]
     pub fn imply(&mut self, id: u32) -> Result<Found, SatError>
-        ensures { Keeps self.old self.new }
+        ensures keeps { Keeps self.old self.new }
+        ensures refused { IfErr result (λ e. e ≡ OutOfMemory witness) }
     {
         self.kernel.imply(id)
     }
 
     /// `Kernel::decide`.
     pub fn decide(&mut self, literal: i32) -> Result<bool, SatError>
-        ensures { Keeps self.old self.new }
+        ensures keeps { Keeps self.old self.new }
+        ensures refused { IfErr result (λ e. e ≡ OutOfMemory witness) }
     {
         self.kernel.decide(literal)
     }
@@ -149,13 +157,16 @@ impl LoggedKernel {
     pub fn backtrack(&mut self, len: usize)
         ensures keeps { Keeps self.old self.new }
         ensures log { self.new.log ≡ self.old.log }
+        ensures ids { self.new.ids ≡ self.old.ids }
     {
         self.kernel.backtrack(len);
     }
 
-    /// `Kernel::learn`, and a line of the log for the clause. A refusal changes nothing.
+    /// `Kernel::learn`, and a line of the log for the clause. A refusal changes nothing, and is `Limit`
+    /// only where all ids are taken.
     pub fn learn(&mut self, alloc: Global, clause: &[i32], hints: &[u32]) -> Result<bool, SatError>
-        ensures { Keeps self.old self.new }
+        ensures keeps { Keeps self.old self.new }
+        ensures limit { IfErr result (λ e. e ≡ Limit → IsFull self.new) }
     {
         match self.log {
             Logging::Open => self.learn_logged(alloc, clause, hints),
@@ -172,7 +183,8 @@ impl LoggedKernel {
         hints: &[u32],
     ) -> Result<bool, SatError>
         requires { self.old.log ≡ Open }
-        ensures { Keeps self.old self.new }
+        ensures keeps { Keeps self.old self.new }
+        ensures limit { IfErr result (λ e. e ≡ Limit → IsFull self.new) }
     {
         let id = next_id(&self.kernel, self.numbering)?;
         let line = added_line(alloc, id, clause, hints, self.numbering)?;
@@ -195,7 +207,8 @@ impl LoggedKernel {
         alloc: Global,
         conflict: u32,
     ) -> Result<Option<Vec<i32>>, SatError>
-        ensures { Keeps self.old self.new }
+        ensures keeps { Keeps self.old self.new }
+        ensures limit { IfErr result (λ e. e ≡ Limit → IsFull self.new) }
     {
         let Found::Conflict = self.kernel.imply(conflict)? else {
             return Ok(None);
@@ -213,7 +226,8 @@ impl LoggedKernel {
         conflict: u32,
     ) -> Result<Option<Vec<i32>>, SatError>
         requires { self.old.log ≡ Open }
-        ensures { Keeps self.old self.new }
+        ensures keeps { Keeps self.old self.new }
+        ensures limit { IfErr result (λ e. e ≡ Limit → IsFull self.new) }
     {
         let clause = self.kernel.denial(alloc)?;
         let hints = self.kernel.denial_hints(alloc, conflict)?;
@@ -226,7 +240,8 @@ impl LoggedKernel {
 
     /// `Kernel::forget`. The log keeps the lines.
     pub fn forget(&mut self, alloc: Global, ids: &[u32]) -> Result<(), SatError>
-        ensures { Keeps self.old self.new }
+        ensures keeps { Keeps self.old self.new }
+        ensures refused { IfErr result (λ e. e ≡ OutOfMemory witness) }
     {
         self.kernel.forget(alloc, ids)?;
         Ok(())
@@ -243,6 +258,7 @@ impl LoggedKernel {
         ensures keeps { Keeps self.old self.new }
         ensures core { IfOk result (λ r. IfSome r (λ core. IsCore self.old.clauses assume.now core.items)) }
         ensures ends { IfOk result (λ r. IfSome r (λ core. Ends self.old self.new assume.now)) }
+        ensures limit { IfErr result (λ e. e ≡ Limit → IsFull self.new) }
     {
         let Some(core) = self.kernel.core_of(alloc, clause, hints, assume)? else {
             return Ok(None);
@@ -294,7 +310,8 @@ impl LoggedKernel {
         requires opposed { IsOpposed units.now literal }
         requires in_range { unsigned_abs literal ≤ 2147483647 }
         requires few { length units.now ≤ self.now.room }
-        ensures { IfOk result (λ p. IsAcceptedProof (with_units (added_to self.now) units.now) p) }
+        ensures accepted { IfOk result (λ p. IsAcceptedProof (with_units (added_to self.now) units.now) p) }
+        ensures limit { IfErr result (λ e. e ≡ Limit → IsFull self.now) }
     {
         let id = next_id(&self.kernel, self.numbering)?;
         let line = opposed_line(alloc, self.numbering, units, id, literal)?;

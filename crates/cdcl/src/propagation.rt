@@ -6,8 +6,11 @@
 //! first, since they are looked at without being fetched. Each clause looked at is a step of the
 //! budget; a clause whose blocker is true is not looked at.
 
+ghost use Rattle.std.specs.Prelude.{◌≡◌, IfErr};
 ghost use Rattle.base.specs.Budget.{Spends};
 ghost use Rattle.cdcl.specs.Keeping.{Keeps};
+ghost use Rattle.solver.specs.declared.sat_error.SatError.TheVariants.{Limit};
+ghost use Rattle.cdcl.specs.Logged.{IsFull};
 
 use crate::guide::Guide;
 use crate::logged_kernel::LoggedKernel;
@@ -47,6 +50,7 @@ pub fn propagate(
 ) -> Result<Propagated, SatError>
     ensures keeps { Keeps kernel.old kernel.new }
     ensures spends { Spends budget.old budget.new }
+    ensures limit { IfErr result (λ e. e ≡ Limit → IsFull kernel.new) }
 {
     for _ in 0..kernel.known().vars() as u64 + 1 {
         let Some(literal) = kernel.known().literal(guide.head) else {
@@ -70,6 +74,7 @@ fn propagate_literal(
 ) -> Result<Propagated, SatError>
     ensures keeps { Keeps kernel.old kernel.new }
     ensures spends { Spends budget.old budget.new }
+    ensures limit { IfErr result (λ e. e ≡ Limit → IsFull kernel.new) }
 {
     match visit_binary(kernel, guide, budget, denied)? {
         Propagated::Quiet => {}
@@ -90,6 +95,7 @@ fn visit_binary(
 ) -> Result<Propagated, SatError>
     ensures keeps { Keeps kernel.old kernel.new }
     ensures spends { Spends budget.old budget.new }
+    ensures limit { IfErr result (λ e. e ≡ Limit → IsFull kernel.new) }
 {
     for at in 0..guide.watches.binary(denied).len() {
         let Some(watch) = guide.watches.binary(denied).get(at).copied() else {
@@ -119,6 +125,7 @@ fn visit_long(
 ) -> Result<Propagated, SatError>
     ensures keeps { Keeps kernel.old kernel.new }
     ensures spends { Spends budget.old budget.new }
+    ensures limit { IfErr result (λ e. e ≡ Limit → IsFull kernel.new) }
 {
     let mut kept = 0;
     for at in 0..list.len() {
@@ -174,7 +181,8 @@ fn look_at(
     denied: i32,
     id: u32,
 ) -> Result<Visit, SatError>
-    ensures { Keeps kernel.old kernel.new }
+    ensures keeps { Keeps kernel.old kernel.new }
+    ensures limit { IfErr result (λ e. e ≡ Limit → IsFull kernel.new) }
 {
     let other = guide.watches.other(id, denied);
     if kernel.known().is_true(other) {

@@ -4,7 +4,10 @@
 //! after some conflicts the longer half of those with more than two literals goes, but for the
 //! reasons of literals on the trail; of two that are as long the older one goes first.
 
+ghost use Rattle.std.specs.Prelude.{◌≡◌, IfErr};
 ghost use Rattle.cdcl.specs.Keeping.{Keeps};
+ghost use Rattle.solver.specs.declared.sat_error.SatError.TheVariants.{OutOfMemory};
+ghost use Rattle.base.specs.Witness.{witness};
 
 use crate::guide::Guide;
 use crate::logged_kernel::LoggedKernel;
@@ -16,7 +19,8 @@ pub const INTERVAL: u64 = 2000;
 
 /// Takes the longer half of the learned clauses out.
 pub fn reduce(kernel: &mut LoggedKernel, guide: &mut Guide) -> Result<(), SatError>
-    ensures { Keeps kernel.old kernel.new }
+    ensures keeps { Keeps kernel.old kernel.new }
+    ensures refused { IfErr result (λ e. e ≡ OutOfMemory witness) }
 {
     guide
         .learned

@@ -1,14 +1,14 @@
 //! Proofs that nothing satisfies a formula with some units, for many lists of units.
 
-ghost use Rattle.std.specs.Prelude.{◌≡◌, ◌≤◌, ◌⊎◌, [], ℤ, true, All, IfErr, IfOk, List, length};
+ghost use Rattle.std.specs.Prelude.{◌≡◌, ◌≢◌, ◌≤◌, ◌⊎◌, [], ℤ, true, All, IfErr, IfOk, List, length};
 ghost use Rattle.base.specs.Budget.{Spends};
 ghost use Rattle.base.specs.Witness.{witness};
 ghost use Rattle.cdcl.specs.Closings.{AreLemmas, IsClosingOf, IsShown, StaysShown};
 ghost use Rattle.cdcl.specs.Refuting.{refuting};
-ghost use Rattle.solver.specs.declared.sat_error.SatError.TheVariants.{OutOfMemory};
+ghost use Rattle.solver.specs.declared.sat_error.SatError.TheVariants.{Limit, OutOfMemory};
 ghost use Rattle.cdcl_kernel.specs.Verdicts.{IsOpposed};
 ghost use Rattle.cdcl.specs.Keeping.{Keeps};
-ghost use Rattle.cdcl.specs.Logged.{EndDenies, added_to, is_wanted, with_units};
+ghost use Rattle.cdcl.specs.Logged.{EndDenies, added_to, is_wanted, with_units, IsFull};
 ghost use Rattle.cdcl.specs.Refutations.{IsProved};
 ghost use Rattle.cdcl.specs.Settled.{EndsWith};
 ghost use Rattle.lrat.specs.Limits.{IsFormula};
@@ -50,12 +50,14 @@ impl Model for Refuter {
 }
 
 impl Refuter {
-    /// A solver that has loaded the formula, for lists of at most `room` units.
+    /// A solver that has loaded the formula, for lists of at most `room` units. It is refused only
+    /// when out of memory.
     pub fn new(alloc: Global, formula: &Formula, room: u32) -> Result<Refuter, SatError>
         requires { IsFormula formula.now }
         ensures formula { IfOk result (λ r. r.formula ≡ formula.now) }
         ensures room { IfOk result (λ r. r.room ≡ room) }
         ensures log { IfOk result (λ r. r.log ≡ []) }
+        ensures unlimited { IfErr result (λ e. e ≢ Limit) }
     {
         Ok(Refuter {
             kernel: LoggedKernel::of_formula(alloc, formula, room)?,
@@ -138,6 +140,7 @@ fn searched(
     ensures spends { Spends budget.old budget.new }
     ensures lawful { IfOk result (IsLawful kernel.old.vars kernel.old.clauses units.now budget.new) }
     ensures ends { IfOk result (EndsWith kernel.old kernel.new units.now) }
+    ensures limit { IfErr result (λ e. e ≡ Limit → IsFull kernel.new) }
 {
     let answer = search(kernel, guide, units, budget);
     if answer.is_err() {
@@ -158,6 +161,7 @@ fn closing(alloc: Global, kernel: &mut LoggedKernel, units: &[i32]) -> Result<Cl
     ensures room { kernel.new.room ≡ kernel.old.room }
     ensures stays { StaysShown (refuting kernel.old) (refuting kernel.new) }
     ensures closing { IfOk result (IsClosingOf (refuting kernel.new) units.now) }
+    ensures refused { IfErr result (λ e. e ≡ OutOfMemory witness) }
 {
     let known = kernel.known();
     let _vars = known.vars();
@@ -173,7 +177,8 @@ fn proof(alloc: Global, kernel: &LoggedKernel, units: &[i32]) -> Result<Proof, S
     requires literals { All (IsLiteral kernel.now.vars) units.now }
     requires few { length units.now ≤ kernel.now.room }
     requires shown { ((l : ℤ) × IsOpposed units.now l) ⊎ EndDenies kernel.now units.now }
-    ensures { IfOk result (IsAcceptedProof (with_units (added_to kernel.now) units.now)) }
+    ensures accepted { IfOk result (IsAcceptedProof (with_units (added_to kernel.now) units.now)) }
+    ensures limit { IfErr result (λ e. e ≡ Limit → IsFull kernel.now) }
 {
     let known = kernel.known();
     let _vars = known.vars();

@@ -1,11 +1,13 @@
 //! The search: propagate, learn from a conflict, decide.
 
-ghost use Rattle.std.specs.Prelude.{All, IfOk, IfSome};
+ghost use Rattle.std.specs.Prelude.{◌≡◌, All, IfOk, IfSome, IfErr};
 ghost use Rattle.base.specs.Budget.{Spends};
 ghost use Rattle.cdcl.specs.Keeping.{Keeps};
 ghost use Rattle.lrat.specs.Literals.{IsLiteral};
 ghost use Rattle.cdcl.specs.Settled.{EndsWith, IsSettled};
 ghost use Rattle.solver.specs.Answers.{IsLawful};
+ghost use Rattle.solver.specs.declared.sat_error.SatError.TheVariants.{Limit};
+ghost use Rattle.cdcl.specs.Logged.{IsFull};
 
 use crate::analysis::top_level;
 use crate::attaching::{attach_new, recall};
@@ -33,7 +35,8 @@ enum Next {
 }
 
 /// Finds a model under the assumptions, or part of them that can't hold. Where a log is wanted, the
-/// clause that denies that part may follow it then.
+/// clause that denies that part may follow it then. It is refused for `Limit` only where all ids are
+/// taken then.
 pub fn search(
     kernel: &mut LoggedKernel,
     guide: &mut Guide,
@@ -45,6 +48,7 @@ pub fn search(
     ensures spends { Spends budget.old budget.new }
     ensures lawful { IfOk result (IsLawful kernel.old.vars kernel.old.clauses assume.now budget.new) }
     ensures ends { IfOk result (EndsWith kernel.old kernel.new assume.now) }
+    ensures limit { IfErr result (λ e. e ≡ Limit → IsFull kernel.new) }
 {
     reuse_trail(kernel, guide, assume)?;
     guide.grow_to(assume)?;
@@ -70,6 +74,7 @@ fn turn(
     ensures spends { Spends budget.old budget.new }
     ensures lawful { IfOk result (λ r. IfSome r (IsSettled kernel.old assume.now)) }
     ensures ends { IfOk result (λ r. IfSome r (EndsWith kernel.old kernel.new assume.now)) }
+    ensures limit { IfErr result (λ e. e ≡ Limit → IsFull kernel.new) }
 {
     if let Some(conflict) = guide.waiting {
         return meet(kernel, guide, conflict, assume);
@@ -91,6 +96,7 @@ fn meet(
     ensures keeps { Keeps kernel.old kernel.new }
     ensures lawful { IfOk result (λ r. IfSome r (IsSettled kernel.old assume.now)) }
     ensures ends { IfOk result (λ r. IfSome r (EndsWith kernel.old kernel.new assume.now)) }
+    ensures limit { IfErr result (λ e. e ≡ Limit → IsFull kernel.new) }
 {
     guide.conflicts = guide.conflicts.saturating_add(1);
     let level = top_level(kernel.known(), guide, conflict);
@@ -121,6 +127,7 @@ fn advance(
     ensures keeps { Keeps kernel.old kernel.new }
     ensures lawful { IfOk result (λ r. IfSome r (IsSettled kernel.old assume.now)) }
     ensures ends { IfOk result (λ r. IfSome r (EndsWith kernel.old kernel.new assume.now)) }
+    ensures limit { IfErr result (λ e. e ≡ Limit → IsFull kernel.new) }
 {
     match choose(kernel.known(), guide, assume) {
         Next::Decide(literal) => {
@@ -168,6 +175,7 @@ fn look_through(
     ensures keeps { Keeps kernel.old kernel.new }
     ensures lawful { IfOk result (λ r. IfSome r (IsSettled kernel.old assume.now)) }
     ensures ends { IfOk result (λ r. IfSome r (EndsWith kernel.old kernel.new assume.now)) }
+    ensures limit { IfErr result (λ e. e ≡ Limit → IsFull kernel.new) }
 {
     let values = kernel.known().model_of(guide.alloc, assume)?;
     if values.is_none() {
@@ -178,7 +186,8 @@ fn look_through(
 
 /// Goes on where a clause has no true literal although no variable seemed open.
 fn repair(kernel: &mut LoggedKernel, guide: &mut Guide) -> Result<(), SatError>
-    ensures { Keeps kernel.old kernel.new }
+    ensures keeps { Keeps kernel.old kernel.new }
+    ensures limit { IfErr result (λ e. e ≡ Limit → IsFull kernel.new) }
 {
     let Some(id) = kernel.known().unsatisfied() else {
         return Ok(());

@@ -4,7 +4,10 @@
 //! those of the call before keeps their levels, with all that follows from them, and so costs
 //! nothing for them.
 
+ghost use Rattle.std.specs.Prelude.{◌≡◌, IfErr};
 ghost use Rattle.cdcl.specs.Keeping.{Keeps};
+ghost use Rattle.solver.specs.declared.sat_error.SatError.TheVariants.{OutOfMemory};
+ghost use Rattle.base.specs.Witness.{witness};
 
 use crate::guide::Guide;
 use crate::levels::leave;
@@ -22,7 +25,8 @@ pub fn reuse_trail(
     guide: &mut Guide,
     assume: &[i32],
 ) -> Result<(), SatError>
-    ensures { Keeps kernel.old kernel.new }
+    ensures keeps { Keeps kernel.old kernel.new }
+    ensures refused { IfErr result (λ e. e ≡ OutOfMemory witness) }
 {
     let level = if guide.single.len() > WAITING {
         0

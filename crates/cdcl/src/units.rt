@@ -3,7 +3,10 @@
 //! A literal that comes on the trail at level 0 holds for good. It is learned as a clause of its
 //! own at once, so that a later proof hints that clause in place of all the reasons behind it.
 
+ghost use Rattle.std.specs.Prelude.{◌≡◌, IfErr};
 ghost use Rattle.cdcl.specs.Keeping.{Keeps};
+ghost use Rattle.solver.specs.declared.sat_error.SatError.TheVariants.{Limit};
+ghost use Rattle.cdcl.specs.Logged.{IsFull};
 
 use crate::guide::Guide;
 use crate::lines::last_id;
@@ -14,7 +17,8 @@ use solver::SatError;
 
 /// Puts the literal that a clause leaves on the trail.
 pub fn imply(kernel: &mut LoggedKernel, guide: &mut Guide, id: u32) -> Result<Found, SatError>
-    ensures { Keeps kernel.old kernel.new }
+    ensures keeps { Keeps kernel.old kernel.new }
+    ensures limit { IfErr result (λ e. e ≡ Limit → IsFull kernel.new) }
 {
     let place = kernel.known().len();
     let found = kernel.imply(id)?;
@@ -34,7 +38,8 @@ fn settle(
     literal: i32,
     id: u32,
 ) -> Result<(), SatError>
-    ensures { Keeps kernel.old kernel.new }
+    ensures keeps { Keeps kernel.old kernel.new }
+    ensures limit { IfErr result (λ e. e ≡ Limit → IsFull kernel.new) }
 {
     let variable = literal.unsigned_abs() as usize;
     let Some(clause) = kernel.known().clause(id) else {

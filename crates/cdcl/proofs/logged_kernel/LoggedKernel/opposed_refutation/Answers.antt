@@ -19,8 +19,8 @@ push_line-requires c =
     let lt : length ks + n.room < 4294967295 = c.in_ok-id.ensures.few in
     subst IsLine (sym e.2) (opposed_is_line n.base n.room c.in_ok-id.id us _ e.0 e.1 few (above_room n.base n.room c.in_ok-id.id ks base is) (omega (arith, is, lt)) e.3 e.4)
 
-pub returns : goal.returns
-returns c =
+pub returns-clause-accepted : goal.returns-clause-accepted
+returns-clause-accepted c =
     let n = c.self.inside.numbering in
     let ks = c.self.inside.kernel.kept in
     let us = c.args.units.now in

@@ -21,4 +21,4 @@ pub returns-in-Core-clause-lawful : goal.returns-in-Core-clause-lawful
 returns-in-Core-clause-lawful c =
     let k = c.in_ok-values.ensures.keeps in
     subst (λ f. IsAcceptedProof (with_units f c.args.units.now) c.in_ok-proof-in-Core.field-0)
-    (same_formula c.self.inside.kernel c.searched.new.kernel k.same_vars k.same_clauses ∙ ap (λ (r : Refuting). r.formula) c.self.view_is) c.in_ok-proof-in-Core.ensures
+    (same_formula c.self.inside.kernel c.searched.new.kernel k.same_vars k.same_clauses ∙ ap (λ (r : Refuting). r.formula) c.self.view_is) c.in_ok-proof-in-Core.ensures.accepted
