@@ -13,6 +13,11 @@ use Rattle.engine.specs.declared.finding.Finding.{Finding}
 use Rattle.engine.specs.declared.finding.Finding.TheVariants.{Invariant, Run, Unknown}
 use Rattle.engine.specs.declared.finding.Reason.TheVariants.{Budget, Depth, NoEvidence}
 
+-- what a bounded search is seen as: its depth, and its solver
+pub record Bounded (S : Type 0) : Type 0 where
+  pub depth : ℕ
+  pub solver : S
+
 -- no run of fewer times than the one found that keeps the constraints sets the bad literal
 abbrev pub IsShortest : Parts → Finding → Type 0
 IsShortest m (Run initial inputs) = IsUnsetFor m (Bad 0) (length inputs - 1)

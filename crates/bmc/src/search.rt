@@ -1,12 +1,13 @@
 //! The search through one number of steps after the other.
 
-ghost use Rattle.std.specs.Prelude.{◌≡◌, ◌+◌, ◌≤◌, length, IfOk, None};
+ghost use Rattle.std.specs.Prelude.{◌≡◌, ◌+◌, ◌≤◌, length, IfOk, None, IfErr};
 ghost use Rattle.base.specs.Budget.{Spends, Steps};
 ghost use Rattle.cnf.specs.Tables.{IsTableOf};
 ghost use Rattle.engine.specs.Findings.{IsForBad, IsSo};
 ghost use Rattle.bmc.specs.Cones.{IsConeOf};
 ghost use Rattle.bmc.specs.Depths.{EndsAt, IsOfSteps, IsShortest, IsWithinDepth};
 ghost use Rattle.bmc.specs.Times.{IsAt, HasRoom, IsBadModel};
+ghost use Rattle.engine.specs.declared.engine_error.EngineError.TheVariants.{Limit};
 
 use crate::cone::{Cone, cone_of};
 use crate::frame::literal;
@@ -20,7 +21,7 @@ use solver::{Answer, Sat};
 use std::alloc::Global;
 
 /// Bounded search (Biere, Cimatti, Clarke, Zhu 1999) through runs of 0 steps, 1 step, up to a
-/// depth, by any solver. A contract sees the depth alone.
+/// depth, by any solver. A contract sees the depth and the solver.
 #[derive(Drop)]
 pub struct Bmc<S, P> {
     solver: S,
@@ -30,11 +31,12 @@ pub struct Bmc<S, P> {
 }
 
 impl<S, P> std::marker::Model for Bmc<S, P> {
-    ghost use Rattle.std.specs.Prelude.{ℕ, ◌≤◌};
+    ghost use Rattle.std.specs.Prelude.{◌≤◌};
+    ghost use Rattle.bmc.specs.Depths.{Bounded};
 
-    ghost Value = { ℕ };
+    ghost Value = { Bounded S };
 
-    ghost view = { λ b. b.depth };
+    ghost view = { λ b. record { depth = b.depth; solver = b.solver } };
 
     ghost invariant = { λ b. b.depth ≤ 255 };
 }
@@ -85,6 +87,7 @@ fn reach<S: Sat>(
     ensures few { IfOk result (λ found. found ≡ None →
         unrolling.new.encoder.variables ≤ unrolling.old.encoder.variables + (length cone.now.inputs.items + length cone.now.gates.items)) }
     ensures lawful { IfOk result (IsOfSteps circuit.now steps budget.new) }
+    ensures limit { IfErr result (λ e. e ≡ Limit → S.is_full solver.new) }
 {
     if !budget.tick() {
         return Ok(Some(Finding::Unknown(Reason::Budget)));
@@ -116,6 +119,7 @@ fn search_up_to<S: Sat, P: Progress>(
     ensures so { IfOk result (IsSo circuit.now budget.new) }
     ensures shortest { IfOk result (IsShortest circuit.now) }
     ensures depth { IfOk result (IsWithinDepth depth) }
+    ensures limit { IfErr result (λ e. e ≡ Limit → S.is_full solver.new) }
 {
     circuit.parts();
     let nexts = NextTable::new(alloc, circuit)?;
@@ -144,7 +148,7 @@ impl<S: Sat> Bmc<S, Silent> {
     /// A search of up to so many steps, at most 255.
     pub fn new(solver: S, depth: u32) -> Bmc<S, Silent>
         requires { depth ≤ 255 }
-        ensures { result ≡ depth }
+        ensures { result ≡ record { depth = depth; solver = solver } }
     {
         Bmc {
             solver,
@@ -168,10 +172,11 @@ impl<S: Sat> Bmc<S, Silent> {
 impl<S: Sat, P: Progress> Engine for Bmc<S, P> {
     ghost honest = { λ _. Unit {0} };
 
-    ghost answers = { λ depth m _ r after. IfOk r (IsSo m after) × IfOk r (IsShortest m) × IfOk r (IsWithinDepth depth) };
+    ghost answers = { λ b m _ r after. IfOk r (IsSo m after) × IfOk r (IsShortest m) × IfOk r (IsWithinDepth b.depth) };
 
     /// Looks for the shortest run that sets the bad literal. Each number of steps costs a step of
-    /// the budget, and what the solver spends.
+    /// the budget, and what the solver spends. It is over the limit only where all ids of the solver are
+    /// taken then.
     fn find(
         &mut self,
         alloc: Global,
@@ -179,11 +184,12 @@ impl<S: Sat, P: Progress> Engine for Bmc<S, P> {
         budget: &mut Budget,
     ) -> Result<Finding, EngineError>
         requires { IsForBad circuit.now }
-        ensures depth_stays { self.new ≡ self.old }
+        ensures depth_stays { self.new.depth ≡ self.old.depth }
         ensures spends { Spends budget.old budget.new }
         ensures so { IfOk result (IsSo circuit.now budget.new) }
         ensures shortest { IfOk result (IsShortest circuit.now) }
-        ensures depth { IfOk result (IsWithinDepth self.old) }
+        ensures depth { IfOk result (IsWithinDepth self.old.depth) }
+        ensures limit { IfErr result (λ e. e ≡ Limit → S.is_full self.new.solver) }
     {
         search_up_to(
             &mut self.solver,
