@@ -1,0 +1,4 @@
+pub mod Guarding
+pub mod Excluding
+pub mod Kept
+pub mod Longer

@@ -1,0 +1,6 @@
+use Rattle.std.proofs.Common.{◌≡◌, ◌++◌, map, take}
+use Rattle.cnf.specs.Clauses.{literal}
+use Rattle.inductive_subset.proofs.loading.push_lits.Given as goal
+
+abbrev pub invariant-loop-lit : goal.invariant-loop-lit
+invariant-loop-lit l = l.literals.items ≡ l.initial.literals.items ++ map (literal l.circuit.max_var 0) (take l.lit-index l.lits)

@@ -1,0 +1,24 @@
+-- Which clauses of an invariant a case needs.
+use Rattle.std.specs.Prelude.{◌≡◌, ℕ, ◌<◌, Bool, List, map, length, All, Contains, ℤ}
+use Rattle.graph.specs.declared.circuit.Lit.{Lit}
+use Rattle.graph.specs.declared.parts.Parts.{Parts}
+use Rattle.lrat.specs.Literals.{IsSatisfied}
+use Rattle.solver.specs.Answers.{AreTrue}
+use Rattle.cnf.specs.Clauses.{literal, time_clauses, step_units}
+use Rattle.cnf.specs.Formulas.{clause_at}
+use Rattle.cnf.specs.Meaning.{AreSatisfied}
+use Rattle.inductive_subset.specs.Guards.{IsMarked}
+
+-- nothing satisfies the circuit at one time and the marked clauses, and makes the units true
+abbrev pub IsExcluded : Parts → List (List Lit) → List Bool → List ℤ → Type 0
+IsExcluded m inv marks units =
+    (v : ℕ → Bool) → AreSatisfied v (time_clauses m 0) → ((i : ℕ) → IsMarked marks i → IsSatisfied v (map (literal m.max_var 0) (clause_at inv i))) → AreTrue v units → ⊥
+
+-- the marked clauses exclude the step case of the clause at a place
+abbrev pub IsHeld : Parts → List (List Lit) → List Bool → ℕ → Type 0
+IsHeld m inv marks i = IsExcluded m inv marks (step_units m (clause_at inv i))
+
+-- these are the marked clauses
+pub record AreMarked (inv : List (List Lit)) (marks : List Bool) (cs : List (List Lit)) : Type 0 where
+  pub each : (i : ℕ) → i < length inv → IsMarked marks i → Contains cs (clause_at inv i)
+  pub only : All (λ c. (i : ℕ) × (i < length inv) × IsMarked marks i × (clause_at inv i ≡ c)) cs
