@@ -1,7 +1,10 @@
 //! One time of a circuit in a solver.
 
-ghost use Rattle.std.specs.Prelude.{◌≡◌, ◌<◌, ◌++◌, ◌∷◌, [], ℕ, List, None, length, All, IfOk, OnOk, OnErr};
+ghost use Rattle.std.specs.Prelude.{◌≡◌, ◌<◌, ◌++◌, ◌∷◌, [], ℕ, List, None, length, All, Contains, IfOk, IfSome, OnOk, OnErr};
 ghost use Rattle.base.specs.Budget.{Spends};
+ghost use Rattle.graph.specs.WellFormed.{used};
+ghost use Rattle.cnf.specs.Formulas.{IsOverLatches};
+ghost use Rattle.cnf.specs.Invariants.{IsInductive};
 ghost use Rattle.ic3_step.specs.States.{Guarded};
 ghost use Rattle.ic3_step.specs.Replies.{IsReply, IsUsable};
 ghost use Rattle.ic3_step.specs.Contents.{IsLoaded, HasGuards};
@@ -11,7 +14,8 @@ use crate::reply::Reply;
 use crate::state::StateLit;
 use crate::{asking, encoding};
 use engine::EngineError;
-use graph::{Budget, Lit, Model};
+use graph::{Budget, Lit, Model, Seq};
+use inductive_subset::safe_inductive_subset;
 use solver::Sat;
 use std::alloc::Global;
 
@@ -90,5 +94,25 @@ impl<S: Sat> Transition<S> {
             Some(cone) => asking::ask(&mut self.solver, alloc, model, cone, guards, lits, budget),
             None => unreachable!(),
         }
+    }
+
+    /// Clauses of an invariant, in their order, that are one by themselves (`safe_inductive_subset`), by this solver. It
+    /// is to be loaded again after that.
+    pub fn safe_subset(
+        &mut self,
+        alloc: Global,
+        model: &Model,
+        invariant: &[Seq<Lit>],
+        bad: Lit,
+        budget: &mut Budget,
+    ) -> Result<Option<Seq<Seq<Lit>>>, EngineError>
+        requires over { All (IsOverLatches model.now) invariant.now }
+        requires bad { Contains (used model.now) bad }
+        ensures spends { Spends budget.old budget.new }
+        ensures among { IfOk result (λ r. IfSome r (λ cs. All (Contains invariant.now) cs)) }
+        ensures inductive { IfOk result (λ r. IfSome r (λ cs. IsInductive model.now invariant.now bad → IsInductive model.now cs bad)) }
+    {
+        let solver = &mut self.solver;
+        Ok(safe_inductive_subset(solver, alloc, model, invariant, bad, budget)?)
     }
 }
