@@ -8,3 +8,4 @@ pub mod Obligations
 pub mod Lifted
 pub mod Shown
 pub mod Rising
+pub mod Reduced

@@ -13,7 +13,8 @@
 //! or else by blocking first a predecessor of one of them. What is still to be blocked is a run, once
 //! it has an initial state: each state of a lifted cube is a predecessor of the cube behind, by
 //! contract. Where the last frame excludes the bad literal, the next is opened, and clauses that hold
-//! one step longer are propagated to it. A frame that is the same as the next is an invariant.
+//! one step longer are propagated to it. A frame that is the same as the next is an invariant,
+//! of which the clauses that the proof needs are kept (`inductive_subset`).
 //!
 //! Candidates are clauses that are tried first. Once the bad literal is excluded from the initial states, each
 //! that holds after each step from those is a clause of the first frame, and is propagated like any other.
@@ -38,6 +39,7 @@ mod obligation_stack;
 mod order;
 mod picked;
 mod propagation;
+mod reduction;
 mod reset;
 mod run;
 mod search;

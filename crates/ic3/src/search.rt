@@ -106,7 +106,10 @@ impl<S: Sat> FrameSolver<S> {
                     match self.advance(
                         alloc, circuit, frames, failures, candidates, progress, budget,
                     )? {
-                        Some(clauses) => return Ok(Finding::Invariant(clauses)),
+                        Some(clauses) => {
+                            let needed = self.reduced(alloc, circuit, clauses, budget)?;
+                            return Ok(Finding::Invariant(needed));
+                        }
                         None => {}
                     }
                 }

@@ -1,0 +1,49 @@
+//! The invariant that is found, without clauses that the proof does not need.
+
+ghost use Rattle.std.specs.Prelude.{IfOk};
+ghost use Rattle.base.specs.Budget.{Spends};
+ghost use Rattle.engine.specs.Findings.{IsForBad, IsInvariant};
+
+use crate::frame_solver::FrameSolver;
+use engine::EngineError;
+use graph::{Budget, Lit, Model, Seq};
+use solver::Sat;
+use std::alloc::Global;
+
+/// Spends so many steps, or what is left.
+fn spend(budget: &mut Budget, steps: u64)
+    ensures { Spends budget.old budget.new }
+{
+    'spending: for _step in 0..steps {
+        budget.tick();
+    }
+}
+
+impl<S: Sat> FrameSolver<S> {
+    /// The clauses of an invariant that the proof needs, in their order. At most half of what is left of the
+    /// budget is spent, so that a certificate can still be made; where that does not suffice, all clauses stay. The frames
+    /// are to be loaded again after that.
+    pub(crate) fn reduced(
+        &mut self,
+        alloc: Global,
+        circuit: &Model,
+        clauses: Seq<Seq<Lit>>,
+        budget: &mut Budget,
+    ) -> Result<Seq<Seq<Lit>>, EngineError>
+        requires for_bad { IsForBad circuit.now }
+        requires invariant { IsInvariant circuit.now clauses }
+        ensures spends { Spends budget.old budget.new }
+        ensures invariant { IfOk result (IsInvariant circuit.now) }
+    {
+        circuit.parts();
+        let bad = circuit.bad()[0];
+        let mut part = Budget::new(budget.left() / 2);
+        let transition = &mut self.transition;
+        let subset = transition.safe_subset(alloc, circuit, clauses.as_slice(), bad, &mut part)?;
+        spend(budget, part.spent());
+        match subset {
+            Some(needed) => Ok(needed),
+            None => Ok(clauses),
+        }
+    }
+}
