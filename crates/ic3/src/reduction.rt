@@ -10,19 +10,9 @@ use graph::{Budget, Lit, Model, Seq};
 use solver::Sat;
 use std::alloc::Global;
 
-/// Spends so many steps, or what is left.
-fn spend(budget: &mut Budget, steps: u64)
-    ensures { Spends budget.old budget.new }
-{
-    'spending: for _step in 0..steps {
-        budget.tick();
-    }
-}
-
 impl<S: Sat> FrameSolver<S> {
-    /// The clauses of an invariant that the proof needs, in their order. At most half of what is left of the
-    /// budget is spent, so that a certificate can still be made; where that does not suffice, all clauses stay. The frames
-    /// are to be loaded again after that.
+    /// The clauses of an invariant that the proof needs, in their order. It asks a question for each of them, and one
+    /// more. Where the budget does not suffice, all clauses stay. The frames are to be loaded again after that.
     pub(crate) fn reduced(
         &mut self,
         alloc: Global,
@@ -37,13 +27,8 @@ impl<S: Sat> FrameSolver<S> {
     {
         circuit.parts();
         let bad = circuit.bad()[0];
-        let mut part = Budget::new(budget.left() / 2);
         let transition = &mut self.transition;
-        let subset = transition.safe_subset(alloc, circuit, clauses.as_slice(), bad, &mut part)?;
-        spend(budget, part.spent());
-        match subset {
-            Some(needed) => Ok(needed),
-            None => Ok(clauses),
-        }
+        let subset = transition.safe_subset(alloc, circuit, clauses.as_slice(), bad, budget)?;
+        Ok(subset.unwrap_or(clauses))
     }
 }
