@@ -155,10 +155,7 @@ fn certified_clauses(
     file: &AigerFile,
 ) -> Result<u8, Stop> {
     let clauses = clauses_of(rt, asked.invariant.as_str(), file, property)?;
-    about(
-        Role::Circuit,
-        certified(rt, asked, property, file, clauses),
-    )
+    about(Role::Circuit, certified(rt, asked, property, file, clauses))
 }
 
 /// Makes a certificate of the clauses in a file, in the file of that name.
