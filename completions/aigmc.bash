@@ -4,7 +4,7 @@ _aigmc() {
     local word=${COMP_WORDS[COMP_CWORD]} before=${COMP_WORDS[COMP_CWORD - 1]} options
     COMPREPLY=()
     if [ "$COMP_CWORD" -eq 1 ]; then
-        mapfile -t COMPREPLY < <(compgen -W 'check all certify convert to-safety sim trace explain --help -h --version -V' -- "$word")
+        mapfile -t COMPREPLY < <(compgen -W 'check all certify convert to-safety witness sim trace explain --help -h --version -V' -- "$word")
         return
     fi
     case $before in
@@ -22,6 +22,7 @@ _aigmc() {
     check) options='-p --cert --engine --depth --budget --seed --verbose -v --help -h' ;;
     certify) options='-p --invariant --cert --budget --strengthen --help -h' ;;
     to-safety) options='-p --help -h' ;;
+    witness) options='-p --clear --help -h' ;;
     all) options='--out --engine --depth --budget --seed --verbose -v --help -h' ;;
     convert) options='--ascii --binary --help -h' ;;
     trace) options='--all --vcd --help -h' ;;

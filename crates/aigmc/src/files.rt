@@ -119,6 +119,28 @@ pub fn keep(
     at(Role::Made, making.end(rt, written))
 }
 
+/// Writes the stimulus's text.
+fn write_stimulus(rt: &HostRuntime, out: File, shown: &Stimulus) -> Result<(), Stop> {
+    let out = buffered(rt.alloc(), out)?;
+    let mut out = ToWrite::new(out);
+    let put = stimulus::write(shown, &mut out).map_err(|_| CliError::Device);
+    settled(out, put.map_err(Stop::from))
+}
+
+/// Makes the file of this name with the stimulus's text.
+pub fn make_stimulus(rt: &HostRuntime, name: &str, shown: &Stimulus) -> Result<(), Stop> {
+    let (making, out) = at(Role::Made, Making::begin(rt, name))?;
+    let written = write_stimulus(rt, out, shown);
+    at(Role::Made, making.end(rt, written))
+}
+
+/// Makes the file of this name with these bytes.
+pub fn make_bytes(rt: &HostRuntime, name: &str, bytes: &[u8]) -> Result<(), Stop> {
+    let (making, mut out) = at(Role::Made, Making::begin(rt, name))?;
+    let written = finished(out.write_all(bytes));
+    at(Role::Made, making.end(rt, written))
+}
+
 /// Prints the values in the replay of a stimulus.
 pub fn print_table(rt: &HostRuntime, file: &AigerFile, stimulus: &Stimulus) -> Result<(), Stop> {
     let out = buffered(rt.alloc(), io::writer(rt))?;

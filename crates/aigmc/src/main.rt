@@ -40,6 +40,11 @@
 //! `aigmc to-safety FILE -p jN OUT` writes the shadow circuit of a justice property to OUT, in the layouts of
 //! `convert`.
 //!
+//! `aigmc witness FILE STIM OUT` makes the strict stimulus OUT of the counterexample STIM, as another tool wrote it, of the property that
+//! `-p` or STIM names, or else of any: what doesn't matter is taken as 0 or as 1, and what follows the violation is cut
+//! (`witness::strict`). It prints `yes run P`. Where no choice shows a violation the status is 1, standard error says why, and nothing is
+//! written. With `--clear` OUT has an `x` for each value that the violation does not rest on.
+//!
 //! FILE, STIM and INV may be `-`, the standard input, but one of them alone. OUT of `convert` and `trace` may be `-`, the standard output.
 //!
 //! The status of `check` is 0 where the property holds, 1 for a violation and 2 where nothing is known. That
@@ -59,6 +64,7 @@ mod relevant;
 mod shadow;
 mod stop;
 mod tracing;
+mod witnessing;
 
 use adopting::{certify_clauses, make_shadow};
 use arguments::{AskedLayout, Request, Wrong, parse};
@@ -75,6 +81,7 @@ use std::env;
 use std::process::ExitCode;
 use stop::{DONE, FAULT, Stop, finished, tell};
 use tracing::trace;
+use witnessing::make_witness;
 
 /// The circuit as the layout takes it: for the binary one in its numbering.
 fn fitting(alloc: Global, file: AigerFile, layout: Layout) -> Result<AigerFile, CliError> {
@@ -132,6 +139,7 @@ fn done(rt: &HostRuntime, request: &Request) -> Result<u8, Stop> {
         Request::Explain { number } => explain(rt, *number),
         Request::Certify(asked) => certify_clauses(rt, asked),
         Request::ToSafety(asked) => make_shadow(rt, asked),
+        Request::Witness(asked) => make_witness(rt, asked),
         Request::Check {
             file,
             property,

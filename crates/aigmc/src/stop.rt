@@ -8,6 +8,7 @@ use invariant::InvariantError;
 use live_safe::LiveError;
 use std::io;
 use std::process::ExitCode;
+use witness::WitnessError;
 
 /// The status of a command that was done.
 pub const DONE: u8 = 0;
@@ -98,6 +99,15 @@ impl From<Refused> for Stop {
 
 impl From<InvariantError> for Stop {
     fn from(e: InvariantError) -> Stop {
+        Stop::Fault {
+            number: e.number(),
+            place: e.place(),
+        }
+    }
+}
+
+impl From<WitnessError> for Stop {
+    fn from(e: WitnessError) -> Stop {
         Stop::Fault {
             number: e.number(),
             place: e.place(),

@@ -2,6 +2,7 @@
 
 use crate::adopting::{certify_command, to_safety_command};
 use crate::layouts::with_layout;
+use crate::witnessing::witness_command;
 use crate::words::{file, option};
 use clap::{Arg, ArgAction, Command, value_parser};
 use std::alloc::{AllocError, Global};
@@ -13,7 +14,7 @@ static ENGINES: [&str; 4] = ["all", "bmc", "ic3", "random"];
 static VERSION: &str = "0.1.0 (rattle-kit-13f)";
 
 static STATUSES: &str =
-    "Status: 0 done, 1 a violation (check, all) or no invariant (certify), 2 nothing is known (check, all, certify), 3 failed.
+    "Status: 0 done, 1 a violation (check, all), no invariant (certify) or none shown (witness), 2 nothing is known (check, all, certify), 3 failed.
 A file called - is the standard input or output. Each command has a help of its own: aigmc check --help.";
 
 static CHECK: &str = "Status: 0 holds, 1 violated, 2 unknown, 3 failed.
@@ -191,6 +192,7 @@ pub fn command<'a>(alloc: Global) -> Result<Command<'a>, AllocError> {
         .subcommand(certify_command(alloc)?)?
         .subcommand(convert_command(alloc)?)?
         .subcommand(to_safety_command(alloc)?)?
+        .subcommand(witness_command(alloc)?)?
         .subcommand(sim_command(alloc)?)?
         .subcommand(trace_command(alloc)?)?
         .subcommand(explain_command(alloc)?)

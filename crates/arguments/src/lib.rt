@@ -8,10 +8,12 @@ mod adopting;
 mod grammar;
 mod layouts;
 mod request;
+mod witnessing;
 mod words;
 mod wrong;
 
 pub use adopting::{Claim, Shadow};
 pub use layouts::AskedLayout;
 pub use request::{EngineKind, Request, Search, parse};
+pub use witnessing::Counterexample;
 pub use wrong::Wrong;

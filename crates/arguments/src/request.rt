@@ -3,6 +3,7 @@
 use crate::adopting::{Claim, Shadow, asked_certify, asked_to_safety};
 use crate::grammar::command;
 use crate::layouts::{AskedLayout, asked_layout};
+use crate::witnessing::{Counterexample, asked_witness};
 use crate::words::word;
 use crate::wrong::Wrong;
 use clap::ArgMatches;
@@ -98,6 +99,8 @@ pub enum Request {
     Certify(Claim),
     /// Write the shadow circuit of a justice property.
     ToSafety(Shadow),
+    /// Make a strict stimulus of a counterexample.
+    Witness(Counterexample),
     /// Look for evidence about all properties.
     All {
         /// the circuit's file
@@ -207,6 +210,7 @@ pub fn parse(alloc: Global, words: &[String]) -> Result<Option<Request>, Wrong> 
         Some(("all", words)) => asked_all(alloc, words)?,
         Some(("certify", words)) => Request::Certify(asked_certify(alloc, words)?),
         Some(("to-safety", words)) => Request::ToSafety(asked_to_safety(alloc, words)?),
+        Some(("witness", words)) => Request::Witness(asked_witness(alloc, words)?),
         Some(("convert", words)) => match asked_layout(words) {
             Some(layout) => asked_convert(alloc, words, layout)?,
             None => return Ok(None),

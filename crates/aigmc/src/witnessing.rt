@@ -1,0 +1,105 @@
+//! The command `witness`: a counterexample of another tool becomes a strict stimulus.
+
+use crate::checking::is_taken;
+use crate::files::{circuit, make_bytes, make_stimulus};
+use crate::stop::{DONE, Role, Stop, about, finished, read_of};
+use arguments::Counterexample;
+use cli::{CliError, property_named};
+use graph::{AigerFile, FromRead, Model, Property, ReadToEndError, read_to_end};
+use inputs::{is_standard, open};
+use properties::property_name;
+use stimulus::Stimulus;
+use witness::{Loose, WitnessError, asked_of, clear, strict, text_of};
+
+/// The status of a counterexample of which no choice shows a violation.
+const NOT_SHOWN: u8 = 1;
+
+/// The property that is chosen, where one is.
+fn chosen(asked: &Counterexample) -> Result<Option<Property>, Stop> {
+    match &asked.property {
+        Some(name) => match property_named(name.as_str()) {
+            Some(property) => Ok(Some(property)),
+            None => Err(Stop::BadArgument),
+        },
+        None => Ok(None),
+    }
+}
+
+/// What the file of this name says.
+fn read_loose(rt: &HostRuntime, name: &str, model: &Model) -> Result<Loose, Stop> {
+    let file = finished(open(rt, name))?;
+    let text = match read_to_end(rt.alloc(), &mut FromRead::new(file)) {
+        Ok(text) => text,
+        Err(ReadToEndError::OutOfMemory(refused)) => return Err(Stop::from(refused)),
+        Err(ReadToEndError::Device) => return Err(Stop::Refused(CliError::Device)),
+    };
+    let loose = witness::read(rt.alloc(), model, text.as_slice())?;
+    Ok(loose)
+}
+
+/// Makes the file of what the stimulus's violation rests on.
+fn make_cleared(rt: &HostRuntime, out: &str, model: &Model, shown: &Stimulus) -> Result<(), Stop> {
+    match clear(rt.alloc(), model, shown)? {
+        Some(cleared) => {
+            let text = text_of(rt.alloc(), &cleared)?;
+            make_bytes(rt, out, &text)
+        }
+        None => make_stimulus(rt, out, shown),
+    }
+}
+
+/// Makes the file that is asked for, and says which property is violated.
+fn keep_shown(
+    rt: &HostRuntime,
+    asked: &Counterexample,
+    model: &Model,
+    shown: &Stimulus,
+) -> Result<u8, Stop> {
+    if asked.clear {
+        make_cleared(rt, asked.out.as_str(), model, shown)?;
+    } else {
+        make_stimulus(rt, asked.out.as_str(), shown)?;
+    }
+    let Ok(name) = property_name(rt.alloc(), shown.property()) else {
+        return Err(Stop::Memory);
+    };
+    finished(println!(rt; "yes run {name}"))?;
+    Ok(DONE)
+}
+
+/// Makes the stimulus of what was read. Where no choice shows a violation, standard error says why the last was refused.
+fn witnessed(
+    rt: &HostRuntime,
+    asked: &Counterexample,
+    file: &AigerFile,
+    loose: &Loose,
+    property: Option<Property>,
+) -> Result<u8, Stop> {
+    let properties = asked_of(rt.alloc(), file.model(), loose, property)?;
+    match strict(rt.alloc(), file.model(), loose, &properties) {
+        Ok(shown) => keep_shown(rt, asked, file.model(), &shown),
+        Err(WitnessError::NotShown(error)) => {
+            let _ = eprintln!(rt;
+                "aigmc: no choice of what doesn't matter shows a violation: no {}",
+                error.number()
+            );
+            Ok(NOT_SHOWN)
+        }
+        Err(error) => Err(Stop::from(error)),
+    }
+}
+
+/// Makes the file of that name with the strict stimulus of a counterexample.
+pub fn make_witness(rt: &HostRuntime, asked: &Counterexample) -> Result<u8, Stop> {
+    let property = chosen(asked)?;
+    let (circuit_name, name) = (asked.file.as_str(), asked.stimulus.as_str());
+    if is_standard(circuit_name) && is_standard(name) {
+        return Err(Stop::BadArgument);
+    }
+    if is_taken(rt, circuit_name, asked.out.as_str()) || is_taken(rt, name, asked.out.as_str()) {
+        return Err(Stop::BadArgument);
+    }
+    let file = circuit(rt, circuit_name)?;
+    let loose = read_of(Role::Stimulus, read_loose(rt, name, file.model()))?;
+    witnessed(rt, asked, &file, &loose, property)
+}

@@ -1,0 +1,6 @@
+pub mod CompletionLaws
+pub mod WatchedLaws
+pub mod ClearLaws
+pub mod NextLaws
+pub mod WalkLaws
+pub mod EnoughLaws

@@ -1,0 +1,4 @@
+pub mod Completions
+pub mod Strict
+pub mod Cleared
+pub mod Numbers

@@ -1,0 +1,204 @@
+//! The strict stimulus of a loose text.
+
+ghost use Rattle.std.specs.Prelude.{◌≡◌, ◌∷◌, [], List, Bool, Option, Some, IfOk, take};
+ghost use Rattle.graph.specs.declared.circuit.Property.{Property as AProperty};
+ghost use Rattle.stimulus.specs.Shown.{Shows};
+ghost use Rattle.stimulus.specs.Texts.{property_of};
+ghost use Rattle.stimulus.specs.declared.value.Stimulus.TheVariants.{Violated};
+ghost use Rattle.witness.specs.Completions.{CompleteFirst};
+ghost use Rattle.witness.specs.Strict.{HasValues, IsStrict};
+
+use crate::completion::{completed, completed_rows};
+use crate::cutting::times_to_violation;
+use crate::loose::Loose;
+use crate::witness_error::WitnessError;
+use base::{Refused, copied, filled_like};
+use graph::{Model, Property, Seq};
+use properties::all_properties;
+use std::alloc::Global;
+use stimulus::{JudgeError, Stimulus, judge};
+
+/// The lines of the first times.
+fn shortened(lines: Seq<Seq<bool>>, times: usize) -> Seq<Seq<bool>>
+    ensures { result ≡ take times lines }
+{
+    let mut lines = lines.into_vec();
+    lines.truncate(times);
+    Seq::from_vec(lines)
+}
+
+/// The stimulus of these lines, where it shows the violation.
+fn judged(
+    alloc: Global,
+    model: &Model,
+    property: Property,
+    initial: Seq<bool>,
+    inputs: Seq<Seq<bool>>,
+) -> Result<Stimulus, JudgeError>
+    ensures is { IfOk result (λ s. s ≡ Violated property initial inputs) }
+    ensures shows { IfOk result (Shows model.now) }
+{
+    let stimulus = Stimulus::Violated {
+        property,
+        initial,
+        inputs,
+    };
+    judge(alloc, model, &stimulus)?;
+    Ok(stimulus)
+}
+
+/// The lines up to the first violation of the property, or all of them where there is none.
+#[tactic(auto, using(crate::proofs::CompletionLaws::complete_cut))]
+fn up_to_violation(
+    alloc: Global,
+    model: &Model,
+    property: Property,
+    initial: &[bool],
+    inputs: Seq<Seq<bool>>,
+) -> Result<Seq<Seq<bool>>, JudgeError>
+    ensures { (rows : List (List (Option Bool))) → CompleteFirst rows inputs → IfOk result (CompleteFirst rows) }
+{
+    match times_to_violation(alloc, model, property, initial, inputs.as_slice())? {
+        Some(times) => Ok(shortened(inputs, times)),
+        None => Ok(inputs),
+    }
+}
+
+/// The stimulus with this first state and inputs, with that value in place of what doesn't matter, where it shows the violation.
+fn try_values(
+    alloc: Global,
+    model: &Model,
+    property: Property,
+    state: &[Option<bool>],
+    rows: &[Seq<Option<bool>>],
+    other: bool,
+) -> Result<Stimulus, JudgeError>
+    ensures shows { IfOk result (Shows model.now) }
+    ensures property { IfOk result (λ s. property_of s ≡ property) }
+    ensures values { IfOk result (HasValues (state.now ∷ rows.now)) }
+    ensures inputs { IfOk result (HasValues rows.now) }
+{
+    let initial = completed(alloc, state, model.latches(), other)?;
+    let inputs = completed_rows(alloc, rows, other)?;
+    let inputs = up_to_violation(alloc, model, property, initial.as_slice(), inputs)?;
+    judged(alloc, model, property, initial, inputs)
+}
+
+/// Whether another try may be made after this refusal.
+fn goes_on(error: JudgeError) -> bool {
+    !matches!(error, JudgeError::OutOfMemory(_))
+}
+
+/// The same with 0 in place of what doesn't matter, or else with 1.
+fn try_both(
+    alloc: Global,
+    model: &Model,
+    property: Property,
+    state: &[Option<bool>],
+    rows: &[Seq<Option<bool>>],
+) -> Result<Stimulus, JudgeError>
+    ensures shows { IfOk result (Shows model.now) }
+    ensures property { IfOk result (λ s. property_of s ≡ property) }
+    ensures values { IfOk result (HasValues (state.now ∷ rows.now)) }
+    ensures inputs { IfOk result (HasValues rows.now) }
+{
+    match try_values(alloc, model, property, state, rows, false) {
+        Err(error) if goes_on(error) => try_values(alloc, model, property, state, rows, true),
+        tried => tried,
+    }
+}
+
+/// The stimulus whose first state is the first row.
+fn try_with_state(
+    alloc: Global,
+    model: &Model,
+    property: Property,
+    rows: &[Seq<Option<bool>>],
+) -> Result<Stimulus, JudgeError>
+    ensures shows { IfOk result (Shows model.now) }
+    ensures property { IfOk result (λ s. property_of s ≡ property) }
+    ensures values { IfOk result (HasValues rows.now) }
+{
+    match rows {
+        [state, inputs @ ..] => try_both(alloc, model, property, state.as_slice(), inputs),
+        [] => Err(JudgeError::NoInputLine),
+    }
+}
+
+/// The stimulus whose inputs are all rows. Its first state is the resets.
+fn try_inputs_alone(
+    alloc: Global,
+    model: &Model,
+    property: Property,
+    rows: &[Seq<Option<bool>>],
+) -> Result<Stimulus, JudgeError>
+    ensures shows { IfOk result (Shows model.now) }
+    ensures property { IfOk result (λ s. property_of s ≡ property) }
+    ensures values { IfOk result (HasValues rows.now) }
+{
+    let state: Vec<Option<bool>> = filled_like(alloc, None, model.latches())?;
+    try_both(alloc, model, property, &state, rows)
+}
+
+/// The stimulus of one property, by each reading of the rows.
+fn try_property(
+    alloc: Global,
+    model: &Model,
+    property: Property,
+    loose: &Loose,
+) -> Result<Stimulus, JudgeError>
+    ensures shows { IfOk result (Shows model.now) }
+    ensures property { IfOk result (λ s. property_of s ≡ property) }
+    ensures values { IfOk result (HasValues loose.now.rows) }
+{
+    let rows = loose.rows.as_slice();
+    if !loose.has_state {
+        return try_inputs_alone(alloc, model, property, rows);
+    }
+    match try_with_state(alloc, model, property, rows) {
+        Err(error) if loose.has_inputs_alone && goes_on(error) => {
+            try_inputs_alone(alloc, model, property, rows)
+        }
+        tried => tried,
+    }
+}
+
+/// The strict stimulus of a loose text: it shows the violation of one of the properties, the first of which this is found, and
+/// it has each value that the text gives, up to the violation. What doesn't matter is first taken as 0 and then as 1, in the first state as the
+/// latch's reset; with the first row as the first state, where that may be, and then with all rows as inputs. What follows the first violation is
+/// cut off. Each try costs two replays and their judging, and of a justice property a map of the states; the last refusal is reported
+/// where none shows a violation.
+pub fn strict(
+    alloc: Global,
+    model: &Model,
+    loose: &Loose,
+    asked: &[Property],
+) -> Result<Stimulus, WitnessError>
+    ensures { IfOk result (IsStrict model.now loose.now.rows asked.now) }
+{
+    let mut last = JudgeError::NoProperty(0);
+    for property in asked {
+        match try_property(alloc, model, *property, loose) {
+            Ok(stimulus) => return Ok(stimulus),
+            Err(JudgeError::OutOfMemory(refused)) => return Err(WitnessError::from(refused)),
+            Err(error) => last = error,
+        }
+    }
+    Err(WitnessError::NotShown(last))
+}
+
+/// The properties to ask for: the one that is chosen, or those that the text names, or else all of the circuit.
+pub fn asked_of(
+    alloc: Global,
+    model: &Model,
+    loose: &Loose,
+    chosen: Option<Property>,
+) -> Result<Vec<Property>, Refused>
+    ensures { (p : AProperty) → chosen ≡ Some p → IfOk result (λ v. v.items ≡ p ∷ []) }
+{
+    match chosen {
+        Some(property) => copied(alloc, &[property]),
+        None if loose.properties.is_empty() => all_properties(alloc, model),
+        None => copied(alloc, loose.properties.as_slice()),
+    }
+}
