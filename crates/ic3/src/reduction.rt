@@ -29,6 +29,9 @@ impl<S: Sat> FrameSolver<S> {
         let bad = circuit.bad()[0];
         let transition = &mut self.transition;
         let subset = transition.safe_subset(alloc, circuit, clauses.as_slice(), bad, budget)?;
-        Ok(subset.unwrap_or(clauses))
+        match subset {
+            Some(needed) => Ok(needed),
+            None => Ok(clauses),
+        }
     }
 }
