@@ -1,4 +1,4 @@
--- Runs of so many steps, and of one step more.
+-- Runs of a number of steps, and of one step more.
 use Rattle.std.proofs.Common.{◌≡◌, ℕ, ◌+◌, ◌-◌, ◌*◌, ◌<◌, ◌≤◌, Bool, true, List, [], ◌∷◌, length, take, get_or, All, Some, inl, inr, sym, ◌∙◌, ap, subst, arith, length-take-le}
 use Rattle.std.specs.Prelude.{slice_get}
 use Rattle.std.proofs.lemmas.Bool.{cases_lt, false_from_ne_true}
@@ -60,7 +60,7 @@ room_one a k each vars h = omega (arith, h)
 pub room_less : (a b k each vars : ℕ) → a + (k + 1) * each ≤ vars → b ≤ a + each → b + k * each ≤ vars
 room_less a b k each vars h le = omega (arith, h, le)
 
--- what ends the search at so many steps is the shortest, where nothing less ended it
+-- what ends the search at a number of steps is the shortest, where nothing less ended it
 pub ends_shortest : (m : Parts) (steps : ℕ) (after : Steps) (f : Finding) → EndsAt m steps after f → IsUnsetFor m (Bad 0) steps → IsShortest m f
 ends_shortest m steps after (Run initial inputs) ends unset = let last : steps ≡ length inputs - 1 = omega (arith, ends.1) in subst (IsUnsetFor m (Bad 0)) last unset
 ends_shortest m steps after (Invariant inv) ends unset = tt

@@ -55,7 +55,7 @@ replayed m st (l ∷ ls) exist long all =
       begins = λ some. w.2;
     }
 
--- a core of the bad literal says that no run of so many steps ends with it
+-- a core of the bad literal says that no run of that number of steps ends with it
 pub core_unset : (m : Parts) (c : Cone) (s : Leaves) (state : List ℤ) (e : Encoder) (cs : List (List ℤ)) (steps : ℕ) (l : ℤ) (core : List ℤ) → IsUnrolled m c s state e cs → length s.firsts ≡ steps + 1 →
     ((r : List (List Bool)) (v : ℕ → Bool) → Follows m c s r v → AreSatisfied v cs → steps < length r → is_true v l ≡ value_of (at r steps) (bad_literal m 0)) →
     IsCore cs (l ∷ []) core → IsUnsetAfter m steps

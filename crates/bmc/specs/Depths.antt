@@ -24,7 +24,7 @@ IsShortest m (Run initial inputs) = IsUnsetFor m (Bad 0) (length inputs - 1)
 IsShortest m (Invariant inv) = Unit {0}
 IsShortest m (Unknown reason) = Unit {0}
 
--- a run of at most so many steps, nothing known beyond exactly so many, or a spent budget
+-- a run of at most depth steps, nothing known beyond exactly depth, or a spent budget
 abbrev pub IsWithinDepth : ℕ → Finding → Type 0
 IsWithinDepth depth (Run initial inputs) = length inputs ≤ depth + 1
 IsWithinDepth depth (Invariant inv) = ⊥
@@ -32,12 +32,12 @@ IsWithinDepth depth (Unknown Budget) = Unit {0}
 IsWithinDepth depth (Unknown (Depth steps)) = steps ≡ depth
 IsWithinDepth depth (Unknown NoEvidence) = ⊥
 
--- no run of so many steps that keeps the constraints sets the bad literal at its last time
+-- no run of this number of steps that keeps the constraints sets the bad literal at its last time
 abbrev pub IsUnsetAfter : Parts → ℕ → Type 0
 IsUnsetAfter m steps = (r : List Valuation) → IsRun m r → KeepsConstraints m r → length r ≡ steps + 1 →
     value_of (last_of r) (bad_literal m 0) ≡ true → ⊥
 
--- what ends a search at so many steps: a run of as many that shows the bad literal, or a spent budget
+-- what ends a search at a number of steps: a run of that number that shows the bad literal, or a spent budget
 abbrev pub EndsAt : Parts → ℕ → Steps → Finding → Type 0
 EndsAt m steps after (Run initial inputs) = ShowsBad m (stimulus.Violated (Bad 0) initial inputs) × (length inputs ≡ steps + 1)
 EndsAt m steps after (Invariant inv) = ⊥
@@ -45,7 +45,7 @@ EndsAt m steps after (Unknown Budget) = after.left ≡ 0
 EndsAt m steps after (Unknown (Depth depth)) = ⊥
 EndsAt m steps after (Unknown NoEvidence) = ⊥
 
--- what was found of the runs of so many steps: what ends the search, or that none sets the bad literal
+-- what was found of the runs of this number of steps: what ends the search, or that none sets the bad literal
 abbrev pub IsOfSteps : Parts → ℕ → Steps → Option Finding → Type 0
 IsOfSteps m steps after (Some finding) = EndsAt m steps after finding
 IsOfSteps m steps after None = IsUnsetAfter m steps

@@ -30,7 +30,7 @@ pub record IsExtended (n : ℕ) (cs : List (List ℤ)) (k : ℕ) (ds : List (Lis
   pub weaker : (v : ℕ → Bool) → AreSatisfied v ds → AreSatisfied v cs
   pub extends : (v : ℕ → Bool) → AreSatisfied v cs → (u : ℕ → Bool) × AreSatisfied u ds × ((x : ℕ) → x ≤ n → u x ≡ v x)
 
--- the encoding is one still, with so many variables more at most
+-- the encoding is one still, with at most this number of variables more
 pub record IsGrown (most : ℕ) (e : Encoder) (cs : List (List ℤ)) (f : Encoder) (ds : List (List ℤ)) : Type 0 where
   pub encoding : IsEncoding f ds
   pub extended : IsExtended e.variables cs f.variables ds

@@ -21,7 +21,7 @@ pub record IsAt (m : Parts) (c : Cone) (u : Unrolling) (cs : List (List ℤ)) : 
   pub whole : length u.table.items ≡ m.max_var + 1
   pub literals : All (IsLiteral u.encoder.variables) u.table.items
 
--- there are variables for so many times more
+-- there are variables for this number of times more
 abbrev pub HasRoom : Cone → ℕ → Unrolling → ℕ → Type 0
 HasRoom c times u vars = u.encoder.variables + times * (length c.inputs.items + length c.gates.items) ≤ vars
 

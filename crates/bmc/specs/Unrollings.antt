@@ -33,7 +33,7 @@ pub record Leaves : Type 0 where
   pub initial : List ℤ
   pub firsts : List ℕ
 
--- one time more, whose inputs come behind so many variables
+-- one time more, whose inputs come behind this number of variables
 abbrev pub later : Leaves → ℕ → Leaves
 later s first = record { initial = s.initial; firsts = s.firsts ++ first ∷ [] }
 

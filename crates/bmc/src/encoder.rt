@@ -41,7 +41,7 @@ pub struct Encoder {
 }
 
 impl Encoder {
-    /// So many variables in use, and no literals that were made.
+    /// `variables` variables in use, and no literals that were made.
     pub fn new(alloc: Global, variables: u32) -> Encoder
         ensures variables { result.variables ≡ variables }
         ensures none { (a b : ℤ) → get same_pair result.conjunctions (a, b) ≡ None }

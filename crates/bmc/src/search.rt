@@ -145,7 +145,7 @@ fn search_up_to<S: Sat, P: Progress>(
 }
 
 impl<S: Sat> Bmc<S, Silent> {
-    /// A search of up to so many steps, at most 255.
+    /// A search of up to `depth` steps, at most 255.
     pub fn new(solver: S, depth: u32) -> Bmc<S, Silent>
         requires { depth ≤ 255 }
         ensures { result ≡ record { depth = depth; solver = solver } }

@@ -116,7 +116,7 @@ fn next_state(circuit: &Model, cone: &Cone, nexts: &NextTable, table: &[i32], st
     }
 }
 
-/// No time yet. The solver begins anew with room for so many.
+/// No time yet. The solver begins anew with room for `times` of them.
 pub fn begin<S: Sat>(
     solver: &mut S,
     alloc: Global,

@@ -2,10 +2,10 @@
 use Rattle.std.specs.Prelude.{ℕ, ◌<◌, List, Option, All, IfSome}
 use Rattle.ic3_step.specs.declared.state.StateLit.{StateLit}
 
--- each position is one of so many latches
+-- each position is below the number of latches
 abbrev pub HasPositions : ℕ → List (Option ℕ) → Type 0
 HasPositions n positions = All (λ p. IfSome p (λ i. i < n)) positions
 
--- each latch is one of so many
+-- each latch is below that number
 abbrev pub AreInside : ℕ → List StateLit → Type 0
 AreInside n lits = All (λ a. a.latch < n) lits

@@ -16,7 +16,7 @@ use Rattle.ic3_step.specs.States.{Guarded, HoldsGuarded, Holds, Denies, IsPartOf
 abbrev pub next_literal : List Latch → ℕ → Lit
 next_literal latches i = slice_index_or (map (λ (l : Latch). l.next) latches) i (record { 0 = 0 })
 
--- the literal that is true where the latch takes over another value
+-- the literal that is true where the latch's next value is another
 abbrev pub denial : List Latch → StateLit → Lit
 denial latches a = along a.value (next_literal latches a.latch)
 

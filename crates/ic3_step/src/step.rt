@@ -42,7 +42,7 @@ fn along(negated: bool, lit: Lit) -> Lit
     }
 }
 
-/// The literal that is true where the latch takes over another value.
+/// The literal that is true where the latch's next value is another.
 fn unset_after(latches: &[Latch], lit: StateLit) -> Lit
     requires latch { lit.latch < length latches.now }
     requires small { All (λ l. l.next.0 < 4294967295) latches.now }
