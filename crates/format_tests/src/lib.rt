@@ -1,4 +1,4 @@
-//! Tests of what is read and written: devices, numbers, circuits, proofs, certificates, PLAs and stimuli.
+//! Tests of what is read and written: devices, numbers, circuits, proofs, certificates, PLAs, stimuli and counterexamples of other tools.
 //!
 //! They stand over the public calls alone, in a crate of their own, so that no library is proved twice. A test
 //! asserts small answers, and one function (`questions::asked`) has each file: so the proof of each is short.
@@ -20,5 +20,7 @@ mod proof_lines;
 mod questions;
 #[cfg(test)]
 mod stimuli;
+#[cfg(test)]
+mod witnesses;
 #[cfg(test)]
 mod words;

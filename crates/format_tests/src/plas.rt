@@ -1,7 +1,6 @@
 //! PLAs as ABC writes them, with the clauses of their cubes, or with the number and the place of their refusal.
 
-use crate::questions::{Question, asked};
-use base::{Refused, extend};
+use crate::questions::{Question, asked, repeated};
 use graph::{AigerFile, Lit, Seq};
 use invariant::{InvariantError, read, read_pla};
 use std::alloc::Global;
@@ -180,17 +179,6 @@ fn refuses_what_is_no_pla(rt: HostRuntime) -> Result<(), Fail> {
         assert_eq!(rt; answer, Some(*wanted), "{text:?}");
     }
     Ok(())
-}
-
-/// A text of this many times the same.
-fn repeated(alloc: Global, before: &[u8], line: &[u8], after: &[u8]) -> Result<Vec<u8>, Refused> {
-    let mut text = Vec::new(alloc);
-    extend(&mut text, before)?;
-    for _ in 0..2_000 {
-        extend(&mut text, line)?;
-    }
-    extend(&mut text, after)?;
-    Ok(text)
 }
 
 #[test]

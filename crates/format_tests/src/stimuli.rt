@@ -104,7 +104,7 @@ fn constraints_hold_at_the_last_time_too(rt: HostRuntime) -> Result<(), Fail> {
 }
 
 /// Whether a stimulus is written as this text.
-fn is_written(alloc: Global, stimulus: &Stimulus, text: &[u8]) -> Result<bool, StimWriteError> {
+pub fn is_written(alloc: Global, stimulus: &Stimulus, text: &[u8]) -> Result<bool, StimWriteError> {
     let mut out = ToVec::new(alloc);
     write(stimulus, &mut out)?;
     Ok(out.as_slice() == text)
