@@ -1,5 +1,8 @@
 pub mod EachLaws
+pub mod PieceLaws
 pub mod HeadLaws
 pub mod SectionLaws
 pub mod CertificateLaws
+pub mod LineLaws
+pub mod StreamLaws
 pub mod PutLaws

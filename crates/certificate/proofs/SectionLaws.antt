@@ -24,7 +24,7 @@ use Rattle.certificate.proofs.EachLaws.{IsText, each_to, each_from}
 -- ---- the lines of a section
 
 -- a line, or the line with a dot
-abbrev IsItem : List ℕ → Option Line → Type 0
+abbrev pub IsItem : List ℕ → Option Line → Type 0
 IsItem t None = t ≡ 46 ∷ 10 ∷ []
 IsItem t (Some line) = SpellsLine t line
 
@@ -57,7 +57,7 @@ item_from : (t : List ℕ) (x : Option Line) → IsItem t x → After (46 ∷ []
 item_from t None r = inl (10 ∷ [], ([], (refl, refl), refl), r)
 item_from t (Some line) r = inr (line, t, [], r, (refl, refl), sym (append-nil t))
 
-item_reads : Reads item_at IsItem
+pub item_reads : Reads item_at IsItem
 unfolding item_at
 item_reads =
     reads_as IsItem
@@ -68,7 +68,7 @@ item_reads =
 pub item_line : (rest after : List ℕ) (line : Line) → item_at rest ≡ Some (Some line, after) → IsLine line
 item_line rest after line e = (item_reads.sound rest (Some line) after e).1.within
 
-item_takes : TakesSome IsItem
+pub item_takes : TakesSome IsItem
 item_takes t line s = line_takes t line s
 
 -- ---- a section

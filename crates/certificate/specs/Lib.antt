@@ -1,5 +1,7 @@
 pub mod Numbers
 pub mod Texts
+pub mod Pieces
 pub mod Reading
 pub mod Refusals
+pub mod Streams
 pub mod Writing

@@ -4,6 +4,8 @@ use Rattle.certificate.specs.declared.cert_error.CertError.{CertError}
 use Rattle.certificate.specs.declared.cert_error.CertError.TheVariants.{Number, Byte, Truncated, Version, PropertyLine, Section, OutOfMemory}
 use Rattle.certificate.specs.declared.cert_write_error.CertWriteError.{CertWriteError}
 use Rattle.certificate.specs.declared.cert_write_error.CertWriteError.TheVariants.{Sections, Number as TooMany, Device}
+use Rattle.certificate.specs.declared.reader_error.ReaderError.{ReaderError}
+use Rattle.certificate.specs.declared.reader_error.ReaderError.TheVariants.{Refused, Device as SourceFailed}
 
 abbrev pub number_of : CertError → ℕ
 number_of (Number place) = 3
@@ -32,3 +34,11 @@ abbrev pub write_place_of : CertWriteError → ℕ
 write_place_of (Sections found) = found
 write_place_of TooMany = 0
 write_place_of Device = 0
+
+abbrev pub reader_number_of : ReaderError → ℕ
+reader_number_of (Refused e) = number_of e
+reader_number_of SourceFailed = 21
+
+abbrev pub reader_place_of : ReaderError → ℕ
+reader_place_of (Refused e) = place_of e
+reader_place_of SourceFailed = 0

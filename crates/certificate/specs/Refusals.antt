@@ -5,6 +5,10 @@ use Rattle.scan.specs.declared.fault.Fault.{Fault}
 use Rattle.scan.specs.declared.fault.Fault.TheVariants.{Memory, Text}
 use Rattle.certificate.specs.declared.cert_error.CertError.{CertError}
 use Rattle.certificate.specs.declared.cert_error.CertError.TheVariants as error
+use Rattle.certificate.specs.declared.pieces.PieceError.{PieceError}
+use Rattle.certificate.specs.declared.pieces.PieceError.TheVariants as piece
+use Rattle.certificate.specs.declared.reader_error.ReaderError.{ReaderError}
+use Rattle.certificate.specs.declared.reader_error.ReaderError.TheVariants.{Refused, Device}
 use Rattle.certificate.specs.declared.refusal.Refusal.{Refusal}
 use Rattle.certificate.specs.declared.refusal.Refusal.TheVariants.{Version, PropertyLine, Number, Section, Byte, Truncated}
 
@@ -21,3 +25,8 @@ at_byte Truncated p = error.Truncated p
 abbrev pub error_of : ℕ → Fault Refusal → CertError
 error_of length (Memory refused) = error.OutOfMemory witness
 error_of length (Text kind left) = at_byte kind (length - left)
+
+-- what it is for a reader that no piece comes
+abbrev pub of_piece : PieceError → ReaderError
+of_piece (piece.OutOfMemory refused) = Refused (error.OutOfMemory witness)
+of_piece piece.Device = Device

@@ -10,6 +10,7 @@
 //! - `read` answers Ok exactly on the texts that spell one, with that certificate; only want of
 //!   memory can keep it from one. A text that spells none is refused at its first fault, by the
 //!   byte.
+//! - `Reader` reads the same texts line by line, as a source gives their bytes, however it cuts them.
 //! - `write` puts the text of a certificate that has one, and nothing of any other.
 #![tactic(auto)]
 
@@ -17,14 +18,24 @@ mod cert_error;
 mod cert_write_error;
 mod certificate;
 mod head;
+mod kinds;
 mod limits;
+mod pieces;
+mod reader;
+mod reader_error;
 mod reading;
 mod refusal;
 mod sections;
+mod streaming;
 mod writing;
 
 pub use cert_error::CertError;
 pub use cert_write_error::CertWriteError;
 pub use certificate::Certificate;
+pub use head::Version;
+pub use kinds::SectionKind;
+pub use reader::Reader;
+pub use reader_error::ReaderError;
 pub use reading::read;
+pub use streaming::{read_clauses, skip_lines, skip_section, skip_sections};
 pub use writing::write;

@@ -15,7 +15,7 @@ use std::alloc::Global;
 
 /// A line of a section, or none where a line with a dot ends it, and what follows.
 #[tactic(auto, unfolding(crate::specs::Reading::item_at))]
-fn item(alloc: Global, text: &[u8]) -> Result<(Option<Line>, &[u8]), Fault<Refusal>>
+pub fn line_or_end(alloc: Global, text: &[u8]) -> Result<(Option<Line>, &[u8]), Fault<Refusal>>
     ensures { Gives (λ x. (x.0, x.1.now)) result (item_at text.now) }
 {
     match text {
@@ -38,7 +38,7 @@ fn section_lines(alloc: Global, text: &[u8]) -> Result<(Proof, &[u8]), Fault<Ref
     let mut proof = Proof::new(alloc);
     let mut rest = text;
     for _ in 0..text.len() + 1 {
-        let (item, after) = item(alloc, rest)?;
+        let (item, after) = line_or_end(alloc, rest)?;
         rest = after;
         let Some(line) = item else {
             return Ok((proof, rest));

@@ -142,7 +142,7 @@ cause_refuses m c (Section e k) cause ne accepted = of_circuit_refuses m c (Sect
 cause_refuses m c (OutOfMemory refused) cause ne accepted = absurd (ne refl)
 
 -- a cause for the property's circuit is one
-cause_of_circuit : (m : Parts) (c : Certificate) (e : CheckError) → IsShowable m c.property → HasCauseFor (circuit_of m c.property) (bad_of m c.property) c e → HasCause m c e
+pub cause_of_circuit : (m : Parts) (c : Certificate) (e : CheckError) → IsShowable m c.property → HasCauseFor (circuit_of m c.property) (bad_of m c.property) c e → HasCause m c e
 cause_of_circuit m c (NoProperty n) showable cause = absurd cause
 cause_of_circuit m c Limit showable cause = inr (record { showable = showable; cause = cause })
 cause_of_circuit m c (Sections n) showable cause = record { showable = showable; cause = cause }

@@ -1,10 +1,9 @@
 -- What the line says of what was asked.
-use Rattle.std.proofs.Common.{◌≡◌, ℕ, ◌⊎◌, Bool, true, false, List, Option, Result, Ok, Err, IfOk, OnErr, inl, inr, refl, sym, ◌∙◌}
-use Rattle.std.specs.Prelude.{MatchResult, IsErrAnd, IsErrOf}
+use Rattle.std.proofs.Common.{◌≡◌, ℕ, ◌⊎◌, Bool, true, false, List, Option, Result, Ok, Err, IfOk, OnErr, inl, inr, sym, ◌∙◌}
+use Rattle.std.specs.Prelude.{MatchResult}
 use Rattle.std.specs.Io.KnownBytes.{Appends}
 use Rattle.std.proofs.lemmas.Bool.{cases_eq, eq-eqb, ne_eqb}
 use Rattle.base.specs.Devices.{PutsBeginning}
-use Rattle.base.specs.Witness.{witness}
 use Rattle.graph.specs.declared.circuit.Property.{Property}
 use Rattle.graph.specs.Refusals.{number_of as read_number}
 use Rattle.aiger.specs.Loading.{IsRefusal as IsLoadRefusal, SpellsNoFile}
@@ -31,14 +30,6 @@ stops_more M N stop.Device more is = tt
 pub load_stops : (xs : List ℕ) (e : LoadError) → IsLoadRefusal xs e → IsStop (SpellsNoFile xs) (stop_of_load e)
 load_stops xs (load.Refused e) is = stops (SpellsNoFile xs) (read_number e) is
 load_stops xs load.Device is = tt
-
--- a refusal with a number is no failure of a device
-pub no_device : {X : Type 0} (r : Result X Stop) (n : ℕ) → IsErrAnd r (λ s. s ≡ stop_of n) → IsErrOf r stop.Device → ⊥
-no_device (Ok x) n is device = is
-no_device (Err s) n is device = elim (cases_eq n 20) [
-  | inl memory ↦ let named : stop_of n ≡ stop.OutOfMemory witness = rw (eq-eqb n 20 memory) refl in let same : s ≡ stop.OutOfMemory witness = is ∙ named in cc
-  | inr other ↦ let named : stop_of n ≡ stop.No n = rw (ne_eqb n 20 other) refl in let same : s ≡ stop.No n = is ∙ named in cc
-]
 
 -- ---- what was asked of the texts holds of the property that a yes names, and there is a reason for a no
 

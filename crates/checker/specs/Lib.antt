@@ -4,4 +4,5 @@ pub mod Lines
 pub mod Numbers
 pub mod Replayed
 pub mod Stops
+pub mod Streamed
 pub mod Verdicts

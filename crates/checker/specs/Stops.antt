@@ -4,6 +4,9 @@ use Rattle.base.specs.Witness.{witness}
 use Rattle.graph.specs.Refusals.{number_of as read_number}
 use Rattle.aiger.specs.declared.load_error.LoadError.{LoadError}
 use Rattle.aiger.specs.declared.load_error.LoadError.TheVariants.{Refused, Device as LoadDevice}
+use Rattle.certificate.specs.Numbers.{number_of as certificate_number}
+use Rattle.certificate.specs.declared.reader_error.ReaderError.{ReaderError}
+use Rattle.certificate.specs.declared.reader_error.ReaderError.TheVariants.{Refused as CertificateRefused, Device as SourceFailed}
 use Rattle.checker.specs.declared.stop.Stop.{Stop}
 use Rattle.checker.specs.declared.stop.Stop.TheVariants.{No, OutOfMemory, Device}
 
@@ -14,6 +17,10 @@ stop_of n = if n == 20 then OutOfMemory witness else No n
 abbrev pub stop_of_load : LoadError → Stop
 stop_of_load (Refused e) = stop_of (read_number e)
 stop_of_load LoadDevice = Device
+
+abbrev pub stop_of_reader : ReaderError → Stop
+stop_of_reader (CertificateRefused e) = stop_of (certificate_number e)
+stop_of_reader SourceFailed = Device
 
 -- where it stops, a no has a number of which this holds
 abbrev pub IsStop : (ℕ → Type 0) → Stop → Type 0

@@ -69,7 +69,7 @@ fn examine_justice(
 }
 
 /// The refusal of a property that the circuit has not.
-fn no_property(property: Property) -> CheckError
+pub fn no_property(property: Property) -> CheckError
     ensures { result ≡ CheckError.NoProperty (position_of property) }
 {
     let (Property::Bad(n) | Property::Justice(n) | Property::Output(n)) = property;

@@ -6,32 +6,19 @@ ghost use Rattle.aiger.specs.Layouts.{SpellsFile};
 ghost use Rattle.graph.specs.declared.circuit.Property.{Property as AProperty};
 ghost use Rattle.graph.specs.File.{File};
 ghost use Rattle.checker.specs.Lines.{yes_line, no_line};
-ghost use Rattle.checker.specs.Verdicts.{Accepts, BeginsLine, IsCertificateOf, IsRefusal, IsUpheldText, SpellsNoCertificate};
-ghost use Rattle.checker.specs.Stops.{IsStop, Fails, FailsOne};
+ghost use Rattle.checker.specs.Verdicts.{Accepts, BeginsLine, IsRefusal, IsUpheldText};
+ghost use Rattle.checker.specs.Stops.{IsStop, FailsOne};
 ghost use Rattle.checker.specs.declared.line.Question.TheVariants.{Safe};
 ghost use Rattle.checker.specs.declared.stop.Stop.TheVariants.{Device as Failure};
 ghost use Rattle.checker.specs.declared.run_error.RunError.TheVariants.{Device};
 
-use crate::acceptance::check;
+use crate::certificate_text::check_source;
 use crate::line::{Question, tell};
 use crate::run_error::RunError;
 use crate::stop::Stop;
-use crate::whole::read_whole;
 use aiger::load;
-use certificate::Certificate;
 use graph::{Property, Sink, Source};
 use std::alloc::Global;
-
-/// The certificate that the bytes of a source spell.
-fn read_certificate<C: Source>(alloc: Global, certificate: &mut C) -> Result<Certificate, Stop>
-    requires { C.failed certificate.old < 2 ^ 64 - 1 }
-    ensures says { (ys : List ℕ) → C.remaining certificate.old ≡ Some ys → MatchResult result (λ c. IsCertificateOf ys c) (IsStop (SpellsNoCertificate ys)) }
-    ensures fails { Fails result (C.failed certificate.old) (C.failed certificate.new) }
-{
-    let text = read_whole(alloc, certificate)?;
-    let certificate = certificate::read(alloc, text.as_slice())?;
-    Ok(certificate)
-}
 
 /// The property that is shown safe, by the bytes of two sources. Where the first spells no circuit,
 /// the second is not read.
@@ -47,9 +34,11 @@ fn safe_property<M: Source, C: Source>(
     ensures fails { FailsOne result Failure (record { circuit = M.failed circuit.old; evidence = C.failed certificate.old; out = 0 }) (record { circuit = M.failed circuit.new; evidence = C.failed certificate.new; out = 0 }) }
 {
     let file = load(alloc, circuit)?;
-    let certificate = read_certificate(alloc, certificate)?;
-    check(alloc, file.model(), &certificate)?;
-    Ok(certificate.property)
+    let outcome = check_source(alloc, file.model(), certificate)?;
+    match outcome.refusal {
+        None => Ok(outcome.property),
+        Some(number) => Err(Stop::No(number)),
+    }
 }
 
 /// Says whether the certificate that the second source's bytes spell is accepted for the circuit
@@ -62,8 +51,9 @@ fn safe_property<M: Source, C: Source>(
 /// of the second, anywhere in it, before every fault of the certificate. Where memory is wanting or a
 /// source fails, nothing is put.
 ///
-/// It takes no memory beyond the file, the certificate, the clauses that the cases share, lemmas
-/// too, and those of one section. While a text is read, its bytes are held too.
+/// The certificate is checked while it is read. It takes no memory beyond the file, the clauses of
+/// the invariant, those that the cases share, lemmas too, those of one section, and one line of the
+/// certificate. While the first text is read, its bytes are held too.
 pub fn run_safe<M: Source, C: Source, W: Sink>(
     alloc: Global,
     circuit: &mut M,

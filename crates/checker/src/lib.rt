@@ -18,10 +18,13 @@
 //!
 //! Nothing is assumed of whoever wrote the evidence. A certificate costs its own length and one
 //! circuit: all sections of a kind are checked over one formula, and what a section adds is forgotten
-//! after it.
+//! after it. `run_safe` checks it while it is read (`certificate_text`): after a fault of the check the
+//! rest is only read, since a fault of the text, anywhere in it, goes first.
 #![tactic(auto)]
 
 mod acceptance;
+mod case_text;
+mod certificate_text;
 mod certified;
 mod check_error;
 mod clause_error;
@@ -29,6 +32,7 @@ mod invariant;
 mod line;
 mod replayed;
 mod run_error;
+mod section_text;
 mod sections;
 mod stop;
 mod whole;

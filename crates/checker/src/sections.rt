@@ -102,7 +102,7 @@ fn check_case(
 }
 
 /// The refuter of the initial cases.
-fn start_refuter(alloc: Global, model: &Model) -> Result<Refuter, Refused>
+pub fn start_refuter(alloc: Global, model: &Model) -> Result<Refuter, Refused>
     ensures { IfOk result (λ r. r ≡ at_formula (start_formula model.now)) }
 {
     let base = start_base(alloc, model)?;

@@ -2,20 +2,16 @@
 
 ghost use Rattle.std.specs.Prelude.{◌≡◌};
 ghost use Rattle.base.specs.Witness.{witness};
-ghost use Rattle.lrat.specs.Numbers.{number_of as fault_number};
 ghost use Rattle.graph.specs.Refusals.{number_of as read_number};
 ghost use Rattle.certificate.specs.Numbers.{number_of as certificate_number};
 ghost use Rattle.stimulus.specs.Numbers.{stim_number_of, judge_number_of};
-ghost use Rattle.checker.specs.Numbers.{number_of};
-ghost use Rattle.checker.specs.Stops.{stop_of, stop_of_load};
+ghost use Rattle.checker.specs.Stops.{stop_of, stop_of_load, stop_of_reader};
 ghost use Rattle.checker.specs.declared.stop.Stop.TheVariants.{OutOfMemory};
 
-use crate::check_error::CheckError;
 use aiger::LoadError;
 use base::Refused;
-use certificate::CertError;
+use certificate::{CertError, ReaderError};
 use graph::ReadError;
-use lrat::Fault;
 use stimulus::{JudgeError, StimError};
 
 /// Why there is no yes.
@@ -70,25 +66,13 @@ impl From<CertError> for Stop {
     }
 }
 
-impl From<Fault> for Stop {
-    ghost from_gives = { λ e s. s ≡ stop_of (fault_number e) };
+impl From<ReaderError> for Stop {
+    ghost from_gives = { λ e s. s ≡ stop_of_reader e };
 
-    fn from(e: Fault) -> Stop {
+    fn from(e: ReaderError) -> Stop {
         match e {
-            Fault::OutOfMemory(refused) => Stop::OutOfMemory(refused),
-            _ => Stop::No(e.number()),
-        }
-    }
-}
-
-impl From<CheckError> for Stop {
-    ghost from_gives = { λ e s. s ≡ stop_of (number_of e) };
-
-    fn from(e: CheckError) -> Stop {
-        match e {
-            CheckError::OutOfMemory(refused) => Stop::OutOfMemory(refused),
-            CheckError::Section { error, .. } => Stop::from(error.fault),
-            _ => Stop::No(e.number()),
+            ReaderError::Refused(e) => Stop::from(e),
+            ReaderError::Device => Stop::Device,
         }
     }
 }

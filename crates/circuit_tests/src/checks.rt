@@ -27,7 +27,7 @@ impl Question for Refusal<'_> {
 }
 
 /// What it says of the certificate that a text spells, for the latch that keeps its value.
-fn judged(alloc: Global, text: &[u8]) -> Result<Option<(u8, u64, u64)>, Fail> {
+pub fn judged(alloc: Global, text: &[u8]) -> Result<Option<(u8, u64, u64)>, Fail> {
     let certificate = read(alloc, text)?;
     asked(
         alloc,
@@ -40,7 +40,7 @@ fn judged(alloc: Global, text: &[u8]) -> Result<Option<(u8, u64, u64)>, Fail> {
 
 /// Certificates for the latch that keeps its value, with number, place and section of the refusal, where
 /// there is one.
-static JUDGED: [(&[u8], Option<(u8, u64, u64)>); 16] = [
+pub static JUDGED: [(&[u8], Option<(u8, u64, u64)>); 16] = [
     (
         b"aigcert 1\nb0\n1\n1 3\ni\n4 0 2 3 0\n.\ns\n4 0 2 0\n.\nb\n4 0 2 3 0\n.\n",
         Some((44, 0, 1)),

@@ -11,6 +11,8 @@ mod checks;
 #[cfg(test)]
 mod circuits;
 #[cfg(test)]
+mod cut_certificate;
+#[cfg(test)]
 mod encodings;
 #[cfg(test)]
 mod large_certificate;

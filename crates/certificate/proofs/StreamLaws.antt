@@ -1,0 +1,344 @@
+-- A reader finds what the text says, however its source cuts it.
+use Rattle.std.specs.Prelude.{IsErrAnd}
+use Rattle.base.specs.Witness.{witness}
+use Rattle.std.proofs.Common.{◌≡◌, ℕ, zero, suc, ◌+◌, ◌-◌, ◌<◌, ◌≤◌, Bool, true, false, List, [], ◌∷◌, ◌++◌, length, take, drop, Option, Some, None, Result, Ok, Err, refl, sym, ap, subst, ◌∙◌, append_assoc, arith, inl, inr}
+use Rattle.std.proofs.lemmas.Bool.{cases_Bool}
+use Rattle.std.proofs.lemmas.List.{append-nil, length-take-le, length-append, nil_from_length}
+use Rattle.std.proofs.lemmas.Option.{none-some, same_Some}
+use Rattle.scan.specs.Reading.{◌>>=◌, Read, Fails, ended}
+use Rattle.scan.specs.Bytes.{byte_at}
+use Rattle.scan.specs.Words.{any, field_at}
+use Rattle.scan.specs.Lists.{many_at, until_at, items_at, value_then}
+use Rattle.scan.proofs.Loops.{with_front, regroup, many_more, many_done}
+use Rattle.lrat.specs.declared.line.Line.{Line as ALine}
+use Rattle.scan.specs.declared.fault.Fault.{Fault}
+use Rattle.scan.specs.declared.fault.Fault.TheVariants.{Memory, Text}
+use Rattle.certificate.specs.declared.reader_error.ReaderError.{ReaderError}
+use Rattle.certificate.specs.declared.reader_error.ReaderError.TheVariants.{Refused, Device}
+use Rattle.certificate.specs.declared.cert_error.CertError.TheVariants as text
+use Rattle.certificate.specs.declared.refusal.Refusal.{Refusal}
+use Rattle.certificate.specs.declared.refusal.Refusal.TheVariants as kind
+use Rattle.certificate.specs.Pieces.{is_inner, piece_at, IsOfPiece, Splits}
+use Rattle.certificate.specs.Refusals.{error_of}
+use Rattle.certificate.specs.declared.kinds.SectionKind.{SectionKind}
+use Rattle.certificate.specs.declared.certificate.Certificate.{Certificate}
+use Rattle.certificate.specs.Reading.{greatest, first_line_at, property_at, clause_at, item_at, section_at, certificate_at}
+use Rattle.certificate.specs.Streams.{AreLeft, Finds, FindsWith, ForText, StillReads, end_at, letter_at, letter_of, parts_at}
+use Rattle.certificate.specs.Texts.{SpellsCertificate}
+use Rattle.certificate.proofs.CertificateLaws.{certificate_reads}
+use Rattle.certificate.proofs.SectionLaws.{item_reads, item_takes}
+
+-- what is read is read from the piece that comes next
+abbrev FromPiece : {A : Type 0} → (List ℕ → Read A) → Type 0
+FromPiece p = (bytes : List ℕ) → p bytes ≡ (ended (p (piece_at bytes).0) >>= λ x. Some (x, (piece_at bytes).1))
+
+-- what is read is x, and what follows it is left
+abbrev pub Moves : {A : Type 0} → Read A → A → List ℕ → Option (List ℕ) → Type 0
+Moves read x held source = (rest : List ℕ) × (read ≡ Some (x, rest)) × AreLeft held source rest
+
+first_found : {A : Type 0} (p : List ℕ → Read A) → FromPiece p → (held later ys : List ℕ) (b : Option (List ℕ)) (n : ℕ) (x : A) → Splits held (Some ys) later b n → ended (p (take n later)) ≡ Some x → Moves (p (held ++ ys)) x (drop n later) b
+first_found p law held later ys None n x splits e = absurd splits
+first_found p law held later ys (Some zs) n x splits e =
+    (drop n later ++ zs, law (held ++ ys) ∙ ap (λ (w : List ℕ × List ℕ). ended (p w.0) >>= λ x. Some (x, w.1)) splits ∙ ap (λ o. o >>= λ x. Some (x, drop n later ++ zs)) e, (zs, refl, refl))
+
+none_found : {A : Type 0} (p : List ℕ → Read A) → FromPiece p → (held later ys : List ℕ) (b : Option (List ℕ)) (n : ℕ) → Splits held (Some ys) later b n → ended (p (take n later)) ≡ None → p (held ++ ys) ≡ None
+none_found p law held later ys None n splits e = absurd splits
+none_found p law held later ys (Some zs) n splits e =
+    law (held ++ ys) ∙ ap (λ (w : List ℕ × List ℕ). ended (p w.0) >>= λ x. Some (x, w.1)) splits ∙ ap (λ o. o >>= λ x. Some (x, drop n later ++ zs)) e
+
+pub moves_from : {A : Type 0} (p : List ℕ → Read A) → FromPiece p → (held later ys : List ℕ) (a b : Option (List ℕ)) (n : ℕ) (x : A) → a ≡ Some ys → Splits held a later b n → ended (p (take n later)) ≡ Some x → Moves (p (held ++ ys)) x (drop n later) b
+moves_from p law held later ys None b n x known splits e = absurd (none-some ys known)
+moves_from p law held later ys (Some xs) b n x known splits e = first_found p law held later ys b n x (subst (λ w. Splits held (Some w) later b n) (same_Some xs ys known) splits) e
+
+pub stuck_from : {A : Type 0} (p : List ℕ → Read A) → FromPiece p → (held later ys : List ℕ) (a b : Option (List ℕ)) (n : ℕ) → a ≡ Some ys → Splits held a later b n → ended (p (take n later)) ≡ None → p (held ++ ys) ≡ None
+stuck_from p law held later ys None b n known splits e = absurd (none-some ys known)
+stuck_from p law held later ys (Some xs) b n known splits e = none_found p law held later ys b n (subst (λ w. Splits held (Some w) later b n) (same_Some xs ys known) splits) e
+
+-- a text refusal is told only of a text from which nothing is read
+pub for_text : (total : ℕ) (fault : Fault Refusal) (P : Type 0) {A : Type 0} (o : Option A) → (o ≡ None → P) → Fails fault o → ForText (Refused (error_of total fault)) P
+for_text total (Memory refused) P o f none = tt
+for_text total (Text kind.Version left) P o f none = f none
+for_text total (Text kind.PropertyLine left) P o f none = f none
+for_text total (Text kind.Number left) P o f none = f none
+for_text total (Text kind.Section left) P o f none = f none
+for_text total (Text kind.Byte left) P o f none = f none
+for_text total (Text kind.Truncated left) P o f none = f none
+
+-- ---- the end of the text
+
+piece_nil : (bytes : List ℕ) → (piece_at bytes).0 ≡ [] → bytes ≡ []
+unfolding piece_at
+piece_nil [] e = refl
+piece_nil (c ∷ cs) e = elim (cases_Bool (is_inner c)) [
+  | inl y ↦ absurd (let z = rw y at e in cc)
+  | inr n ↦ absurd (let z = rw n at e in cc)
+]
+
+nil_piece : (piece_at []).0 ≡ []
+unfolding piece_at
+nil_piece = refl
+
+nil_piece_rest : (bytes later : List ℕ) → bytes ≡ [] → (piece_at bytes).1 ≡ later → [] ≡ later
+unfolding piece_at
+nil_piece_rest bytes later none is = rw none at is
+
+over_from : (held later ys : List ℕ) (b : Option (List ℕ)) → Splits held (Some ys) later b 0 → held ++ ys ≡ []
+over_from held later ys None splits = absurd splits
+over_from held later ys (Some zs) splits = piece_nil (held ++ ys) (ap (λ (w : List ℕ × List ℕ). w.0) splits)
+
+-- no piece comes where no byte is left
+pub none_left : (held later ys : List ℕ) (a b : Option (List ℕ)) (n : ℕ) → a ≡ Some ys → n ≡ 0 → Splits held a later b n → held ++ ys ≡ []
+none_left held later ys None b n known is splits = absurd (none-some ys known)
+none_left held later ys (Some xs) b n known is splits = over_from held later ys b (subst (λ k. Splits held (Some ys) later b k) is (subst (λ w. Splits held (Some w) later b n) (same_Some xs ys known) splits))
+
+no_piece : (held later ys : List ℕ) (b : Option (List ℕ)) (n : ℕ) → Splits held (Some ys) later b n → n ≤ length later → held ++ ys ≡ [] → n ≡ 0
+no_piece held later ys None n splits within none = absurd splits
+no_piece held later ys (Some zs) n splits within none =
+    let front : take n later ≡ [] = sym (ap (λ (w : List ℕ × List ℕ). w.0) splits) ∙ ap (λ (w : List ℕ). (piece_at w).0) none ∙ nil_piece in
+    omega (arith, length-take-le n later within, ap length front)
+
+pub some_left : (held later ys : List ℕ) (a b : Option (List ℕ)) (n : ℕ) → a ≡ Some ys → Splits held a later b n → n ≤ length later → held ++ ys ≡ [] → n ≡ 0
+some_left held later ys None b n known splits within none = absurd (none-some ys known)
+some_left held later ys (Some xs) b n known splits within none = no_piece held later ys b n (subst (λ w. Splits held (Some w) later b n) (same_Some xs ys known) splits) within none
+
+pub for_text_map : (e : ReaderError) (P Q : Type 0) → (P → Q) → ForText e P → ForText e Q
+for_text_map (Refused (text.OutOfMemory refused)) P Q f p = tt
+for_text_map (Refused (text.Number place)) P Q f p = f p
+for_text_map (Refused (text.Byte place)) P Q f p = f p
+for_text_map (Refused (text.Truncated place)) P Q f p = f p
+for_text_map (Refused (text.Version place)) P Q f p = f p
+for_text_map (Refused (text.PropertyLine place)) P Q f p = f p
+for_text_map (Refused (text.Section place)) P Q f p = f p
+for_text_map Device P Q f p = tt
+
+-- ---- one part after another
+
+pub err_finds : {A X : Type 0} (P : A → X → Type 0) (read : Read A) (r : Result X ReaderError) (e : ReaderError) (held : List ℕ) (source : Option (List ℕ)) → IsErrAnd r (λ x. x ≡ e) → ForText e (read ≡ None) → FindsWith P read r held source
+err_finds P read (Ok x) e held source is f = absurd is
+err_finds P read (Err x) e held source is f = subst (λ y. ForText y (read ≡ None)) (sym is) f
+
+pub err_read : {A : Type 0} (read : Read A) (r : Result A ReaderError) (e : ReaderError) (held : List ℕ) (source : Option (List ℕ)) → IsErrAnd r (λ x. x ≡ e) → ForText e (read ≡ None) → Finds read r held source
+err_read read (Ok x) e held source is f = absurd is
+err_read read (Err x) e held source is f = subst (λ y. ForText y (read ≡ None)) (sym is) f
+
+-- for want of memory
+pub memory_read : {A : Type 0} (read : Read A) (r : Result A ReaderError) (held : List ℕ) (source : Option (List ℕ)) → IsErrAnd r (λ x. x ≡ Refused (text.OutOfMemory witness)) → Finds read r held source
+memory_read read r held source is = err_read read r (Refused (text.OutOfMemory witness)) held source is tt
+
+pub memory_finds : {A X : Type 0} (P : A → X → Type 0) (read : Read A) (r : Result X ReaderError) (held : List ℕ) (source : Option (List ℕ)) → IsErrAnd r (λ x. x ≡ Refused (text.OutOfMemory witness)) → FindsWith P read r held source
+memory_finds P read r held source is = err_finds P read r (Refused (text.OutOfMemory witness)) held source is tt
+
+-- the first part is refused
+pub then_none : {A B : Type 0} (read : Read A) (q : A → List ℕ → Read B) (e : ReaderError) → ForText e (read ≡ None) → ForText e ((read >>= λ r. q r.0 r.1) ≡ None)
+then_none read q e f = for_text_map e (read ≡ None) ((read >>= λ r. q r.0 r.1) ≡ None) (λ none. ap (λ o. o >>= λ r. q r.0 r.1) none) f
+
+-- the first part was read, and the second part decides
+pub then_finds : {A B X : Type 0} (P : B → X → Type 0) (read : Read A) (q : A → List ℕ → Read B) (x : A) (held later : List ℕ) (source last : Option (List ℕ)) (r : Result X ReaderError)
+    → Finds read (Ok x) held source → ((zs : List ℕ) → source ≡ Some zs → FindsWith P (q x (held ++ zs)) r later last) → FindsWith P (read >>= λ r. q r.0 r.1) r later last
+then_finds P read q x held later source last (Ok y) (rest, is, (zs, known, left)) next =
+    let (b, after, second, p, end) = next zs known in
+    (b, after, ap (λ o. o >>= λ r. q r.0 r.1) is ∙ ap (q x) left ∙ second, p, end)
+then_finds P read q x held later source last (Err e) (rest, is, (zs, known, left)) next =
+    for_text_map e (q x (held ++ zs) ≡ None) ((read >>= λ r. q r.0 r.1) ≡ None) (λ none. ap (λ o. o >>= λ r. q r.0 r.1) is ∙ ap (q x) left ∙ none) (next zs known)
+
+-- the same, where the first part was read with an answer
+pub then_finds_with : {A B X Y : Type 0} (O : A → Y → Type 0) (P : B → X → Type 0) (read : Read A) (q : A → List ℕ → Read B) (y : Y) (held later : List ℕ) (source last : Option (List ℕ)) (r : Result X ReaderError)
+    → FindsWith O read (Ok y) held source → ((x : A) (zs : List ℕ) → O x y → source ≡ Some zs → FindsWith P (q x (held ++ zs)) r later last) → FindsWith P (read >>= λ r. q r.0 r.1) r later last
+then_finds_with O P read q y held later source last r (x, rest, is, o, left) next = then_finds P read q x held later source last r (rest, is, left) (λ zs known. next x zs o known)
+
+-- what is found is told of another value
+pub finds_if : {A X Y : Type 0} (P : A → X → Type 0) (Q : A → Y → Type 0) (f : X → Y) (read : Read A) (x : X) (held : List ℕ) (source : Option (List ℕ)) → ((a : A) → P a x → Q a (f x)) → FindsWith P read (Ok x) held source → FindsWith Q read (Ok (f x)) held source
+finds_if P Q f read x held source h (a, rest, is, p, left) = (a, rest, is, h a p, left)
+
+-- what is read so is read so too
+pub same_finds : {A X : Type 0} (P : A → X → Type 0) (read other : Read A) (r : Result X ReaderError) (held : List ℕ) (source : Option (List ℕ)) → read ≡ other → FindsWith P read r held source → FindsWith P other r held source
+same_finds P read other r held source same f = subst (λ o. FindsWith P o r held source) same f
+
+-- ---- many values
+
+same_steps : {A : Type 0} (o : Read (Option A)) (f g : List ℕ → Read (List A)) → ((x : A) (rest : List ℕ) → o ≡ Some (Some x, rest) → f rest ≡ g rest) → (o >>= λ x. value_then x.0 x.1 (f x.1)) ≡ (o >>= λ x. value_then x.0 x.1 (g x.1))
+same_steps None f g same = refl
+same_steps (Some (None, rest)) f g same = refl
+same_steps (Some (Some x, rest)) f g same = ap (λ later. later >>= λ xs. Some (x ∷ xs.0, xs.1)) (same x rest refl)
+
+item_short : (bytes : List ℕ) (line : ALine) (rest : List ℕ) → item_at bytes ≡ Some (Some line, rest) → length rest < length bytes
+item_short bytes line rest e =
+    let (front, spelled, whole) = item_reads.sound bytes (Some line) rest e in
+    omega (arith, item_takes front line spelled, ap length whole, length-append front rest)
+
+until_same : (n m : ℕ) (bytes : List ℕ) → length bytes < n → length bytes < m → until_at item_at n bytes ≡ until_at item_at m bytes
+unfolding until_at
+until_same zero m bytes a b = absurd (omega (arith, a))
+until_same (suc n) zero bytes a b = absurd (omega (arith, b))
+until_same (suc n) (suc m) bytes a b =
+    same_steps (item_at bytes) (until_at item_at n) (until_at item_at m) (λ line rest e.
+    let shorter = item_short bytes line rest e in
+    until_same n m rest (omega (arith, shorter, a)) (omega (arith, shorter, b)))
+
+items_step : (bytes : List ℕ) → items_at item_at bytes ≡ (item_at bytes >>= λ x. value_then x.0 x.1 (items_at item_at x.1))
+unfolding until_at
+items_step bytes =
+    same_steps (item_at bytes) (until_at item_at (length bytes)) (items_at item_at) (λ line rest e.
+    let shorter = item_short bytes line rest e in
+    until_same (length bytes) (suc (length rest)) rest shorter (omega arith))
+
+none_of_step : {A : Type 0} (front : List A) (o : Read A) (q : List ℕ → Read (List A)) → o ≡ None → with_front front (o >>= λ first. (q first.1 >>= λ others. Some (first.0 ∷ others.0, others.1))) ≡ None
+none_of_step front o q none = rw none refl
+
+-- one value more
+pub many_goes : {A : Type 0} (one : List ℕ → Read A) (read : Read (List A)) (front : List A) (count i : ℕ) (x : A) (held later : List ℕ) (source last : Option (List ℕ)) → i < count → StillReads read front (many_at one (count - i)) held source
+    → ((zs : List ℕ) → source ≡ Some zs → Finds (one (held ++ zs)) (Ok x) later last) → StillReads read (front ++ x ∷ []) (many_at one (count - (i + 1))) later last
+many_goes one read front count i x held later source last lt (zs, known, so_far) next =
+    let (rest, is, (us, left, whole)) = next zs known in
+    (us, left, many_more one front count i (held ++ zs) x (later ++ us) read lt (is ∙ ap (λ w. Some (x, w)) whole) so_far)
+
+-- a value is refused
+pub many_refused : {A : Type 0} (one : List ℕ → Read A) (read : Read (List A)) (front : List A) (count i : ℕ) (e : ReaderError) (held : List ℕ) (source : Option (List ℕ)) → i < count → StillReads read front (many_at one (count - i)) held source
+    → ((zs : List ℕ) → source ≡ Some zs → ForText e (one (held ++ zs) ≡ None)) → ForText e (read ≡ None)
+unfolding many_at
+many_refused one read front count i e held source lt (zs, known, so_far) next =
+    let k : count - i ≡ suc (count - (i + 1)) = omega arith in
+    for_text_map e (one (held ++ zs) ≡ None) (read ≡ None)
+    (λ none. sym so_far ∙ ap (λ n. with_front front (many_at one n (held ++ zs))) k ∙ none_of_step front (one (held ++ zs)) (many_at one (count - (i + 1))) none)
+    (next zs known)
+
+-- the same, where the value was read with an answer
+pub many_goes_with : {A X : Type 0} (P : A → X → Type 0) (one : List ℕ → Read A) (read : Read (List A)) (front : List A) (count i : ℕ) (y : X) (held later : List ℕ) (source last : Option (List ℕ)) → i < count → StillReads read front (many_at one (count - i)) held source
+    → ((zs : List ℕ) → source ≡ Some zs → FindsWith P (one (held ++ zs)) (Ok y) later last) → (x : A) × P x y × StillReads read (front ++ x ∷ []) (many_at one (count - (i + 1))) later last
+many_goes_with one_of one read front count i y held later source last lt (zs, known, so_far) next =
+    let (x, rest, is, p, left) = next zs known in
+    (x, p, many_goes one read front count i x held later source last lt (zs, known, so_far) (λ us other. (rest, ap (λ (w : List ℕ). one (held ++ w)) (same_Some us zs (sym other ∙ known)) ∙ is, left)))
+
+-- all of them were read
+pub many_read : {A : Type 0} (one : List ℕ → Read A) (read : Read (List A)) (front : List A) (count i : ℕ) (held : List ℕ) (source : Option (List ℕ)) → count ≤ i → StillReads read front (many_at one (count - i)) held source → Finds read (Ok front) held source
+many_read one read front count i held source le (zs, known, so_far) = (held ++ zs, many_done one front count i (held ++ zs) read le so_far, (zs, known, refl))
+
+-- ---- values up to an end
+
+item_next : (read : Read (List ALine)) (front : List ALine) (bytes after : List ℕ) (line : ALine) → with_front front (items_at item_at bytes) ≡ read → item_at bytes ≡ Some (Some line, after) → with_front (front ++ line ∷ []) (items_at item_at after) ≡ read
+item_next read front bytes after line so_far is =
+    sym (regroup front line (items_at item_at after)) ∙ sym (ap (λ o. with_front front (o >>= λ x. value_then x.0 x.1 (items_at item_at x.1))) is) ∙ sym (ap (with_front front) (items_step bytes)) ∙ so_far
+
+item_last : (read : Read (List ALine)) (front : List ALine) (bytes after : List ℕ) → with_front front (items_at item_at bytes) ≡ read → item_at bytes ≡ Some (None, after) → read ≡ Some (front, after)
+item_last read front bytes after so_far is =
+    sym so_far ∙ ap (with_front front) (items_step bytes) ∙ ap (λ o. with_front front (o >>= λ x. value_then x.0 x.1 (items_at item_at x.1))) is ∙ ap (λ (w : List ALine). Some (w, after)) (append-nil front)
+
+item_none : (read : Read (List ALine)) (front : List ALine) (bytes : List ℕ) → with_front front (items_at item_at bytes) ≡ read → item_at bytes ≡ None → read ≡ None
+item_none read front bytes so_far none =
+    sym so_far ∙ ap (with_front front) (items_step bytes) ∙ ap (λ o. with_front front (o >>= λ x. value_then x.0 x.1 (items_at item_at x.1))) none
+
+pub items_go : (read : Read (List ALine)) (front : List ALine) (line : ALine) (held later : List ℕ) (source last : Option (List ℕ)) → StillReads read front (items_at item_at) held source
+    → ((zs : List ℕ) → source ≡ Some zs → Finds (item_at (held ++ zs)) (Ok (Some line)) later last) → StillReads read (front ++ line ∷ []) (items_at item_at) later last
+items_go read front line held later source last (zs, known, so_far) next =
+    let (rest, is, (us, left, whole)) = next zs known in
+    (us, left, item_next read front (held ++ zs) (later ++ us) line so_far (is ∙ ap (λ (w : List ℕ). Some (Some line, w)) whole))
+
+pub items_end : (read : Read (List ALine)) (front : List ALine) (held later : List ℕ) (source last : Option (List ℕ)) → StillReads read front (items_at item_at) held source
+    → ((zs : List ℕ) → source ≡ Some zs → Finds (item_at (held ++ zs)) (Ok None) later last) → Finds read (Ok front) later last
+items_end read front held later source last (zs, known, so_far) next =
+    let (rest, is, left) = next zs known in
+    (rest, item_last read front (held ++ zs) rest so_far is, left)
+
+pub items_refused : (read : Read (List ALine)) (front : List ALine) (e : ReaderError) (held : List ℕ) (source : Option (List ℕ)) → StillReads read front (items_at item_at) held source
+    → ((zs : List ℕ) → source ≡ Some zs → ForText e (item_at (held ++ zs) ≡ None)) → ForText e (read ≡ None)
+items_refused read front e held source (zs, known, so_far) next =
+    for_text_map e (item_at (held ++ zs) ≡ None) (read ≡ None) (item_none read front (held ++ zs) so_far) (next zs known)
+
+-- the others were read at once
+pub others_found : {A X : Type 0} (P Q : List A → X → Type 0) (read : Read (List A)) (front : List A) (f : List ℕ → Read (List A)) (held later : List ℕ) (source last : Option (List ℕ)) (r : Result X ReaderError)
+    → StillReads read front f held source → ((zs : List ℕ) → source ≡ Some zs → FindsWith P (f (held ++ zs)) r later last) → ((more : List A) (x : X) → P more x → Q (front ++ more) x) → FindsWith Q read r later last
+others_found P Q read front f held later source last (Ok x) (zs, known, so_far) next h =
+    let (more, rest, is, p, left) = next zs known in
+    (front ++ more, rest, sym so_far ∙ ap (with_front front) is, h more x p, left)
+others_found P Q read front f held later source last (Err e) (zs, known, so_far) next h =
+    for_text_map e (f (held ++ zs) ≡ None) (read ≡ None) (λ none. sym so_far ∙ ap (with_front front) none) (next zs known)
+
+-- ---- sections
+
+-- the line of a letter was read
+abbrev lettered : Option (List ℕ) → Read (Unit {0})
+lettered o = o >>= λ rest. Some (tt, rest)
+
+letter_read : (o : Option (List ℕ)) → (lettered o >>= λ r. items_at item_at r.1) ≡ (o >>= λ lines. items_at item_at lines)
+letter_read None = refl
+letter_read (Some rest) = refl
+
+letter_then : (o : Option (List ℕ)) → ((o >>= λ behind. lettered (byte_at 10 behind)) >>= λ r. items_at item_at r.1) ≡ (o >>= λ behind. (byte_at 10 behind >>= λ lines. items_at item_at lines))
+letter_then None = refl
+letter_then (Some behind) = letter_read (byte_at 10 behind)
+
+pub section_is : (k : SectionKind) (bytes : List ℕ) → (letter_at k bytes >>= λ r. items_at item_at r.1) ≡ section_at (letter_of k) bytes
+unfolding letter_at section_at
+section_is k bytes = letter_then (byte_at (letter_of k) bytes)
+
+-- the line of its letter is refused
+pub section_refused : (k : SectionKind) (e : ReaderError) (bytes : List ℕ) → ForText e (letter_at k bytes ≡ None) → ForText e (section_at (letter_of k) bytes ≡ None)
+section_refused k e bytes f = subst (λ o. ForText e (o ≡ None)) (section_is k bytes) (then_none (letter_at k bytes) (λ u. items_at item_at) e f)
+
+-- the line of its letter was read, and then its lines
+pub section_finds : {X : Type 0} (P : List ALine → X → Type 0) (k : SectionKind) (bytes held later : List ℕ) (source last : Option (List ℕ)) (r : Result X ReaderError)
+    → Finds (letter_at k bytes) (Ok (tt {0})) held source → ((zs : List ℕ) → source ≡ Some zs → FindsWith P (items_at item_at (held ++ zs)) r later last) → FindsWith P (section_at (letter_of k) bytes) r later last
+section_finds P k bytes held later source last r first next =
+    subst (λ o. FindsWith P o r later last) (section_is k bytes) (then_finds P (letter_at k bytes) (λ u. items_at item_at) tt held later source last r first next)
+
+-- ---- the end
+
+nil_parts : (a b : List ℕ) → a ++ b ≡ [] → b ≡ []
+nil_parts a b e = nil_from_length b (omega (arith, ap length e, length-append a b))
+
+left_of : (held later ys : List ℕ) (b : Option (List ℕ)) → Splits held (Some ys) later b 0 → held ++ ys ≡ [] → AreLeft later b []
+left_of held later ys None splits none = absurd splits
+left_of held later ys (Some zs) splits none = (zs, refl, nil_piece_rest (held ++ ys) (later ++ zs) none (ap (λ (w : List ℕ × List ℕ). w.1) splits))
+
+left_over : (held later ys : List ℕ) (a b : Option (List ℕ)) (n : ℕ) → a ≡ Some ys → n ≡ 0 → Splits held a later b n → AreLeft later b []
+left_over held later ys None b n known is splits = absurd (none-some ys known)
+left_over held later ys (Some xs) b n known is splits =
+    let s : Splits held (Some ys) later b 0 = subst (λ k. Splits held (Some ys) later b k) is (subst (λ w. Splits held (Some w) later b n) (same_Some xs ys known) splits) in
+    left_of held later ys b s (over_from held later ys b s)
+
+end_of : (bytes later : List ℕ) (b : Option (List ℕ)) → bytes ≡ [] → AreLeft later b [] → Finds (end_at bytes) (Ok (tt {0})) later b
+unfolding end_at
+end_of bytes later b none left = ([], rw none refl, left)
+
+pub end_found : (held later ys : List ℕ) (a b : Option (List ℕ)) (n : ℕ) → a ≡ Some ys → n ≡ 0 → Splits held a later b n → Finds (end_at (held ++ ys)) (Ok (tt {0})) later b
+end_found held later ys a b n known is splits = end_of (held ++ ys) later b (none_left held later ys a b n known is splits) (left_over held later ys a b n known is splits)
+
+-- the text goes on
+no_end : (bytes : List ℕ) → (bytes ≡ [] → ⊥) → end_at bytes ≡ None
+unfolding end_at
+no_end [] some = absurd (some refl)
+no_end (c ∷ cs) some = refl
+
+pub end_missed : (held later ys : List ℕ) (a b : Option (List ℕ)) (n : ℕ) → a ≡ Some ys → Splits held a later b n → n ≤ length later → 0 < n → end_at (held ++ ys) ≡ None
+end_missed held later ys a b n known splits within some = no_end (held ++ ys) (λ none. let nought = some_left held later ys a b n known splits within none in omega (arith, nought, some))
+
+pub at_end : (bytes rest : List ℕ) (u : Unit {0}) → end_at bytes ≡ Some (u, rest) → bytes ≡ []
+unfolding end_at
+at_end [] rest u e = refl
+at_end (c ∷ cs) rest u e = absurd (none-some (u, rest) e)
+
+pub not_at_end : (bytes : List ℕ) → end_at bytes ≡ None → bytes ≡ [] → ⊥
+unfolding end_at
+not_at_end [] e none = none-some (tt {0}, []) (sym e)
+not_at_end (c ∷ cs) e none = absurd cc
+
+-- ---- the whole text
+
+-- a certificate is read part by part
+pub certificate_is : (bytes : List ℕ) → certificate_at bytes ≡ (first_line_at bytes >>= λ v. (property_at v.1 >>= λ p. (field_at greatest any 10 p.1 >>= λ n. (many_at clause_at n.0 n.1 >>= λ invariant. parts_at v.0 p.0 n.0 invariant.0 invariant.1))))
+unfolding certificate_at parts_at
+certificate_is bytes = refl
+
+pub text_spelled : (text rest : List ℕ) (c : Certificate) → certificate_at text ≡ Some (c, rest) → rest ≡ [] → SpellsCertificate text c
+text_spelled text rest c e none =
+    let (front, spelled, whole) = certificate_reads.sound text c rest e in
+    subst (λ (w : List ℕ). SpellsCertificate w c) (sym (whole ∙ ap (λ (w : List ℕ). front ++ w) none ∙ append-nil front)) spelled
+
+pub text_read : (text : List ℕ) (c : Certificate) → SpellsCertificate text c → certificate_at text ≡ Some (c, [])
+text_read text c spelled = ap certificate_at (sym (append-nil text)) ∙ certificate_reads.complete text c [] spelled
+
+pub text_none : (text : List ℕ) (c : Certificate) → certificate_at text ≡ None → SpellsCertificate text c → ⊥
+text_none text c none spelled = none-some (c, []) (sym none ∙ text_read text c spelled)
+
+pub text_more : (text rest : List ℕ) (c d : Certificate) → certificate_at text ≡ Some (c, rest) → (rest ≡ [] → ⊥) → SpellsCertificate text d → ⊥
+text_more text rest c d e more spelled = more (ap (λ (w : Certificate × List ℕ). w.1) (same_Some (c, rest) (d, []) (sym e ∙ text_read text d spelled)))

@@ -1,0 +1,15 @@
+use Rattle.std.proofs.Common.{◌≡◌, ◌+◌, ◌++◌, ℕ, List, Some, length}
+use Rattle.scan.specs.Lists.{items_at}
+use Rattle.lrat.specs.declared.line.Line.{Line}
+use Rattle.certificate.specs.Reading.{item_at}
+use Rattle.certificate.specs.Streams.{StillReads}
+use Rattle.certificate.proofs.streaming.skip_lines.Given as goal
+
+abbrev pub invariant-skipping : goal.invariant-skipping
+invariant-skipping g l = record {
+  steady : g.S.Source.failed l.from ≡ g.S.Source.failed l.fn.from;
+  reads : (ys : List ℕ) → g.S.Source.remaining l.fn.from ≡ Some ys → (front : List Line) × StillReads (items_at item_at (l.fn.reader ++ ys)) front (items_at item_at) l.reader (g.S.Source.remaining l.from);
+}
+
+abbrev pub decreases-skipping : goal.decreases-skipping
+decreases-skipping g l = length l.reader + g.S.Source.most l.from

@@ -1,0 +1,15 @@
+use Rattle.std.proofs.Common.{◌++◌}
+use Rattle.certificate.specs.Reading.{section_at}
+use Rattle.certificate.specs.Streams.{letter_of}
+use Rattle.certificate.proofs.StreamLaws.{err_finds, section_finds, section_refused}
+use Rattle.certificate.proofs.streaming.skip_section.Goals as goal
+
+pub returns-in_err-section-clause-says : goal.returns-in_err-section-clause-says
+returns-in_err-section-clause-says g c ys known =
+    err_finds (λ lines x. Unit {0}) (section_at (letter_of c.args.kind) (c.args.reader.now ++ ys)) c.from_residual.result c.in_err-section.field-0.0 c.section.new.self (g.S.Source.remaining c.section.new.from) c.from_residual.ensures.1
+    (section_refused c.args.kind c.in_err-section.field-0.0 (c.args.reader.now ++ ys) (c.in_err-section.ensures.says ys known))
+
+pub returns-clause-says : goal.returns-clause-says
+returns-clause-says g c ys known =
+    section_finds (λ lines x. Unit {0}) c.args.kind (c.args.reader.now ++ ys) c.section.new.self c.skip_lines.new.reader _ (g.S.Source.remaining c.skip_lines.new.from) c.skip_lines.result
+    (c.in_ok-section.ensures.says ys known) (λ zs left. c.skip_lines.ensures.says zs left)

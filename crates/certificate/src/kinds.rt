@@ -1,0 +1,147 @@
+//! The kinds of lines in the text of a certificate.
+
+ghost use Rattle.std.specs.Prelude.{◌≡◌};
+ghost use Rattle.scan.specs.Words.{any, field_at};
+ghost use Rattle.certificate.specs.Reading.{first_line_at, greatest, item_at, property_at};
+ghost use Rattle.certificate.specs.Streams.{letter_at, letter_of};
+
+use crate::head::{GREATEST, Version, first_line, property};
+use crate::refusal::{IN_LETTER, IN_LINE, Refusal};
+use crate::sections::line_or_end;
+use graph::Property;
+use lrat::Line;
+use scan::{Fault, LineKind, byte, field};
+use std::alloc::Global;
+
+/// What the sections of a certificate are of.
+#[derive(Clone, Copy, Debug, PartialEq, Eq)]
+pub enum SectionKind {
+    /// the lemmas, in version 2
+    Lemmas,
+    /// the initial case of a clause
+    Initial,
+    /// the step case of a clause
+    Step,
+    /// the bad case
+    Bad,
+}
+
+impl SectionKind {
+    /// The letter with which the section begins.
+    fn letter(self) -> u8
+        ensures { result ≡ letter_of self }
+    {
+        match self {
+            SectionKind::Lemmas => b'l',
+            SectionKind::Initial => b'i',
+            SectionKind::Step => b's',
+            SectionKind::Bad => b'b',
+        }
+    }
+}
+
+/// The first line.
+pub struct FirstLine;
+
+impl LineKind for FirstLine {
+    type Item = Version;
+
+    type Context = ();
+
+    type Refusal = Refusal;
+
+    ghost allows = { λ _. Unit {0} };
+
+    ghost at = { λ _ bytes. first_line_at bytes };
+
+    fn line(_alloc: Global, text: &[u8], _context: ()) -> Result<(Version, &[u8]), Fault<Refusal>> {
+        first_line(text)
+    }
+}
+
+/// The line of the property.
+pub struct PropertyLine;
+
+impl LineKind for PropertyLine {
+    type Item = Property;
+
+    type Context = ();
+
+    type Refusal = Refusal;
+
+    ghost allows = { λ _. Unit {0} };
+
+    ghost at = { λ _ bytes. property_at bytes };
+
+    fn line(
+        _alloc: Global,
+        text: &[u8],
+        _context: (),
+    ) -> Result<(Property, &[u8]), Fault<Refusal>> {
+        property(text)
+    }
+}
+
+/// The line that says how many clauses there are.
+pub struct CountLine;
+
+impl LineKind for CountLine {
+    type Item = u32;
+
+    type Context = ();
+
+    type Refusal = Refusal;
+
+    ghost allows = { λ _. Unit {0} };
+
+    ghost at = { λ _ bytes. field_at greatest any 10 bytes };
+
+    fn line(_alloc: Global, text: &[u8], _context: ()) -> Result<(u32, &[u8]), Fault<Refusal>> {
+        field(text, GREATEST, b'\n', IN_LINE)
+    }
+}
+
+/// The line with which a section begins.
+pub struct LetterLine;
+
+impl LineKind for LetterLine {
+    type Item = ();
+
+    type Context = SectionKind;
+
+    type Refusal = Refusal;
+
+    ghost allows = { λ _. Unit {0} };
+
+    ghost at = { letter_at };
+
+    #[tactic(auto, unfolding(crate::specs::Streams::letter_at))]
+    fn line(_alloc: Global, text: &[u8], kind: SectionKind) -> Result<((), &[u8]), Fault<Refusal>> {
+        let rest = byte(text, kind.letter(), IN_LETTER)?;
+        let rest = byte(rest, b'\n', IN_LINE)?;
+        Ok(((), rest))
+    }
+}
+
+/// A line of a section's proof, or its end.
+pub struct ProofLine;
+
+impl LineKind for ProofLine {
+    type Item = Option<Line>;
+
+    type Context = ();
+
+    type Refusal = Refusal;
+
+    ghost allows = { λ _. Unit {0} };
+
+    ghost at = { λ _ bytes. item_at bytes };
+
+    fn line(
+        alloc: Global,
+        text: &[u8],
+        _context: (),
+    ) -> Result<(Option<Line>, &[u8]), Fault<Refusal>> {
+        line_or_end(alloc, text)
+    }
+}

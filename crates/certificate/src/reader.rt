@@ -1,0 +1,211 @@
+//! The text of a certificate, read line by line.
+
+ghost use Rattle.std.specs.Prelude.{◌≡◌, ◌+◌, ◌-◌, ◌^◌, ◌<◌, ◌≤◌, ◌↔◌, ℕ, List, [], ◌++◌, Some, IfOk, IfSome, IsErrOf, length};
+ghost use Rattle.scan.specs.Reading.{Gives, ended};
+ghost use Rattle.scan.specs.Words.{any, field_at};
+ghost use Rattle.lrat.specs.Limits.{IsLine};
+ghost use Rattle.certificate.specs.Pieces.{IsOfPiece};
+ghost use Rattle.certificate.specs.Reading.{clause_at, first_line_at, greatest, item_at, property_at};
+ghost use Rattle.certificate.specs.Streams.{Finds, end_at, letter_at};
+ghost use Rattle.certificate.specs.declared.reader_error.ReaderError.TheVariants.{Device};
+
+use crate::cert_error::CertError;
+use crate::head::{ClauseLine, Version};
+use crate::kinds::{CountLine, FirstLine, LetterLine, ProofLine, PropertyLine, SectionKind};
+use crate::pieces::Pieces;
+use crate::reader_error::ReaderError;
+use crate::refusal::{Refusal, error};
+use base::{Refused, Source};
+use graph::{Lit, Property, Seq};
+use lrat::Line;
+use scan::{Fault, LineKind};
+use std::alloc::Global;
+use std::marker::Model;
+
+/// What the one line holds that the whole text is.
+fn only_line<L: LineKind<Refusal = Refusal>>(
+    alloc: Global,
+    text: &[u8],
+    context: L::Context,
+) -> Result<L::Item, Fault<Refusal>>
+    requires { L.allows context }
+    ensures { Gives (λ x. x) result (ended (L.at context text.now)) }
+{
+    let (item, rest) = L::line(alloc, text, context)?;
+    if !rest.is_empty() {
+        return Err(Fault::Text {
+            kind: Refusal::Byte,
+            left: rest.len(),
+        });
+    }
+    Ok(item)
+}
+
+/// Reads the next line, of a kind that is read from one piece.
+fn line_from<L: LineKind<Refusal = Refusal>, S: Source>(
+    alloc: Global,
+    pieces: &mut Pieces,
+    before: &mut usize,
+    context: L::Context,
+    from: &mut S,
+) -> Result<L::Item, ReaderError>
+    requires allows { L.allows context }
+    requires line { IsOfPiece (L.at context) }
+    requires source { S.failed from.old < 2 ^ 64 - 1 }
+    ensures says { (ys : List ℕ) → S.remaining from.old ≡ Some ys → Finds (L.at context (pieces.old ++ ys)) result pieces.new (S.remaining from.new) }
+    ensures given { IfOk result (λ x. (text : List ℕ) × (ended (L.at context text) ≡ Some x)) }
+    ensures moves { IfOk result (λ _. length pieces.new + S.most from.new < length pieces.old + S.most from.old) }
+    ensures device { IsErrOf result Device ↔ (S.failed from.new ≡ S.failed from.old + 1) }
+    ensures others { (IsErrOf result Device → ⊥) → S.failed from.new ≡ S.failed from.old }
+{
+    let n = pieces.next(from)?;
+    let total = before.saturating_add(n);
+    let item = match only_line::<L>(alloc, pieces.first(n), context) {
+        Ok(item) => item,
+        Err(fault) => return Err(ReaderError::Refused(error(total, fault))),
+    };
+    pieces.skip(n);
+    *before = total;
+    Ok(item)
+}
+
+/// The text of a certificate, line by line, as a source gives its bytes. It holds the bytes of one
+/// line, and beside them what the source gives at once. However the source cuts its bytes, a call
+/// reads what `read` reads there, and refuses it as `read` does; it takes bytes up to the end of the
+/// line, or to the first byte that no certificate has, and 4,096 at most beyond it. A contract sees
+/// the bytes that were taken and not read.
+///
+/// After a refusal the text is given up: nothing is said of the bytes that are left.
+#[derive(Drop)]
+pub struct Reader {
+    /// the bytes that were taken, in pieces
+    pieces: Pieces,
+    /// how many bytes were read
+    before: usize,
+}
+
+impl Model for Reader {
+    ghost use Rattle.std.specs.Prelude.{List, ℕ};
+
+    ghost Value = { List ℕ };
+
+    ghost view = { λ r. r.pieces };
+}
+
+impl Reader {
+    /// At the beginning of a text.
+    pub fn new(alloc: Global) -> Result<Reader, Refused>
+        ensures { IfOk result (λ r. r ≡ []) }
+    {
+        Ok(Reader {
+            pieces: Pieces::new(alloc)?,
+            before: 0,
+        })
+    }
+
+    /// The version that the first line names.
+    #[tactic(auto, using(crate::proofs::LineLaws::version_of_piece))]
+    pub fn version<S: Source>(
+        &mut self,
+        alloc: Global,
+        from: &mut S,
+    ) -> Result<Version, ReaderError>
+        requires source { S.failed from.old < 2 ^ 64 - 1 }
+        ensures says { (ys : List ℕ) → S.remaining from.old ≡ Some ys → Finds (first_line_at (self.old ++ ys)) result self.new (S.remaining from.new) }
+        ensures device { IsErrOf result Device ↔ (S.failed from.new ≡ S.failed from.old + 1) }
+        ensures others { (IsErrOf result Device → ⊥) → S.failed from.new ≡ S.failed from.old }
+    {
+        line_from::<FirstLine, S>(alloc, &mut self.pieces, &mut self.before, (), from)
+    }
+
+    /// The property that the second line names.
+    #[tactic(auto, using(crate::proofs::LineLaws::property_of_piece))]
+    pub fn property<S: Source>(
+        &mut self,
+        alloc: Global,
+        from: &mut S,
+    ) -> Result<Property, ReaderError>
+        requires source { S.failed from.old < 2 ^ 64 - 1 }
+        ensures says { (ys : List ℕ) → S.remaining from.old ≡ Some ys → Finds (property_at (self.old ++ ys)) result self.new (S.remaining from.new) }
+        ensures device { IsErrOf result Device ↔ (S.failed from.new ≡ S.failed from.old + 1) }
+        ensures others { (IsErrOf result Device → ⊥) → S.failed from.new ≡ S.failed from.old }
+    {
+        line_from::<PropertyLine, S>(alloc, &mut self.pieces, &mut self.before, (), from)
+    }
+
+    /// How many clauses there are.
+    #[tactic(auto, using(crate::proofs::LineLaws::count_of_piece, crate::proofs::LineLaws::count_few))]
+    pub fn count<S: Source>(&mut self, alloc: Global, from: &mut S) -> Result<u32, ReaderError>
+        requires source { S.failed from.old < 2 ^ 64 - 1 }
+        ensures says { (ys : List ℕ) → S.remaining from.old ≡ Some ys → Finds (field_at greatest any 10 (self.old ++ ys)) result self.new (S.remaining from.new) }
+        ensures few { IfOk result (λ n. n ≤ 4194303) }
+        ensures device { IsErrOf result Device ↔ (S.failed from.new ≡ S.failed from.old + 1) }
+        ensures others { (IsErrOf result Device → ⊥) → S.failed from.new ≡ S.failed from.old }
+    {
+        line_from::<CountLine, S>(alloc, &mut self.pieces, &mut self.before, (), from)
+    }
+
+    /// The next clause.
+    #[tactic(auto, using(crate::proofs::LineLaws::clause_of_piece))]
+    pub fn clause<S: Source>(
+        &mut self,
+        alloc: Global,
+        from: &mut S,
+    ) -> Result<Seq<Lit>, ReaderError>
+        requires source { S.failed from.old < 2 ^ 64 - 1 }
+        ensures says { (ys : List ℕ) → S.remaining from.old ≡ Some ys → Finds (clause_at (self.old ++ ys)) result self.new (S.remaining from.new) }
+        ensures device { IsErrOf result Device ↔ (S.failed from.new ≡ S.failed from.old + 1) }
+        ensures others { (IsErrOf result Device → ⊥) → S.failed from.new ≡ S.failed from.old }
+    {
+        line_from::<ClauseLine, S>(alloc, &mut self.pieces, &mut self.before, (), from)
+    }
+
+    /// Reads the line with which a section of this kind begins.
+    #[tactic(auto, using(crate::proofs::LineLaws::letter_of_piece))]
+    pub fn section<S: Source>(
+        &mut self,
+        alloc: Global,
+        kind: SectionKind,
+        from: &mut S,
+    ) -> Result<(), ReaderError>
+        requires source { S.failed from.old < 2 ^ 64 - 1 }
+        ensures says { (ys : List ℕ) → S.remaining from.old ≡ Some ys → Finds (letter_at kind (self.old ++ ys)) result self.new (S.remaining from.new) }
+        ensures device { IsErrOf result Device ↔ (S.failed from.new ≡ S.failed from.old + 1) }
+        ensures others { (IsErrOf result Device → ⊥) → S.failed from.new ≡ S.failed from.old }
+    {
+        line_from::<LetterLine, S>(alloc, &mut self.pieces, &mut self.before, kind, from)
+    }
+
+    /// The next line of a section's proof, or none at its end.
+    #[tactic(auto, using(crate::proofs::LineLaws::line_of_piece, crate::proofs::LineLaws::line_within))]
+    pub fn line<S: Source>(
+        &mut self,
+        alloc: Global,
+        from: &mut S,
+    ) -> Result<Option<Line>, ReaderError>
+        requires source { S.failed from.old < 2 ^ 64 - 1 }
+        ensures says { (ys : List ℕ) → S.remaining from.old ≡ Some ys → Finds (item_at (self.old ++ ys)) result self.new (S.remaining from.new) }
+        ensures line { IfOk result (λ l. IfSome l IsLine) }
+        ensures moves { IfOk result (λ _. length self.new + S.most from.new < length self.old + S.most from.old) }
+        ensures device { IsErrOf result Device ↔ (S.failed from.new ≡ S.failed from.old + 1) }
+        ensures others { (IsErrOf result Device → ⊥) → S.failed from.new ≡ S.failed from.old }
+    {
+        line_from::<ProofLine, S>(alloc, &mut self.pieces, &mut self.before, (), from)
+    }
+
+    /// Says that nothing is left: the source must be at its end.
+    pub fn end<S: Source>(&mut self, from: &mut S) -> Result<(), ReaderError>
+        requires source { S.failed from.old < 2 ^ 64 - 1 }
+        ensures says { (ys : List ℕ) → S.remaining from.old ≡ Some ys → Finds (end_at (self.old ++ ys)) result self.new (S.remaining from.new) }
+        ensures device { IsErrOf result Device ↔ (S.failed from.new ≡ S.failed from.old + 1) }
+        ensures others { (IsErrOf result Device → ⊥) → S.failed from.new ≡ S.failed from.old }
+    {
+        let n = self.pieces.next(from)?;
+        if n > 0 {
+            return Err(ReaderError::Refused(CertError::Section {
+                place: self.before as u64,
+            }));
+        }
+        Ok(())
+    }
+}

@@ -1,0 +1,90 @@
+//! Parts of several lines.
+
+ghost use Rattle.std.specs.Prelude.{◌≡◌, ◌+◌, ◌-◌, ◌^◌, ◌<◌, ◌↔◌, ℕ, List, ◌++◌, length, Some, IfOk, IsErrOf};
+ghost use Rattle.scan.specs.Lists.{items_at, many_at};
+ghost use Rattle.certificate.specs.Reading.{clause_at, item_at, section_at};
+ghost use Rattle.certificate.specs.Streams.{Finds, FindsWith, letter_of};
+ghost use Rattle.certificate.specs.declared.reader_error.ReaderError.TheVariants.{Device};
+
+use crate::kinds::SectionKind;
+use crate::reader::Reader;
+use crate::reader_error::ReaderError;
+use base::{Source, push};
+use graph::{Lit, Seq};
+use std::alloc::Global;
+
+/// Reads so many clauses. The list grows clause by clause: no memory is taken ahead by a count that
+/// the text states.
+pub fn read_clauses<S: Source>(
+    alloc: Global,
+    count: u32,
+    reader: &mut Reader,
+    from: &mut S,
+) -> Result<Seq<Seq<Lit>>, ReaderError>
+    requires source { S.failed from.old < 2 ^ 64 - 1 }
+    ensures says { (ys : List ℕ) → S.remaining from.old ≡ Some ys → Finds (many_at clause_at count (reader.old ++ ys)) result reader.new (S.remaining from.new) }
+    ensures many { IfOk result (λ clauses. length clauses ≡ count) }
+    ensures device { IsErrOf result Device ↔ (S.failed from.new ≡ S.failed from.old + 1) }
+    ensures others { (IsErrOf result Device → ⊥) → S.failed from.new ≡ S.failed from.old }
+{
+    let mut clauses = Vec::new(alloc);
+    for _ in 0..count {
+        let clause = reader.clause(alloc, from)?;
+        push(&mut clauses, clause)?;
+    }
+    Ok(Seq::from_vec(clauses))
+}
+
+/// Reads the lines of a section up to its end, and forgets them.
+pub fn skip_lines<S: Source>(
+    alloc: Global,
+    reader: &mut Reader,
+    from: &mut S,
+) -> Result<(), ReaderError>
+    requires source { S.failed from.old < 2 ^ 64 - 1 }
+    ensures says { (ys : List ℕ) → S.remaining from.old ≡ Some ys → FindsWith (λ lines _. Unit {0}) (items_at item_at (reader.old ++ ys)) result reader.new (S.remaining from.new) }
+    ensures device { IsErrOf result Device ↔ (S.failed from.new ≡ S.failed from.old + 1) }
+    ensures others { (IsErrOf result Device → ⊥) → S.failed from.new ≡ S.failed from.old }
+{
+    'skipping: loop {
+        match reader.line(alloc, from)? {
+            Some(_) => {}
+            None => return Ok(()),
+        }
+    }
+}
+
+/// Reads a section, and forgets its lines.
+pub fn skip_section<S: Source>(
+    alloc: Global,
+    kind: SectionKind,
+    reader: &mut Reader,
+    from: &mut S,
+) -> Result<(), ReaderError>
+    requires source { S.failed from.old < 2 ^ 64 - 1 }
+    ensures says { (ys : List ℕ) → S.remaining from.old ≡ Some ys → FindsWith (λ lines _. Unit {0}) (section_at (letter_of kind) (reader.old ++ ys)) result reader.new (S.remaining from.new) }
+    ensures device { IsErrOf result Device ↔ (S.failed from.new ≡ S.failed from.old + 1) }
+    ensures others { (IsErrOf result Device → ⊥) → S.failed from.new ≡ S.failed from.old }
+{
+    reader.section(alloc, kind, from)?;
+    skip_lines(alloc, reader, from)
+}
+
+/// Reads so many sections, and forgets their lines.
+pub fn skip_sections<S: Source>(
+    alloc: Global,
+    kind: SectionKind,
+    count: u32,
+    reader: &mut Reader,
+    from: &mut S,
+) -> Result<(), ReaderError>
+    requires source { S.failed from.old < 2 ^ 64 - 1 }
+    ensures says { (ys : List ℕ) → S.remaining from.old ≡ Some ys → FindsWith (λ sections _. Unit {0}) (many_at (section_at (letter_of kind)) count (reader.old ++ ys)) result reader.new (S.remaining from.new) }
+    ensures device { IsErrOf result Device ↔ (S.failed from.new ≡ S.failed from.old + 1) }
+    ensures others { (IsErrOf result Device → ⊥) → S.failed from.new ≡ S.failed from.old }
+{
+    for _ in 0..count {
+        skip_section(alloc, kind, reader, from)?;
+    }
+    Ok(())
+}

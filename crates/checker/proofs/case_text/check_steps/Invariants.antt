@@ -1,0 +1,16 @@
+use Rattle.std.proofs.Common.{◌≡◌, ◌-◌, ◌++◌, ℕ, List, None, Some, length, map, take}
+use Rattle.scan.specs.Lists.{many_at}
+use Rattle.lrat.specs.declared.line.Line.{Line}
+use Rattle.certificate.specs.Reading.{section_at}
+use Rattle.certificate.specs.Streams.{StillReads}
+use Rattle.checker.specs.Accepted.{step_case}
+use Rattle.checker.specs.Streamed.{AreProofs}
+use Rattle.checker.proofs.case_text.check_steps.Given as goal
+
+abbrev pub invariant-loop-k : goal.invariant-loop-k
+invariant-loop-k g l = record {
+  steady : g.S.Source.failed l.from ≡ g.S.Source.failed l.fn.from;
+  fresh : l.refuter.refusal ≡ None;
+  base : l.refuter.base ≡ l.fn.refuter.base;
+  reads : (ys : List ℕ) → g.S.Source.remaining l.fn.from ≡ Some ys → (front : List (List Line)) × AreProofs (map (step_case l.model l.fn.refuter.base) (take l.k l.fn.invariant)) front × StillReads (many_at (section_at 115) (length l.fn.invariant) (l.fn.reader ++ ys)) front (many_at (section_at 115) (length l.fn.invariant - l.k)) l.reader (g.S.Source.remaining l.from);
+}

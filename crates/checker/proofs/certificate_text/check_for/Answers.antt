@@ -1,0 +1,22 @@
+use Rattle.std.proofs.Common.{◌++◌, ◌∙◌, ℕ, None, Some, ap, sym}
+use Rattle.checker.proofs.Found.{number, parts_found, parts_refused}
+use Rattle.checker.proofs.Good.{invariant_from}
+use Rattle.checker.proofs.certificate_text.check_for.Goals as goal
+
+pub check_parts-requires-clause-invariant : goal.check_parts-requires-clause-invariant
+check_parts-requires-clause-invariant g c = invariant_from c.args.circuit.now c.args.invariant.now c.parts.ensures.well_formed c.requires.few c.in-Ok.ensures.good
+
+pub returns-in-None-clause-says : goal.returns-in-None-clause-says
+returns-in-None-clause-says g c ys p known =
+    parts_found c.args.circuit.now c.args.bad c.args.version p c.args.invariant.now (c.args.reader.now ++ ys) c.check_parts.new.reader (g.S.Source.remaining c.check_parts.new.from) c.in_ok-found-in-Ok.found None c.requires.few c.in-Ok.ensures.good
+    (sym (ap number c.in-None.is)) (c.in_ok-found-in-Ok.ensures.says ys p known)
+
+pub returns-in-Ok-clause-says : goal.returns-in-Ok-clause-says
+returns-in-Ok-clause-says g c ys p known =
+    parts_found c.args.circuit.now c.args.bad c.args.version p c.args.invariant.now (c.args.reader.now ++ ys) c.check_parts.new.reader (g.S.Source.remaining c.check_parts.new.from) c.in_ok-found-in-Ok.found (Some c.number.result) c.requires.few c.in-Ok.ensures.good
+    (ap (λ (n : ℕ). Some n) c.number.ensures ∙ sym (ap number c.in-Some.is)) (c.in_ok-found-in-Ok.ensures.says ys p known)
+
+pub returns-clause-says : goal.returns-clause-says
+returns-clause-says g c ys p known =
+    parts_refused c.args.circuit.now c.args.bad c.args.version p c.args.invariant.now (c.args.reader.now ++ ys) c.skip_parts.new.reader (g.S.Source.remaining c.skip_parts.new.from) c.in-Err.error c.skip_parts.result c.requires.few
+    (λ k is counts. c.in-Err.ensures.refused c.args.bad k is counts) (c.skip_parts.ensures.says ys p c.args.invariant.now known)

@@ -1,0 +1,39 @@
+use Rattle.std.proofs.Common.{rules, ◌++◌, ◌<◌, length, refl}
+use Rattle.graph.specs.Properties.{HasProperty}
+use Rattle.live_safe.specs.Shadow.{shadow_of}
+use Rattle.graph.specs.declared.circuit.Property.TheVariants.{Justice}
+use Rattle.checker.specs.declared.check_error.CheckError.TheVariants.{Limit, NoProperty}
+use Rattle.checker.proofs.Watched.{closing_is, closing_used}
+use Rattle.checker.proofs.TextFound.{found_here, no_such, refused_here, too_many}
+use Rattle.checker.proofs.certificate_text.check_justice.Goals as goal
+
+pub check_for-requires-clause-bad : goal.check_for-requires-clause-bad
+check_for-requires-clause-bad g c = closing_used c.args.model.now c.in-Ok.shadow c.args.n c.bad.result.now c.in-Ok.ensures.shadow c.bad.ensures
+
+pub returns-in-Ok-clause-says : goal.returns-in-Ok-clause-says
+returns-in-Ok-clause-says g c ys known =
+    let m = c.args.model.now in
+    let n = c.args.n in
+    let inv = c.args.invariant.now in
+    found_here m c.in-Ok.shadow _ c.args.version (Justice n) (length inv) inv (c.args.reader.now ++ ys) c.check_for.new.reader (g.S.Source.remaining c.check_for.new.from) c.check_for.result
+    (record { exists = c.in-Ok.ensures.exists; within = c.in-Ok.ensures.within }) c.in-Ok.ensures.shadow (closing_is m c.in-Ok.shadow n c.bad.result.now c.in-Ok.ensures.shadow c.bad.ensures)
+    (c.check_for.ensures.says ys (Justice n) known)
+
+pub returns-in-Err-NoProperty-clause-says : goal.returns-in-Err-NoProperty-clause-says
+returns-in-Err-NoProperty-clause-says g c ys known =
+    let m = c.args.model.now in
+    let n = c.args.n in
+    let inv = c.args.invariant.now in
+    let none : HasProperty m (Justice n) → ⊥ = search rules in
+    refused_here m (NoProperty n) c.args.version (Justice n) (length inv) inv (c.args.reader.now ++ ys) c.skip_parts.new.reader (g.S.Source.remaining c.skip_parts.new.from) c.skip_parts.result
+    (no_such m (Justice n) (NoProperty n) refl none) (c.skip_parts.ensures.says ys (Justice n) inv known)
+
+pub returns-in-Err-Limit-clause-says : goal.returns-in-Err-Limit-clause-says
+returns-in-Err-Limit-clause-says g c ys known =
+    let m = c.args.model.now in
+    let n = c.args.n in
+    let inv = c.args.invariant.now in
+    let there : n < length m.justice = search rules in
+    let many : 4194303 < (shadow_of m n).max_var = search rules in
+    refused_here m Limit c.args.version (Justice n) (length inv) inv (c.args.reader.now ++ ys) c.skip_parts-in-Err-Limit.new.reader (g.S.Source.remaining c.skip_parts-in-Err-Limit.new.from) c.skip_parts-in-Err-Limit.result
+    (too_many m n there many) (c.skip_parts-in-Err-Limit.ensures.says ys (Justice n) inv known)

@@ -1,0 +1,72 @@
+use Rattle.std.proofs.Common.{rules, ◌≡◌, ◌++◌, ◌∙◌, List, ℕ, None, Some, Ok, length, ap, refl, subst, sym}
+use Rattle.lrat.specs.Courses.{Course}
+use Rattle.certificate.specs.Reading.{lemmas_at}
+use Rattle.certificate.specs.Streams.{FindsWith, parts_at}
+use Rattle.certificate.proofs.StreamLaws.{err_finds}
+use Rattle.checker.specs.Accepted.{cases}
+use Rattle.checker.specs.Streamed.{AreOfCases, AreTaken, HasSections}
+use Rattle.checker.proofs.Found.{has_sections, lemmas_refused}
+use Rattle.checker.proofs.TextParts.{behind_lemmas, lemmas_stop, made, sections_made, sections_stop, then_sections}
+use Rattle.checker.proofs.certificate_text.check_lemmas_and_cases.Goals as goal
+
+pub returns-in_err-found-clause-says : goal.returns-in_err-found-clause-says
+returns-in_err-found-clause-says g c ys p known =
+    let m = c.args.model.now in
+    let inv = c.args.invariant.now in
+    let bytes : List ℕ = c.args.reader.now ++ ys in
+    let e = c.in_err-found.field-0.0 in
+    err_finds (HasSections m c.args.bad) (parts_at c.args.version p (length inv) inv bytes) _ e c.share_lemmas.new.reader (g.S.Source.remaining c.share_lemmas.new.from) c.from_residual.ensures.1
+    (lemmas_stop c.args.version p (length inv) inv bytes e (c.in_err-found.ensures.says ys m inv known c.requires.shared))
+
+-- ---- the lemmas are refused
+
+pub returns-in_err-skip_cases-clause-says : goal.returns-in_err-skip_cases-clause-says
+returns-in_err-skip_cases-clause-says g c ys p known =
+    let m = c.args.model.now in
+    let inv = c.args.invariant.now in
+    let n = length inv in
+    let b = c.share_lemmas.new.refuter.base in
+    let v = c.args.version in
+    let bytes : List ℕ = c.args.reader.now ++ ys in
+    let e = c.in_err-skip_cases.field-0.0 in
+    let P = HasSections m c.args.bad in
+    let first = subst (λ o. FindsWith (AreTaken m inv b) (lemmas_at v bytes) (Ok o) c.share_lemmas.new.reader (g.S.Source.remaining c.share_lemmas.new.from)) c.in-Some.is (c.in_ok-found.ensures.says ys m inv known c.requires.shared) in
+    behind_lemmas (AreTaken m inv b) P v p n inv bytes c.share_lemmas.new.reader c.skip_cases.new.reader (g.S.Source.remaining c.share_lemmas.new.from) (g.S.Source.remaining c.skip_cases.new.from) (Some c.in-Some.fault) c.from_residual-in_err-skip_cases.result first
+    (λ l zs are here. err_finds P (then_sections p n inv l (c.share_lemmas.new.reader ++ zs)) _ e c.skip_cases.new.reader (g.S.Source.remaining c.skip_cases.new.from) c.from_residual-in_err-skip_cases.ensures.1
+    (sections_stop p n inv l (c.share_lemmas.new.reader ++ zs) e (c.in_err-skip_cases.ensures.says zs here)))
+
+pub returns-in-Some-clause-says : goal.returns-in-Some-clause-says
+returns-in-Some-clause-says g c ys p known =
+    let m = c.args.model.now in
+    let inv = c.args.invariant.now in
+    let n = length inv in
+    let b = c.share_lemmas.new.refuter.base in
+    let v = c.args.version in
+    let bytes : List ℕ = c.args.reader.now ++ ys in
+    let fault = c.in-Some.fault in
+    let P = HasSections m c.args.bad in
+    let first = subst (λ o. FindsWith (AreTaken m inv b) (lemmas_at v bytes) (Ok o) c.share_lemmas.new.reader (g.S.Source.remaining c.share_lemmas.new.from)) c.in-Some.is (c.in_ok-found.ensures.says ys m inv known c.requires.shared) in
+    behind_lemmas (AreTaken m inv b) P v p n inv bytes c.share_lemmas.new.reader c.skip_cases.new.reader (g.S.Source.remaining c.share_lemmas.new.from) (g.S.Source.remaining c.skip_cases.new.from) (Some fault) (Ok (Some fault)) first
+    (λ l zs are here. sections_made (λ sections x. x ≡ Some fault) P p n inv l (c.share_lemmas.new.reader ++ zs) c.skip_cases.new.reader (g.S.Source.remaining c.skip_cases.new.from) (Ok (Some fault))
+    (λ ss x same. subst (λ o. P (made p inv l ss) o) (sym same) (lemmas_refused m c.args.bad (made p inv l ss) b fault are))
+    (let (ss, rest, is, u, left) = c.in_ok-skip_cases.ensures.says zs here in (ss, rest, is, refl, left)))
+
+-- ---- the lemmas are shared
+
+pub check_cases-requires-clause-vars : goal.check_cases-requires-clause-vars
+check_cases-requires-clause-vars g c = c.in_ok-found.ensures.vars ∙ ap (λ (r : Course). r.base.vars) c.requires.shared
+
+pub returns-clause-says : goal.returns-clause-says
+returns-clause-says g c ys p known =
+    let m = c.args.model.now in
+    let inv = c.args.invariant.now in
+    let n = length inv in
+    let b = c.share_lemmas.new.refuter.base in
+    let v = c.args.version in
+    let bytes : List ℕ = c.args.reader.now ++ ys in
+    let P = HasSections m c.args.bad in
+    let none : c.in_ok-found.found ≡ None = search rules in
+    let first = subst (λ o. FindsWith (AreTaken m inv b) (lemmas_at v bytes) (Ok o) c.share_lemmas.new.reader (g.S.Source.remaining c.share_lemmas.new.from)) none (c.in_ok-found.ensures.says ys m inv known c.requires.shared) in
+    behind_lemmas (AreTaken m inv b) P v p n inv bytes c.share_lemmas.new.reader c.check_cases.new.reader (g.S.Source.remaining c.share_lemmas.new.from) (g.S.Source.remaining c.check_cases.new.from) None c.check_cases.result first
+    (λ l zs shared here. sections_made (AreOfCases (cases m b inv c.args.bad)) P p n inv l (c.share_lemmas.new.reader ++ zs) c.check_cases.new.reader (g.S.Source.remaining c.check_cases.new.from) c.check_cases.result
+    (λ ss x are. has_sections m c.args.bad (made p inv l ss) b x shared are) (c.check_cases.ensures.says zs here))

@@ -1,0 +1,51 @@
+use Rattle.std.proofs.Common.{rules, ◌≡◌, ◌++◌, length, ap, sym}
+use Rattle.graph.specs.Properties.{HasProperty}
+use Rattle.checker.specs.Accepted.{circuit_of}
+use Rattle.checker.proofs.Accepted.{showable_here}
+use Rattle.checker.proofs.Watched.{bad_is, bad_used, output_is, output_used}
+use Rattle.checker.proofs.TextFound.{found_here, no_such, refused_here}
+use Rattle.checker.proofs.certificate_text.check_property.Goals as goal
+
+pub returns-then-not-has_property-clause-says : goal.returns-then-not-has_property-clause-says
+returns-then-not-has_property-clause-says g c ys known =
+    let m = c.args.model.now in
+    let p = c.args.property in
+    let inv = c.args.invariant.now in
+    let e = c.no_property-error.result in
+    let none : HasProperty m p → ⊥ = search rules in
+    refused_here m e c.args.version p (length inv) inv (c.args.reader.now ++ ys) c.skip_parts.new.reader (g.S.Source.remaining c.skip_parts.new.from) c.skip_parts.result
+    (no_such m p e c.no_property-error.ensures none) (c.skip_parts.ensures.says ys p inv known)
+
+-- ---- a bad literal
+
+pub check_for-requires-clause-bad : goal.check_for-requires-clause-bad
+check_for-requires-clause-bad g c =
+    let there : HasProperty c.args.model.now c.args.property = search rules in
+    bad_used c.args.model.now c.args.property c.in-Bad.n c.bad.result.now c.in-Bad.is c.bad.ensures there
+
+pub returns-in-Bad-clause-says : goal.returns-in-Bad-clause-says
+returns-in-Bad-clause-says g c ys known =
+    let m = c.args.model.now in
+    let p = c.args.property in
+    let inv = c.args.invariant.now in
+    let there : HasProperty m p = search rules in
+    let circuit : m ≡ circuit_of m p = ap (circuit_of m) (sym c.in-Bad.is) in
+    found_here m m _ c.args.version p (length inv) inv (c.args.reader.now ++ ys) c.check_for.new.reader (g.S.Source.remaining c.check_for.new.from) c.check_for.result
+    (showable_here m p c.parts.ensures.well_formed circuit there) circuit (bad_is m p c.in-Bad.n c.bad.result.now c.in-Bad.is c.bad.ensures) (c.check_for.ensures.says ys p known)
+
+-- ---- an output
+
+pub check_for-requires-in-Output-clause-bad : goal.check_for-requires-in-Output-clause-bad
+check_for-requires-in-Output-clause-bad g c =
+    let there : HasProperty c.args.model.now c.args.property = search rules in
+    output_used c.args.model.now c.args.property c.in-Output.n c.outputs.result.now c.in-Output.is c.outputs.ensures there
+
+pub returns-in-Output-clause-says : goal.returns-in-Output-clause-says
+returns-in-Output-clause-says g c ys known =
+    let m = c.args.model.now in
+    let p = c.args.property in
+    let inv = c.args.invariant.now in
+    let there : HasProperty m p = search rules in
+    let circuit : m ≡ circuit_of m p = ap (circuit_of m) (sym c.in-Output.is) in
+    found_here m m _ c.args.version p (length inv) inv (c.args.reader.now ++ ys) c.check_for-in-Output.new.reader (g.S.Source.remaining c.check_for-in-Output.new.from) c.check_for-in-Output.result
+    (showable_here m p c.parts.ensures.well_formed circuit there) circuit (output_is m p c.in-Output.n c.outputs.result.now c.in-Output.is c.outputs.ensures) (c.check_for-in-Output.ensures.says ys p known)

@@ -1,0 +1,48 @@
+use Rattle.std.proofs.Common.{rules, ◌≡◌, ◌≢◌, ◌++◌, List, ℕ, Option, Some, Ok, ap, refl, ◌∙◌}
+use Rattle.base.specs.Witness.{witness}
+use Rattle.certificate.specs.Streams.{parts_at}
+use Rattle.certificate.specs.declared.certificate.Certificate.{Certificate}
+use Rattle.certificate.proofs.StreamLaws.{err_finds}
+use Rattle.checker.specs.Numbers.{number_of}
+use Rattle.checker.specs.declared.check_error.CheckError.TheVariants.{OutOfMemory}
+use Rattle.checker.proofs.TextParts.{behind_lemmas, lemmas_stop, sections_made, sections_stop, then_sections}
+use Rattle.checker.proofs.certificate_text.skip_parts.Goals as goal
+
+pub returns-in_err-skip_lemmas-in_default : goal.returns-in_err-skip_lemmas-in_default
+returns-in_err-skip_lemmas-in_default g c = record {
+  says = λ ys p inv known.
+      let bytes : List ℕ = c.args.reader.now ++ ys in
+      let e = c.in_err-skip_lemmas-in_default.field-0.0 in
+      err_finds (λ (k : Certificate) (found : Option ℕ). (found ≡ Some (number_of c.args.error)) × (c.args.error ≢ OutOfMemory witness)) (parts_at c.args.version p c.args.count inv bytes) _ e c.skip_lemmas.new.reader (g.S.Source.remaining c.skip_lemmas.new.from) c.from_residual.ensures.1
+      (lemmas_stop c.args.version p c.args.count inv bytes e (c.in_err-skip_lemmas-in_default.ensures.says ys known));
+  device = search rules;
+  others = search rules;
+}
+
+pub returns-in_err-skip_cases-in_default : goal.returns-in_err-skip_cases-in_default
+returns-in_err-skip_cases-in_default g c = record {
+  says = λ ys p inv known.
+      let bytes : List ℕ = c.args.reader.now ++ ys in
+      let e = c.in_err-skip_cases-in_default.field-0.0 in
+      let P = λ (k : Certificate) (found : Option ℕ). (found ≡ Some (number_of c.args.error)) × (c.args.error ≢ OutOfMemory witness) in
+      behind_lemmas (λ lemmas x. Unit {0}) P c.args.version p c.args.count inv bytes c.skip_lemmas.new.reader c.skip_cases.new.reader (g.S.Source.remaining c.skip_lemmas.new.from) (g.S.Source.remaining c.skip_cases.new.from) (tt {0}) c.from_residual-in_err-skip_cases-in_default.result
+      (c.in_ok-skip_lemmas-in_default.ensures.says ys known)
+      (λ l zs any here. err_finds P (then_sections p c.args.count inv l (c.skip_lemmas.new.reader ++ zs)) _ e c.skip_cases.new.reader (g.S.Source.remaining c.skip_cases.new.from) c.from_residual-in_err-skip_cases-in_default.ensures.1
+      (sections_stop p c.args.count inv l (c.skip_lemmas.new.reader ++ zs) e (c.in_err-skip_cases-in_default.ensures.says zs here)));
+  device = search rules;
+  others = search rules;
+}
+
+pub returns-in_ok-skip_cases-in_default : goal.returns-in_ok-skip_cases-in_default
+returns-in_ok-skip_cases-in_default g c = record {
+  says = λ ys p inv known.
+      let bytes : List ℕ = c.args.reader.now ++ ys in
+      let P = λ (k : Certificate) (found : Option ℕ). (found ≡ Some (number_of c.args.error)) × (c.args.error ≢ OutOfMemory witness) in
+      let ne : c.args.error ≢ OutOfMemory witness = search rules in
+      behind_lemmas (λ lemmas x. Unit {0}) P c.args.version p c.args.count inv bytes c.skip_lemmas.new.reader c.skip_cases.new.reader (g.S.Source.remaining c.skip_lemmas.new.from) (g.S.Source.remaining c.skip_cases.new.from) (tt {0}) (Ok (Some c.number.result))
+      (c.in_ok-skip_lemmas-in_default.ensures.says ys known)
+      (λ l zs any here. sections_made (λ sections x. x ≡ Some c.number.result) P p c.args.count inv l (c.skip_lemmas.new.reader ++ zs) c.skip_cases.new.reader (g.S.Source.remaining c.skip_cases.new.from) (Ok (Some c.number.result)) (λ ss x same. (same ∙ ap (λ (n : ℕ). Some n) c.number.ensures, ne))
+      (let (ss, rest, is, u, left) = c.in_ok-skip_cases-in_default.ensures.says zs here in (ss, rest, is, refl, left)));
+  device = search rules;
+  others = search rules;
+}

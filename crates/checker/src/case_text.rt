@@ -1,0 +1,140 @@
+//! The cases of an invariant, checked while their sections are read.
+
+ghost use Rattle.std.specs.Prelude.{◌≡◌, ◌+◌, ◌-◌, ◌<◌, ◌^◌, ◌↔◌, ℕ, List, ◌++◌, map, length, Contains, None, Some, IfNone, IfOk, IsErrOf};
+ghost use Rattle.scan.specs.Lists.{many_at};
+ghost use Rattle.graph.specs.WellFormed.{used};
+ghost use Rattle.lrat.specs.Shared.{base_of};
+ghost use Rattle.cnf.specs.Formulas.{IsInvariant, start_formula};
+ghost use Rattle.cnf.specs.Tables.{IsTableOf};
+ghost use Rattle.certificate.specs.Reading.{section_at, sections_at};
+ghost use Rattle.certificate.specs.Streams.{FindsWith};
+ghost use Rattle.certificate.specs.declared.reader_error.ReaderError.TheVariants.{Device};
+ghost use Rattle.checker.specs.Accepted.{cases, init_case, step_case};
+ghost use Rattle.checker.specs.Streamed.{AreOfCases};
+
+use crate::section_text::check_section;
+use certificate::{Reader, ReaderError, SectionKind, skip_section, skip_sections};
+use cnf::{NextTable, bad_unit, init_units, step_units};
+use graph::{Lit, Model, Seq, Source};
+use lrat::{Fault, Refuter};
+use std::alloc::Global;
+
+/// Reads the sections of the initial cases, and checks them. After the first fault they are only
+/// read.
+pub fn check_initial<S: Source>(
+    alloc: Global,
+    model: &Model,
+    invariant: &[Seq<Lit>],
+    refuter: &mut Refuter,
+    reader: &mut Reader,
+    from: &mut S,
+) -> Result<Option<Fault>, ReaderError>
+    requires source { S.failed from.old < 2 ^ 64 - 1 }
+    requires fresh { refuter.old.refusal ≡ None }
+    requires base { refuter.old.base ≡ base_of (start_formula model.now) }
+    requires invariant { IsInvariant model.now invariant.now }
+    ensures says { (ys : List ℕ) → S.remaining from.old ≡ Some ys → FindsWith (AreOfCases (map (init_case model.now) invariant.now)) (many_at (section_at 105) (length invariant.now) (reader.old ++ ys)) result reader.new (S.remaining from.new) }
+    ensures device { IsErrOf result Device ↔ (S.failed from.new ≡ S.failed from.old + 1) }
+    ensures others { (IsErrOf result Device → ⊥) → S.failed from.new ≡ S.failed from.old }
+{
+    model.parts();
+    for (k, clause) in invariant.iter().enumerate() {
+        let units = init_units(alloc, model, clause.as_slice())?;
+        let found = check_section(
+            alloc,
+            SectionKind::Initial,
+            refuter,
+            units.as_slice(),
+            reader,
+            from,
+        )?;
+        if let Some(fault) = found {
+            let left = invariant.len() - (k + 1);
+            skip_sections(alloc, SectionKind::Initial, left as u32, reader, from)?;
+            return Ok(Some(fault));
+        }
+    }
+    Ok(None)
+}
+
+/// Reads the sections of the step cases, and checks them. After the first fault they are only read.
+pub fn check_steps<S: Source>(
+    alloc: Global,
+    model: &Model,
+    table: &NextTable,
+    invariant: &[Seq<Lit>],
+    refuter: &mut Refuter,
+    reader: &mut Reader,
+    from: &mut S,
+) -> Result<Option<Fault>, ReaderError>
+    requires source { S.failed from.old < 2 ^ 64 - 1 }
+    requires fresh { refuter.old.refusal ≡ None }
+    requires vars { refuter.old.base.vars ≡ model.now.max_var + 1 }
+    requires invariant { IsInvariant model.now invariant.now }
+    requires table { IsTableOf model.now.latches table.now }
+    ensures base { refuter.new.base ≡ refuter.old.base }
+    ensures fresh { IfOk result (λ found. IfNone found (refuter.new.refusal ≡ None)) }
+    ensures says { (ys : List ℕ) → S.remaining from.old ≡ Some ys → FindsWith (AreOfCases (map (step_case model.now refuter.old.base) invariant.now)) (many_at (section_at 115) (length invariant.now) (reader.old ++ ys)) result reader.new (S.remaining from.new) }
+    ensures device { IsErrOf result Device ↔ (S.failed from.new ≡ S.failed from.old + 1) }
+    ensures others { (IsErrOf result Device → ⊥) → S.failed from.new ≡ S.failed from.old }
+{
+    model.parts();
+    for (k, clause) in invariant.iter().enumerate() {
+        let units = step_units(alloc, model, table, clause.as_slice())?;
+        let found = check_section(
+            alloc,
+            SectionKind::Step,
+            refuter,
+            units.as_slice(),
+            reader,
+            from,
+        )?;
+        if let Some(fault) = found {
+            let left = invariant.len() - (k + 1);
+            skip_sections(alloc, SectionKind::Step, left as u32, reader, from)?;
+            return Ok(Some(fault));
+        }
+    }
+    Ok(None)
+}
+
+/// Reads the sections of all cases, and checks them with the refuter of the initial cases and the
+/// one of the others. After the first fault they are only read.
+pub fn check_cases<S: Source>(
+    alloc: Global,
+    model: &Model,
+    table: &NextTable,
+    invariant: &[Seq<Lit>],
+    bad: Lit,
+    start: &mut Refuter,
+    shared: &mut Refuter,
+    reader: &mut Reader,
+    from: &mut S,
+) -> Result<Option<Fault>, ReaderError>
+    requires source { S.failed from.old < 2 ^ 64 - 1 }
+    requires invariant { IsInvariant model.now invariant.now }
+    requires table { IsTableOf model.now.latches table.now }
+    requires bad { Contains (used model.now) bad }
+    requires start { start.old.refusal ≡ None }
+    requires start_base { start.old.base ≡ base_of (start_formula model.now) }
+    requires shared { shared.old.refusal ≡ None }
+    requires vars { shared.old.base.vars ≡ model.now.max_var + 1 }
+    ensures says { (ys : List ℕ) → S.remaining from.old ≡ Some ys → FindsWith (AreOfCases (cases model.now shared.old.base invariant.now bad)) (sections_at (length invariant.now) (reader.old ++ ys)) result reader.new (S.remaining from.new) }
+    ensures device { IsErrOf result Device ↔ (S.failed from.new ≡ S.failed from.old + 1) }
+    ensures others { (IsErrOf result Device → ⊥) → S.failed from.new ≡ S.failed from.old }
+{
+    let count = invariant.len() as u32;
+    let initial = check_initial(alloc, model, invariant, start, reader, from)?;
+    if let Some(fault) = initial {
+        skip_sections(alloc, SectionKind::Step, count, reader, from)?;
+        skip_section(alloc, SectionKind::Bad, reader, from)?;
+        return Ok(Some(fault));
+    }
+    let steps = check_steps(alloc, model, table, invariant, shared, reader, from)?;
+    if let Some(fault) = steps {
+        skip_section(alloc, SectionKind::Bad, reader, from)?;
+        return Ok(Some(fault));
+    }
+    let unit = bad_unit(model, bad);
+    check_section(alloc, SectionKind::Bad, shared, &[unit], reader, from)
+}

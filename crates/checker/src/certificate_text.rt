@@ -1,0 +1,393 @@
+//! A certificate's text, checked while it is read.
+
+ghost use Rattle.base.specs.Witness.{witness};
+ghost use Rattle.std.specs.Prelude.{◌≡◌, ◌≢◌, ◌+◌, ◌-◌, ◌<◌, ◌≤◌, ◌^◌, ◌↔◌, ℕ, List, ◌++◌, All, length, Contains, None, Some, IfErr, IfNone, IfOk, IsErrOf, MatchResult, OnOk};
+ghost use Rattle.graph.specs.WellFormed.{used};
+ghost use Rattle.graph.specs.declared.circuit.Lit.{Lit as ALit};
+ghost use Rattle.graph.specs.declared.circuit.Property.{Property as AProperty};
+ghost use Rattle.graph.specs.declared.circuit.Property.TheVariants.{Justice};
+ghost use Rattle.graph.specs.declared.parts.Parts.{Parts as AParts};
+ghost use Rattle.lrat.specs.Courses.{at_formula};
+ghost use Rattle.cnf.specs.Formulas.{IsInvariant, shared_formula, start_formula};
+ghost use Rattle.cnf.specs.Tables.{IsTableOf};
+ghost use Rattle.certificate.specs.Reading.{certificate_at, lemmas_at, sections_at};
+ghost use Rattle.certificate.specs.Streams.{FindsWith, ForText, parts_at};
+ghost use Rattle.certificate.specs.Texts.{SpellsCertificate};
+ghost use Rattle.certificate.specs.declared.certificate.Certificate.{Certificate as ACertificate};
+ghost use Rattle.certificate.specs.declared.reader_error.ReaderError.TheVariants.{Device};
+ghost use Rattle.checker.specs.Accepted.{IsGood};
+ghost use Rattle.checker.specs.Causes.{HasCauseFor, IsCounted};
+ghost use Rattle.checker.specs.Numbers.{number_of};
+ghost use Rattle.checker.specs.Streamed.{AreTaken, HasSections, IsFound, IsFoundFor};
+ghost use Rattle.checker.specs.declared.check_error.CheckError.TheVariants.{OutOfMemory};
+
+use crate::acceptance::no_property;
+use crate::case_text::check_cases;
+use crate::check_error::CheckError;
+use crate::invariant::check_clauses;
+use crate::section_text::take_lemmas;
+use crate::sections::start_refuter;
+use base::Refused;
+use certificate::{
+    Reader, ReaderError, SectionKind, Version, read_clauses, skip_section, skip_sections,
+};
+use cnf::{NextTable, shared_base};
+use graph::{Lit, Model, Property, Seq, Source};
+use live_safe::{LiveError, to_safety};
+use lrat::{Fault, Refuter};
+use std::alloc::Global;
+
+/// Reads the sections of all cases, and forgets them.
+fn skip_cases<S: Source>(
+    alloc: Global,
+    count: u32,
+    reader: &mut Reader,
+    from: &mut S,
+) -> Result<(), ReaderError>
+    requires source { S.failed from.old < 2 ^ 64 - 1 }
+    ensures says { (ys : List ℕ) → S.remaining from.old ≡ Some ys → FindsWith (λ sections _. Unit {0}) (sections_at count (reader.old ++ ys)) result reader.new (S.remaining from.new) }
+    ensures device { IsErrOf result Device ↔ (S.failed from.new ≡ S.failed from.old + 1) }
+    ensures others { (IsErrOf result Device → ⊥) → S.failed from.new ≡ S.failed from.old }
+{
+    skip_sections(alloc, SectionKind::Initial, count, reader, from)?;
+    skip_sections(alloc, SectionKind::Step, count, reader, from)?;
+    skip_section(alloc, SectionKind::Bad, reader, from)
+}
+
+/// Reads the lemmas, where the version has them, and forgets them.
+fn skip_lemmas<S: Source>(
+    alloc: Global,
+    version: Version,
+    reader: &mut Reader,
+    from: &mut S,
+) -> Result<(), ReaderError>
+    requires source { S.failed from.old < 2 ^ 64 - 1 }
+    ensures says { (ys : List ℕ) → S.remaining from.old ≡ Some ys → FindsWith (λ lemmas _. Unit {0}) (lemmas_at version (reader.old ++ ys)) result reader.new (S.remaining from.new) }
+    ensures device { IsErrOf result Device ↔ (S.failed from.new ≡ S.failed from.old + 1) }
+    ensures others { (IsErrOf result Device → ⊥) → S.failed from.new ≡ S.failed from.old }
+{
+    match version {
+        Version::One => Ok(()),
+        Version::Two => skip_section(alloc, SectionKind::Lemmas, reader, from),
+    }
+}
+
+/// Reads the lemmas, where the version has them, and all sections, of a certificate that is refused
+/// for this error. Out of memory ends the reading.
+fn skip_parts<S: Source>(
+    alloc: Global,
+    error: CheckError,
+    version: Version,
+    count: u32,
+    reader: &mut Reader,
+    from: &mut S,
+) -> Result<Option<u8>, ReaderError>
+    requires source { S.failed from.old < 2 ^ 64 - 1 }
+    ensures says { (ys : List ℕ) (p : AProperty) (inv : List (List ALit)) → S.remaining from.old ≡ Some ys → FindsWith (λ c found. (found ≡ Some (number_of error)) × (error ≢ OutOfMemory witness)) (parts_at version p count inv (reader.old ++ ys)) result reader.new (S.remaining from.new) }
+    ensures device { IsErrOf result Device ↔ (S.failed from.new ≡ S.failed from.old + 1) }
+    ensures others { (IsErrOf result Device → ⊥) → S.failed from.new ≡ S.failed from.old }
+{
+    match error {
+        CheckError::OutOfMemory(refused) => Err(ReaderError::from(refused)),
+        _ => {
+            skip_lemmas(alloc, version, reader, from)?;
+            skip_cases(alloc, count, reader, from)?;
+            Ok(Some(error.number()))
+        }
+    }
+}
+
+/// Reads the lemmas, where the version has them, and lets the refuter share them. After the first
+/// fault they are only read.
+fn share_lemmas<S: Source>(
+    alloc: Global,
+    version: Version,
+    refuter: &mut Refuter,
+    reader: &mut Reader,
+    from: &mut S,
+) -> Result<Option<Fault>, ReaderError>
+    requires source { S.failed from.old < 2 ^ 64 - 1 }
+    requires fresh { refuter.old.refusal ≡ None }
+    ensures vars { refuter.new.base.vars ≡ refuter.old.base.vars }
+    ensures fresh { IfOk result (λ found. IfNone found (refuter.new.refusal ≡ None)) }
+    ensures says { (ys : List ℕ) (m : AParts) (inv : List (List ALit)) → S.remaining from.old ≡ Some ys → refuter.old ≡ at_formula (shared_formula m inv) → FindsWith (AreTaken m inv refuter.new.base) (lemmas_at version (reader.old ++ ys)) result reader.new (S.remaining from.new) }
+    ensures device { IsErrOf result Device ↔ (S.failed from.new ≡ S.failed from.old + 1) }
+    ensures others { (IsErrOf result Device → ⊥) → S.failed from.new ≡ S.failed from.old }
+{
+    match version {
+        Version::One => Ok(None),
+        Version::Two => take_lemmas(alloc, refuter, reader, from),
+    }
+}
+
+/// The refuter of the clauses of the circuit and of the invariant, which has taken no lemmas.
+fn invariant_refuter(
+    alloc: Global,
+    model: &Model,
+    invariant: &[Seq<Lit>],
+) -> Result<Refuter, Refused>
+    requires { IsInvariant model.now invariant.now }
+    ensures { IfOk result (λ r. r ≡ at_formula (shared_formula model.now invariant.now)) }
+{
+    let base = shared_base(alloc, model, invariant)?;
+    Refuter::new(alloc, &base)
+}
+
+/// Reads the lemmas and all sections, and checks them with the refuter of the initial cases and the
+/// one of the others, which has taken no lemmas yet. After the first fault they are only read.
+fn check_lemmas_and_cases<S: Source>(
+    alloc: Global,
+    model: &Model,
+    table: &NextTable,
+    invariant: &[Seq<Lit>],
+    bad: Lit,
+    version: Version,
+    start: &mut Refuter,
+    shared: &mut Refuter,
+    reader: &mut Reader,
+    from: &mut S,
+) -> Result<Option<Fault>, ReaderError>
+    requires source { S.failed from.old < 2 ^ 64 - 1 }
+    requires invariant { IsInvariant model.now invariant.now }
+    requires table { IsTableOf model.now.latches table.now }
+    requires bad { Contains (used model.now) bad }
+    requires start { start.old ≡ at_formula (start_formula model.now) }
+    requires shared { shared.old ≡ at_formula (shared_formula model.now invariant.now) }
+    ensures says { (ys : List ℕ) (p : AProperty) → S.remaining from.old ≡ Some ys → FindsWith (HasSections model.now bad) (parts_at version p (length invariant.now) invariant.now (reader.old ++ ys)) result reader.new (S.remaining from.new) }
+    ensures device { IsErrOf result Device ↔ (S.failed from.new ≡ S.failed from.old + 1) }
+    ensures others { (IsErrOf result Device → ⊥) → S.failed from.new ≡ S.failed from.old }
+{
+    let found = share_lemmas(alloc, version, shared, reader, from)?;
+    if let Some(fault) = found {
+        skip_cases(alloc, invariant.len() as u32, reader, from)?;
+        return Ok(Some(fault));
+    }
+    check_cases(
+        alloc, model, table, invariant, bad, start, shared, reader, from,
+    )
+}
+
+/// Reads the lemmas and all sections, and checks them. After the first fault they are only read. It
+/// holds the clauses that the cases share, those of one section, and one line.
+fn check_parts<S: Source>(
+    alloc: Global,
+    model: &Model,
+    table: &NextTable,
+    invariant: &[Seq<Lit>],
+    bad: Lit,
+    version: Version,
+    reader: &mut Reader,
+    from: &mut S,
+) -> Result<Option<Fault>, ReaderError>
+    requires source { S.failed from.old < 2 ^ 64 - 1 }
+    requires invariant { IsInvariant model.now invariant.now }
+    requires table { IsTableOf model.now.latches table.now }
+    requires bad { Contains (used model.now) bad }
+    ensures says { (ys : List ℕ) (p : AProperty) → S.remaining from.old ≡ Some ys → FindsWith (HasSections model.now bad) (parts_at version p (length invariant.now) invariant.now (reader.old ++ ys)) result reader.new (S.remaining from.new) }
+    ensures device { IsErrOf result Device ↔ (S.failed from.new ≡ S.failed from.old + 1) }
+    ensures others { (IsErrOf result Device → ⊥) → S.failed from.new ≡ S.failed from.old }
+{
+    let mut start = start_refuter(alloc, model)?;
+    let mut shared = invariant_refuter(alloc, model, invariant)?;
+    check_lemmas_and_cases(
+        alloc,
+        model,
+        table,
+        invariant,
+        bad,
+        version,
+        &mut start,
+        &mut shared,
+        reader,
+        from,
+    )
+}
+
+/// Looks for the first fault before the sections, for a literal of this circuit.
+fn prepare(alloc: Global, circuit: &Model, invariant: &[Seq<Lit>]) -> Result<NextTable, CheckError>
+    requires few { length invariant.now ≤ 4194303 }
+    ensures table { IfOk result (λ t. IsTableOf circuit.now.latches t) }
+    ensures good { OnOk result (All (IsGood circuit.now) invariant.now) }
+    ensures refused { IfErr result (λ e. (a : ALit) (c : ACertificate) → c.invariant ≡ invariant.now → IsCounted c → HasCauseFor circuit.now a c e) }
+{
+    let table = NextTable::new(alloc, circuit)?;
+    check_clauses(alloc, circuit, &table, invariant)?;
+    Ok(table)
+}
+
+/// Reads the lemmas and all sections, and checks the certificate for this one of the circuit's
+/// literals: none where it is accepted, or else the number of the first cause.
+fn check_for<S: Source>(
+    alloc: Global,
+    circuit: &Model,
+    bad: Lit,
+    version: Version,
+    invariant: &[Seq<Lit>],
+    reader: &mut Reader,
+    from: &mut S,
+) -> Result<Option<u8>, ReaderError>
+    requires source { S.failed from.old < 2 ^ 64 - 1 }
+    requires bad { Contains (used circuit.now) bad }
+    requires few { length invariant.now ≤ 4194303 }
+    ensures says { (ys : List ℕ) (p : AProperty) → S.remaining from.old ≡ Some ys → FindsWith (IsFoundFor circuit.now bad) (parts_at version p (length invariant.now) invariant.now (reader.old ++ ys)) result reader.new (S.remaining from.new) }
+    ensures device { IsErrOf result Device ↔ (S.failed from.new ≡ S.failed from.old + 1) }
+    ensures others { (IsErrOf result Device → ⊥) → S.failed from.new ≡ S.failed from.old }
+{
+    circuit.parts();
+    match prepare(alloc, circuit, invariant) {
+        Ok(table) => {
+            let found = check_parts(
+                alloc, circuit, &table, invariant, bad, version, reader, from,
+            )?;
+            match found {
+                None => Ok(None),
+                Some(fault) => Ok(Some(fault.number())),
+            }
+        }
+        Err(error) => { skip_parts(alloc, error, version, invariant.len() as u32, reader, from) }
+    }
+}
+
+/// As `check_for`, where the certificate speaks of the justice property at position `n`: of the one
+/// bad literal of its shadow circuit.
+fn check_justice<S: Source>(
+    alloc: Global,
+    model: &Model,
+    n: u32,
+    version: Version,
+    invariant: &[Seq<Lit>],
+    reader: &mut Reader,
+    from: &mut S,
+) -> Result<Option<u8>, ReaderError>
+    requires source { S.failed from.old < 2 ^ 64 - 1 }
+    requires few { length invariant.now ≤ 4194303 }
+    ensures says { (ys : List ℕ) → S.remaining from.old ≡ Some ys → FindsWith (IsFound model.now) (parts_at version (Justice n) (length invariant.now) invariant.now (reader.old ++ ys)) result reader.new (S.remaining from.new) }
+    ensures device { IsErrOf result Device ↔ (S.failed from.new ≡ S.failed from.old + 1) }
+    ensures others { (IsErrOf result Device → ⊥) → S.failed from.new ≡ S.failed from.old }
+{
+    let count = invariant.len() as u32;
+    match to_safety(alloc, model, n) {
+        Ok(shadow) => check_for(
+            alloc,
+            &shadow,
+            shadow.bad()[0],
+            version,
+            invariant,
+            reader,
+            from,
+        ),
+        Err(LiveError::NoProperty(_)) => {
+            let error = CheckError::NoProperty { property: n };
+            skip_parts(alloc, error, version, count, reader, from)
+        }
+        Err(LiveError::Limit) => {
+            skip_parts(alloc, CheckError::Limit, version, count, reader, from)
+        }
+        Err(LiveError::OutOfMemory(refused)) => Err(ReaderError::from(refused)),
+    }
+}
+
+/// Reads the lemmas and all sections, and checks the certificate: none where it is accepted, or else
+/// the number of the first cause.
+fn check_property<S: Source>(
+    alloc: Global,
+    model: &Model,
+    property: Property,
+    version: Version,
+    invariant: &[Seq<Lit>],
+    reader: &mut Reader,
+    from: &mut S,
+) -> Result<Option<u8>, ReaderError>
+    requires source { S.failed from.old < 2 ^ 64 - 1 }
+    requires few { length invariant.now ≤ 4194303 }
+    ensures says { (ys : List ℕ) → S.remaining from.old ≡ Some ys → FindsWith (IsFound model.now) (parts_at version property (length invariant.now) invariant.now (reader.old ++ ys)) result reader.new (S.remaining from.new) }
+    ensures device { IsErrOf result Device ↔ (S.failed from.new ≡ S.failed from.old + 1) }
+    ensures others { (IsErrOf result Device → ⊥) → S.failed from.new ≡ S.failed from.old }
+{
+    if !model.parts().has_property(property) {
+        let error = no_property(property);
+        return skip_parts(alloc, error, version, invariant.len() as u32, reader, from);
+    }
+    match property {
+        Property::Bad(n) => {
+            check_for(
+                alloc,
+                model,
+                model.bad()[n as usize],
+                version,
+                invariant,
+                reader,
+                from,
+            )
+        }
+        Property::Justice(n) => check_justice(alloc, model, n, version, invariant, reader, from),
+        Property::Output(n) => {
+            check_for(
+                alloc,
+                model,
+                model.outputs()[n as usize],
+                version,
+                invariant,
+                reader,
+                from,
+            )
+        }
+    }
+}
+
+/// What was read and found.
+#[derive(Clone, Copy, Debug, PartialEq, Eq)]
+pub struct Outcome {
+    /// the property that the certificate names
+    pub property: Property,
+    /// the number of the first cause, where the certificate is not accepted
+    pub refusal: Option<u8>,
+}
+
+/// Reads a certificate, and checks it while it is read.
+fn check_text<S: Source>(
+    alloc: Global,
+    model: &Model,
+    reader: &mut Reader,
+    from: &mut S,
+) -> Result<Outcome, ReaderError>
+    requires source { S.failed from.old < 2 ^ 64 - 1 }
+    ensures says { (ys : List ℕ) → S.remaining from.old ≡ Some ys → FindsWith (λ c found. (found.property ≡ c.property) × IsFound model.now c found.refusal) (certificate_at (reader.old ++ ys)) result reader.new (S.remaining from.new) }
+    ensures device { IsErrOf result Device ↔ (S.failed from.new ≡ S.failed from.old + 1) }
+    ensures others { (IsErrOf result Device → ⊥) → S.failed from.new ≡ S.failed from.old }
+{
+    let version = reader.version(alloc, from)?;
+    let property = reader.property(alloc, from)?;
+    let count = reader.count(alloc, from)?;
+    let invariant = read_clauses(alloc, count, reader, from)?;
+    let refusal = check_property(
+        alloc,
+        model,
+        property,
+        version,
+        invariant.as_slice(),
+        reader,
+        from,
+    )?;
+    Ok(Outcome { property, refusal })
+}
+
+/// Reads the certificate that the source's bytes spell, and checks it while it is read. It holds the
+/// clauses of the invariant, those that the cases share, those of one section, and one line; a fault
+/// of the text, anywhere in it, goes before every fault of the check. After a fault of the text
+/// nothing more is taken.
+pub fn check_source<S: Source>(
+    alloc: Global,
+    model: &Model,
+    from: &mut S,
+) -> Result<Outcome, ReaderError>
+    requires source { S.failed from.old < 2 ^ 64 - 1 }
+    ensures says { (ys : List ℕ) → S.remaining from.old ≡ Some ys → MatchResult result (λ found. (c : ACertificate) × SpellsCertificate ys c × (found.property ≡ c.property) × IsFound model.now c found.refusal) (λ e. ForText e ((c : ACertificate) → SpellsCertificate ys c → ⊥)) }
+    ensures device { IsErrOf result Device ↔ (S.failed from.new ≡ S.failed from.old + 1) }
+    ensures others { (IsErrOf result Device → ⊥) → S.failed from.new ≡ S.failed from.old }
+{
+    let mut reader = Reader::new(alloc)?;
+    let outcome = check_text(alloc, model, &mut reader, from)?;
+    reader.end(from)?;
+    Ok(outcome)
+}

@@ -1,0 +1,143 @@
+//! The sections of a certificate's text, checked line by line.
+
+ghost use Rattle.base.specs.Witness.{witness};
+ghost use Rattle.std.specs.Prelude.{◌≡◌, ◌≢◌, ◌+◌, ◌-◌, ◌<◌, ◌^◌, ◌↔◌, ℕ, List, ◌++◌, All, None, Some, IfOk, IfNone, IsErrOf};
+ghost use Rattle.scan.specs.Lists.{items_at};
+ghost use Rattle.lrat.specs.Literals.{IsLiteral};
+ghost use Rattle.lrat.specs.declared.fault.Fault.TheVariants.{OutOfMemory};
+ghost use Rattle.certificate.specs.Reading.{item_at, section_at};
+ghost use Rattle.certificate.specs.Streams.{FindsWith, letter_of};
+ghost use Rattle.certificate.specs.declared.reader_error.ReaderError.TheVariants.{Device};
+ghost use Rattle.checker.specs.Streamed.{AreLemmas, IsFed, IsOfCase};
+
+use certificate::{Reader, ReaderError, SectionKind, skip_lines};
+use graph::Source;
+use lrat::{Fault, Refuter};
+use std::alloc::Global;
+
+/// Reads the rest of a section in which this fault was found. Out of memory is no fault of the
+/// section, and ends the reading.
+fn skip_refused<S: Source>(
+    alloc: Global,
+    fault: Fault,
+    reader: &mut Reader,
+    from: &mut S,
+) -> Result<Option<Fault>, ReaderError>
+    requires source { S.failed from.old < 2 ^ 64 - 1 }
+    ensures says { (ys : List ℕ) → S.remaining from.old ≡ Some ys → FindsWith (λ lines found. (found ≡ Some fault) × (fault ≢ OutOfMemory witness)) (items_at item_at (reader.old ++ ys)) result reader.new (S.remaining from.new) }
+    ensures found { IfOk result (λ found. (found ≡ Some fault) × (fault ≢ OutOfMemory witness)) }
+    ensures device { IsErrOf result Device ↔ (S.failed from.new ≡ S.failed from.old + 1) }
+    ensures others { (IsErrOf result Device → ⊥) → S.failed from.new ≡ S.failed from.old }
+{
+    match fault {
+        Fault::OutOfMemory(refused) => Err(ReaderError::from(refused)),
+        _ => {
+            skip_lines(alloc, reader, from)?;
+            Ok(Some(fault))
+        }
+    }
+}
+
+/// Reads the lines of a section up to its end, and feeds them to the refuter. It holds one line.
+/// After the first fault the lines are only read.
+fn feed_lines<S: Source>(
+    alloc: Global,
+    refuter: &mut Refuter,
+    reader: &mut Reader,
+    from: &mut S,
+) -> Result<Option<Fault>, ReaderError>
+    requires source { S.failed from.old < 2 ^ 64 - 1 }
+    requires fresh { refuter.old.refusal ≡ None }
+    ensures base { refuter.new.base ≡ refuter.old.base }
+    ensures fresh { IfOk result (λ found. IfNone found (refuter.new.refusal ≡ None)) }
+    ensures says { (ys : List ℕ) → S.remaining from.old ≡ Some ys → FindsWith (IsFed refuter.old.base.vars refuter.old.stage) (items_at item_at (reader.old ++ ys)) result reader.new (S.remaining from.new) }
+    ensures device { IsErrOf result Device ↔ (S.failed from.new ≡ S.failed from.old + 1) }
+    ensures others { (IsErrOf result Device → ⊥) → S.failed from.new ≡ S.failed from.old }
+{
+    'feeding: loop {
+        let Some(line) = reader.line(alloc, from)? else {
+            return match refuter.finish() {
+                Ok(()) => Ok(None),
+                Err(fault) => Ok(Some(fault)),
+            };
+        };
+        if let Err(fault) = refuter.feed(alloc, &line) {
+            return skip_refused(alloc, fault, reader, from);
+        }
+    }
+}
+
+/// Reads a section of this kind, and checks it as a refutation of what the refuter shares, with the
+/// units. It costs the units and the section, and holds one line.
+pub fn check_section<S: Source>(
+    alloc: Global,
+    kind: SectionKind,
+    refuter: &mut Refuter,
+    units: &[i32],
+    reader: &mut Reader,
+    from: &mut S,
+) -> Result<Option<Fault>, ReaderError>
+    requires source { S.failed from.old < 2 ^ 64 - 1 }
+    requires fresh { refuter.old.refusal ≡ None }
+    requires in_range { All (IsLiteral refuter.old.base.vars) units.now }
+    ensures base { refuter.new.base ≡ refuter.old.base }
+    ensures fresh { IfOk result (λ found. IfNone found (refuter.new.refusal ≡ None)) }
+    ensures says { (ys : List ℕ) → S.remaining from.old ≡ Some ys → FindsWith (IsOfCase (record { base = refuter.old.base; units = units.now })) (section_at (letter_of kind) (reader.old ++ ys)) result reader.new (S.remaining from.new) }
+    ensures device { IsErrOf result Device ↔ (S.failed from.new ≡ S.failed from.old + 1) }
+    ensures others { (IsErrOf result Device → ⊥) → S.failed from.new ≡ S.failed from.old }
+{
+    reader.section(alloc, kind, from)?;
+    if let Err(fault) = refuter.begin(alloc, units) {
+        return skip_refused(alloc, fault, reader, from);
+    }
+    feed_lines(alloc, refuter, reader, from)
+}
+
+/// Reads the lines of the lemmas up to their end, checks them, and lets the refuter share them. It
+/// holds one line. After the first fault the lines are only read.
+fn share_lines<S: Source>(
+    alloc: Global,
+    refuter: &mut Refuter,
+    reader: &mut Reader,
+    from: &mut S,
+) -> Result<Option<Fault>, ReaderError>
+    requires source { S.failed from.old < 2 ^ 64 - 1 }
+    requires fresh { refuter.old.refusal ≡ None }
+    ensures vars { refuter.new.base.vars ≡ refuter.old.base.vars }
+    ensures fresh { IfOk result (λ found. IfNone found (refuter.new.refusal ≡ None)) }
+    ensures says { (ys : List ℕ) → S.remaining from.old ≡ Some ys → FindsWith (AreLemmas refuter.old.base.vars refuter.old.stage refuter.new.base) (items_at item_at (reader.old ++ ys)) result reader.new (S.remaining from.new) }
+    ensures device { IsErrOf result Device ↔ (S.failed from.new ≡ S.failed from.old + 1) }
+    ensures others { (IsErrOf result Device → ⊥) → S.failed from.new ≡ S.failed from.old }
+{
+    'taking: loop {
+        let Some(line) = reader.line(alloc, from)? else {
+            return match refuter.share() {
+                Ok(()) => Ok(None),
+                Err(_) => unreachable!(),
+            };
+        };
+        if let Err(fault) = refuter.lemma(&line) {
+            return skip_refused(alloc, fault, reader, from);
+        }
+    }
+}
+
+/// Reads the section of the lemmas, checks them, and lets the refuter share them. It holds one
+/// line. After the first fault the lines are only read.
+pub fn take_lemmas<S: Source>(
+    alloc: Global,
+    refuter: &mut Refuter,
+    reader: &mut Reader,
+    from: &mut S,
+) -> Result<Option<Fault>, ReaderError>
+    requires source { S.failed from.old < 2 ^ 64 - 1 }
+    requires fresh { refuter.old.refusal ≡ None }
+    ensures vars { refuter.new.base.vars ≡ refuter.old.base.vars }
+    ensures fresh { IfOk result (λ found. IfNone found (refuter.new.refusal ≡ None)) }
+    ensures says { (ys : List ℕ) → S.remaining from.old ≡ Some ys → FindsWith (AreLemmas refuter.old.base.vars refuter.old.stage refuter.new.base) (section_at 108 (reader.old ++ ys)) result reader.new (S.remaining from.new) }
+    ensures device { IsErrOf result Device ↔ (S.failed from.new ≡ S.failed from.old + 1) }
+    ensures others { (IsErrOf result Device → ⊥) → S.failed from.new ≡ S.failed from.old }
+{
+    reader.section(alloc, SectionKind::Lemmas, from)?;
+    share_lines(alloc, refuter, reader, from)
+}
