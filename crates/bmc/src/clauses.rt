@@ -4,6 +4,7 @@ ghost use Rattle.std.specs.Prelude.{◌≡◌, ◌<◌, ◌≤◌, ◌^◌, ◌+
 ghost use Rattle.lrat.specs.Literals.{IsLiteral};
 ghost use Rattle.bmc.specs.Encodings.{conjunction_clauses};
 ghost use Rattle.engine.specs.declared.engine_error.EngineError.TheVariants.{Limit};
+ghost use Rattle.solver.specs.Full.{full};
 
 use engine::EngineError;
 use solver::Sat;
@@ -30,7 +31,7 @@ pub fn add_one<S: Sat>(solver: &mut S, alloc: Global, literal: i32) -> Result<()
     requires literal { IsLiteral (S.vars solver.old) literal }
     ensures vars { S.vars solver.new ≡ S.vars solver.old }
     ensures clauses { OnOk result (S.clauses solver.new ≡ S.clauses solver.old ++ (literal ∷ []) ∷ []) }
-    ensures limit { IfErr result (λ e. e ≡ Limit → S.is_full solver.new) }
+    ensures limit { IfErr result (λ e. e ≡ Limit full → S.is_full solver.new) }
 {
     solver.add(alloc, &[literal])?;
     Ok(())
@@ -47,7 +48,7 @@ fn add_two<S: Sat>(
     requires second { IsLiteral (S.vars solver.old) second }
     ensures vars { S.vars solver.new ≡ S.vars solver.old }
     ensures clauses { OnOk result (S.clauses solver.new ≡ S.clauses solver.old ++ (first ∷ second ∷ []) ∷ []) }
-    ensures limit { IfErr result (λ e. e ≡ Limit → S.is_full solver.new) }
+    ensures limit { IfErr result (λ e. e ≡ Limit full → S.is_full solver.new) }
 {
     solver.add(alloc, &[first, second])?;
     Ok(())
@@ -66,7 +67,7 @@ fn add_three<S: Sat>(
     requires third { IsLiteral (S.vars solver.old) third }
     ensures vars { S.vars solver.new ≡ S.vars solver.old }
     ensures clauses { OnOk result (S.clauses solver.new ≡ S.clauses solver.old ++ (first ∷ second ∷ third ∷ []) ∷ []) }
-    ensures limit { IfErr result (λ e. e ≡ Limit → S.is_full solver.new) }
+    ensures limit { IfErr result (λ e. e ≡ Limit full → S.is_full solver.new) }
 {
     solver.add(alloc, &[first, second, third])?;
     Ok(())
@@ -86,7 +87,7 @@ pub fn add_conjunction<S: Sat>(
     requires small { S.vars solver.old ≤ 2147483647 }
     ensures vars { S.vars solver.new ≡ S.vars solver.old }
     ensures clauses { OnOk result (S.clauses solver.new ≡ S.clauses solver.old ++ conjunction_clauses literal one other) }
-    ensures limit { IfErr result (λ e. e ≡ Limit → S.is_full solver.new) }
+    ensures limit { IfErr result (λ e. e ≡ Limit full → S.is_full solver.new) }
 {
     let denial = negated(literal);
     add_two(solver, alloc, denial, one)?;

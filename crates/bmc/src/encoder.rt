@@ -5,6 +5,7 @@ ghost use Rattle.std.specs.HashMap.{get};
 ghost use Rattle.lrat.specs.Literals.{IsLiteral, is_true};
 ghost use Rattle.bmc.specs.Encodings.{IsConjunctionIn, IsEncoding, IsGrown, same_pair};
 ghost use Rattle.engine.specs.declared.engine_error.EngineError.TheVariants.{Limit};
+ghost use Rattle.solver.specs.Full.{full};
 
 use crate::clauses::{add_conjunction, negated, positive};
 use base::insert_hashed;
@@ -69,7 +70,7 @@ impl Encoder {
         ensures grown { OnOk result (IsGrown 1 self.old (S.clauses solver.old) self.new (S.clauses solver.new)) }
         ensures literal { IfOk result (IsLiteral self.new.variables) }
         ensures value { IfOk result (IsConjunctionIn (S.clauses solver.new) a b) }
-        ensures limit { IfErr result (λ e. e ≡ Limit → S.is_full solver.new) }
+        ensures limit { IfErr result (λ e. e ≡ Limit full → S.is_full solver.new) }
     {
         if let Some(variable) = self.conjunctions.get(&(a, b)) {
             return Ok(positive(*variable));
@@ -99,7 +100,7 @@ impl Encoder {
         ensures grown { OnOk result (IsGrown 1 self.old (S.clauses solver.old) self.new (S.clauses solver.new)) }
         ensures literal { IfOk result (IsLiteral self.new.variables) }
         ensures value { IfOk result (IsConjunctionIn (S.clauses solver.new) a b) }
-        ensures limit { IfErr result (λ e. e ≡ Limit → S.is_full solver.new) }
+        ensures limit { IfErr result (λ e. e ≡ Limit full → S.is_full solver.new) }
     {
         if let Some(literal) = simplified(a, b) {
             return Ok(literal);

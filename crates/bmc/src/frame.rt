@@ -8,6 +8,7 @@ ghost use Rattle.bmc.specs.Cones.{IsConeOf};
 ghost use Rattle.bmc.specs.Encodings.{IsEncoding, IsGrown};
 ghost use Rattle.bmc.specs.Unrollings.{Leaves, IsTable, AreFresh, AreStates, literal_of};
 ghost use Rattle.engine.specs.declared.engine_error.EngineError.TheVariants.{Limit};
+ghost use Rattle.solver.specs.Full.{full};
 
 use crate::clauses::{add_one, negated, positive};
 use crate::cone::Cone;
@@ -89,7 +90,7 @@ fn encode_gate<S: Sat>(
     ensures literals { OnOk result (All (IsLiteral encoder.new.variables) table.new) }
     ensures table { (s : Leaves) (t : ℕ) → IsTable circuit.now cone.now s (S.clauses solver.old) t encoder.old.variables (length cone.now.inputs.items) (length cone.now.latches.items) place table.old →
         OnOk result (IsTable circuit.now cone.now s (S.clauses solver.new) t encoder.new.variables (length cone.now.inputs.items) (length cone.now.latches.items) (place + 1) table.new) }
-    ensures limit { IfErr result (λ e. e ≡ Limit → S.is_full solver.new) }
+    ensures limit { IfErr result (λ e. e ≡ Limit full → S.is_full solver.new) }
 {
     circuit.parts();
     let gate = cone.gates[place];
@@ -120,7 +121,7 @@ pub fn encode_gates<S: Sat>(
     ensures literals { OnOk result (All (IsLiteral encoder.new.variables) table.new) }
     ensures table { (s : Leaves) (t : ℕ) → IsTable circuit.now cone.now s (S.clauses solver.old) t encoder.old.variables (length cone.now.inputs.items) (length cone.now.latches.items) 0 table.old →
         OnOk result (IsTable circuit.now cone.now s (S.clauses solver.new) t encoder.new.variables (length cone.now.inputs.items) (length cone.now.latches.items) (length cone.now.gates.items) table.new) }
-    ensures limit { IfErr result (λ e. e ≡ Limit → S.is_full solver.new) }
+    ensures limit { IfErr result (λ e. e ≡ Limit full → S.is_full solver.new) }
 {
     for place in 0..cone.gates.len() {
         encode_gate(solver, alloc, circuit, cone, encoder, table, place)?;
@@ -140,7 +141,7 @@ pub fn add_units<S: Sat>(
     requires small { S.vars solver.old ≤ 2147483647 }
     ensures vars { S.vars solver.new ≡ S.vars solver.old }
     ensures clauses { OnOk result (S.clauses solver.new ≡ S.clauses solver.old ++ unit_clauses (map (literal_of table.now) lits.now)) }
-    ensures limit { IfErr result (λ e. e ≡ Limit → S.is_full solver.new) }
+    ensures limit { IfErr result (λ e. e ≡ Limit full → S.is_full solver.new) }
 {
     for lit in lits {
         add_one(solver, alloc, literal(table, *lit))?;

@@ -8,6 +8,7 @@ ghost use Rattle.bmc.specs.Cones.{IsConeOf};
 ghost use Rattle.bmc.specs.Depths.{EndsAt, IsOfSteps, IsShortest, IsWithinDepth};
 ghost use Rattle.bmc.specs.Times.{IsAt, HasRoom, IsBadModel};
 ghost use Rattle.engine.specs.declared.engine_error.EngineError.TheVariants.{Limit};
+ghost use Rattle.solver.specs.Full.{full};
 
 use crate::cone::{Cone, cone_of};
 use crate::frame::literal;
@@ -87,7 +88,7 @@ fn reach<S: Sat>(
     ensures few { IfOk result (λ found. found ≡ None →
         unrolling.new.encoder.variables ≤ unrolling.old.encoder.variables + (length cone.now.inputs.items + length cone.now.gates.items)) }
     ensures lawful { IfOk result (IsOfSteps circuit.now steps budget.new) }
-    ensures limit { IfErr result (λ e. e ≡ Limit → S.is_full solver.new) }
+    ensures limit { IfErr result (λ e. e ≡ Limit full → S.is_full solver.new) }
 {
     if !budget.tick() {
         return Ok(Some(Finding::Unknown(Reason::Budget)));
@@ -119,7 +120,7 @@ fn search_up_to<S: Sat, P: Progress>(
     ensures so { IfOk result (IsSo circuit.now budget.new) }
     ensures shortest { IfOk result (IsShortest circuit.now) }
     ensures depth { IfOk result (IsWithinDepth depth) }
-    ensures limit { IfErr result (λ e. e ≡ Limit → S.is_full solver.new) }
+    ensures limit { IfErr result (λ e. e ≡ Limit full → S.is_full solver.new) }
 {
     circuit.parts();
     let nexts = NextTable::new(alloc, circuit)?;
@@ -189,7 +190,7 @@ impl<S: Sat, P: Progress> Engine for Bmc<S, P> {
         ensures so { IfOk result (IsSo circuit.now budget.new) }
         ensures shortest { IfOk result (IsShortest circuit.now) }
         ensures depth { IfOk result (IsWithinDepth self.old.depth) }
-        ensures limit { IfErr result (λ e. e ≡ Limit → S.is_full self.new.solver) }
+        ensures limit { IfErr result (λ e. e ≡ Limit full → S.is_full self.new.solver) }
     {
         search_up_to(
             &mut self.solver,

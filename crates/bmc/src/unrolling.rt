@@ -9,6 +9,7 @@ ghost use Rattle.bmc.specs.Encodings.{IsEncoding};
 ghost use Rattle.bmc.specs.Unrollings.{Leaves, IsTable, IsUnrolled, later, constant_of, AreInitial, literal_at, literal_of};
 ghost use Rattle.bmc.specs.Times.{IsAt, HasRoom, leaves_of};
 ghost use Rattle.engine.specs.declared.engine_error.EngineError.TheVariants.{Limit};
+ghost use Rattle.solver.specs.Full.{full};
 
 use crate::clauses::{add_one, positive};
 use crate::cone::Cone;
@@ -130,7 +131,7 @@ pub fn begin<S: Sat>(
     ensures none { IfOk result (λ u. u.firsts.items ≡ []) }
     ensures room { IfOk result (λ u. HasRoom cone.now times u (S.vars solver.new)) }
     ensures small { OnOk result (S.vars solver.new ≤ 2147483647) }
-    ensures limit { IfErr result (λ e. e ≡ Limit → S.is_full solver.new) }
+    ensures limit { IfErr result (λ e. e ≡ Limit full → S.is_full solver.new) }
 {
     circuit.parts();
     let used = cone.latches.len() as u32 + 1;
@@ -179,7 +180,7 @@ fn encode_frame<S: Sat>(
         OnOk result (IsUnrolled circuit.now cone.now (later s encoder.old.variables) state.new encoder.new (S.clauses solver.new)
         × IsTable circuit.now cone.now (later s encoder.old.variables) (S.clauses solver.new) (length s.firsts) encoder.new.variables
         (length cone.now.inputs.items) (length cone.now.latches.items) (length cone.now.gates.items) table.new) }
-    ensures limit { IfErr result (λ e. e ≡ Limit → S.is_full solver.new) }
+    ensures limit { IfErr result (λ e. e ≡ Limit full → S.is_full solver.new) }
 {
     circuit.parts();
     let first = encoder.variables;
@@ -214,7 +215,7 @@ impl Unrolling {
             (length cone.now.inputs.items) (length cone.now.latches.items) (length cone.now.gates.items) self.new.table.items) }
         ensures more { OnOk result (length self.new.firsts.items ≡ length self.old.firsts.items + 1) }
         ensures few { OnOk result (self.new.encoder.variables ≤ self.old.encoder.variables + (length cone.now.inputs.items + length cone.now.gates.items)) }
-        ensures limit { IfErr result (λ e. e ≡ Limit → S.is_full solver.new) }
+        ensures limit { IfErr result (λ e. e ≡ Limit full → S.is_full solver.new) }
     {
         push(&mut self.firsts, self.encoder.variables)?;
         encode_frame(

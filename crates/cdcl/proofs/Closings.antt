@@ -7,6 +7,7 @@ use Rattle.std.proofs.lemmas.List.{append_cancel_right, get_or-map, length-map, 
 use Rattle.std.proofs.lemmas.List.Concat.{flat_map-cons}
 use Rattle.std.proofs.lemmas.List.Elements.{All-nil, All-cons, All-head, All-tail, All-append, All-map, Contains-append_left, Contains-append_right}
 use Rattle.cdcl_kernel.specs.Kept.{Kept}
+use Rattle.solver.specs.declared.full.Taken.{Taken}
 use Rattle.cdcl_kernel.proofs.Forgetting.{by_eq}
 use Rattle.lrat.specs.Literals.{IsLiteral}
 use Rattle.lrat.specs.Limits.{IsHint, IsLine}
@@ -24,7 +25,7 @@ use Rattle.lrat.proofs.Exact.{along_unique}
 use Rattle.lrat.proofs.Numbered.{get_new}
 use Rattle.lrat.proofs.Trimmed.{Trails, all_among, hint_found, rests, shows_too, was_there}
 use Rattle.cdcl.specs.Closings.{AreLemmas, IsClosingOf, NamesToo, NamesUnits, StaysShown, hints_behind, hints_of, section_of}
-use Rattle.cdcl.specs.Logged.{AreLines, AreNumbered, IsLog, IsNext, LeadTo, Logged, clause_of, first_id, formula_of, is_wanted, start}
+use Rattle.cdcl.specs.Logged.{AreLines, AreNumbered, IsLog, IsNext, LeadTo, Logged, Reaches, clause_of, first_id, formula_of, is_wanted, start}
 use Rattle.cdcl.specs.Refuting.{Refuting, refuting}
 use Rattle.cdcl.specs.Selected.{IsAddition, IsClosing, wanting}
 use Rattle.cdcl.specs.Units.{AreDenials, AreDeniedAt, unit_id}
@@ -255,12 +256,10 @@ closing_hints r us k is i d lt = hint_of (get_or k.hints i d) (is.positive i d l
 
 -- a log that is wanted leads to a stage
 pub reached_by : (log : Logging) (n : Numbering) (v : ℕ) (ks : List Kept) (ls : List Line) (end : Option Line) → is_wanted log ≡ true → IsLog log n v ks ls end
-    → AreLines (formula_of v ks) n ls × ((t : Stage) × GoAlong v (start (formula_of v ks) n.room) ls t)
+    → AreLines (formula_of v ks) n ls × ((t : Stage) × GoAlong v (start (formula_of v ks) n.room) ls t × (t.top ≤ length ks + n.room))
 reached_by Unwanted n v ks ls end wanted l = absurd (let f : false ≡ true = wanted in cc)
-reached_by Open n v ks ls end wanted l = (l.0, (l.1.reached, l.1.along))
-reached_by Closed n v ks ls end wanted (lines, (line, is, x)) =
-    let parts = last_of v ls (start (formula_of v ks) n.room) x.reached (Add x.id [] x.hints) x.along in
-    (lines, (parts.0, parts.1))
+reached_by Open n v ks ls end wanted l = (l.0, (l.1.reached, l.1.along, let top = l.1.top in omega (arith, top)))
+reached_by Closed n v ks ls end wanted l = (l.0, (l.2.reached, l.2.along, l.2.top))
 
 -- the id behind additions is that of the last one
 pub greatest_none : (v base : ℕ) (s t : Stage) → s.top ≡ base → GoAlong v s [] t → t.top ≡ base
@@ -289,11 +288,11 @@ greatest_last v (l ∷ ls) s t id c hints e along =
     top_is t parts.0 id c parts.2.4
 
 -- what is left of the log's lines are lemmas
-pub lemmas_are : (f : Formula) (n : Numbering) (ls p : List Line) (t : Stage) (ks : List Closing) (wanted : List ℤ) (top : ℕ) → AreLines f n ls → GoAlong f.vars (start f n.room) ls t → wanted ≡ flat_map hints_of ks
+pub lemmas_are : (f : Formula) (n : Numbering) (ls p : List Line) (t : Stage) (ks : List Closing) (wanted : List ℤ) (top : ℕ) (taken : Taken) → AreLines f n ls → GoAlong f.vars (start f n.room) ls t → t.top ≤ taken.ids → wanted ≡ flat_map hints_of ks
     → p ++ wanting wanted ∷ [] ≡ trimmed (ls ++ wanting wanted ∷ []) → All IsLine p
     → ((v : ℕ) (s u : Stage) → s.top ≡ n.base → All IsAddition p → GoAlong v s p u → u.top ≡ top)
-    → AreLemmas (at f n.room (take n.shared ls)) ks (record { proof = p; top = top })
-lemmas_are f n ls p t ks wanted top lines along all_of is limits greatest =
+    → AreLemmas (at f n.room (take n.shared ls)) ks (record { proof = p; top = top; taken = taken })
+lemmas_are f n ls p t ks wanted top taken lines along few all_of is limits greatest =
     let begin : Trails (start f n.room) (first_stage f) (trimmed (ls ++ wanting wanted ∷ [])) = record { top = omega arith; closed = refl; named = λ q has c found. found } in
     let r = rests f.vars ls (wanting wanted) (start f n.room) (first_stage f) t refl begin along in
     let same : p ≡ r.lines = append_cancel_right p r.lines (wanting wanted ∷ []) (is ∙ r.are) in
@@ -307,6 +306,7 @@ lemmas_are f n ls p t ks wanted top lines along all_of is limits greatest =
       reached = r.reached;
       extends = record { along = reached; not_empty = subst (All IsNotEmpty) (sym same) (all_among IsNotEmpty r.lines ls r.among (none_empty_in (first_id n) ls lines.numbered)) };
       top = at_top;
+      counted = let least = r.trails.top in omega (arith, at_top, least, few);
       sections = λ i d lt us shown.
           let k : Closing = get_or ks i d in
           subst (λ id. IsAcceptedOver (base_at f.vars r.reached) us (section_of id us k)) at_top
@@ -369,10 +369,13 @@ abbrev sharing : Numbering → ℕ → Numbering
 sharing n m = record { base = n.base; room = n.room; shared = m }
 
 lines_share : (f : Formula) (n : Numbering) (m : ℕ) (ls : List Line) → m ≤ length ls → AreLines f n ls → AreLines f (sharing n m) ls
-lines_share f n m ls le l = record { base = l.base; shared = le; in_limits = l.in_limits; numbered = l.numbered }
+lines_share f n m ls le l = record { base = l.base; shared = le; in_limits = l.in_limits; small = l.small; numbered = l.numbered }
 
 lead_shares : (f : Formula) (n : Numbering) (m : ℕ) (ks : List Kept) (ls : List Line) → LeadTo f n ks ls → LeadTo f (sharing n m) ks ls
 lead_shares f n m ks ls l = record { reached = l.reached; along = l.along; present = l.present; top = l.top; count = l.count; is_open = l.is_open }
+
+reaches_share : (f : Formula) (n : Numbering) (m : ℕ) (ks : List Kept) (ls : List Line) → Reaches f n ks ls → Reaches f (sharing n m) ks ls
+reaches_share f n m ks ls r = record { reached = r.reached; along = r.along; top = r.top }
 
 next_shares : (f : Formula) (n : Numbering) (m : ℕ) (ls : List Line) (c : List ℤ) (l : Line) → IsNext f n ls c l → IsNext f (sharing n m) ls c l
 next_shares f n m ls c l x = record { id = x.id; hints = x.hints; is = x.is; in_limits = x.in_limits; below = x.below; reached = x.reached; along = x.along }
@@ -384,7 +387,8 @@ end_shares f n m ls (Some l) x = next_shares f n m ls (clause_of l) l x
 pub log_shares : (log : Logging) (n : Numbering) (m v : ℕ) (ks : List Kept) (ls : List Line) (end : Option Line) → m ≤ length ls → IsLog log n v ks ls end → IsLog log (record { base = n.base; room = n.room; shared = m }) v ks ls end
 log_shares Unwanted n m v ks ls end le l = tt
 log_shares Open n m v ks ls end le l = (lines_share (formula_of v ks) n m ls le l.0, lead_shares (formula_of v ks) n m ks ls l.1, end_shares (formula_of v ks) n m ls end l.2)
-log_shares Closed n m v ks ls end le (lines, (line, is, x)) = (lines_share (formula_of v ks) n m ls le lines, (line, is, next_shares (formula_of v ks) n m ls [] line x))
+log_shares Closed n m v ks ls end le l =
+    (lines_share (formula_of v ks) n m ls le l.0, (l.1.0, l.1.1, next_shares (formula_of v ks) n m ls [] l.1.0 l.1.2), reaches_share (formula_of v ks) n m ks ls l.2)
 
 pub closing_stays : (f : Formula) (n : Numbering) (m : ℕ) (ls : List Line) → AreLines f n ls → m ≡ length ls → StaysShown (at f n.room (take n.shared ls)) (at f n.room (take m ls))
 closing_stays f n m ls lines all = λ us k is.

@@ -42,7 +42,7 @@ is_unlogged : false ≡ true → ⊥
 is_unlogged e = cc
 
 closed_nil : (n : Numbering) (v : ℕ) (ks : List Kept) (ls : List Line) (end : Option Line) → IsLog Closed n v ks ls end → option_map clause_of end ≡ Some []
-closed_nil n v ks ls end (lines, (line, is, next)) = ap (option_map clause_of) is ∙ ap (λ x. Some (clause_of x)) next.is
+closed_nil n v ks ls end (lines, (line, is, next), led) = ap (option_map clause_of) is ∙ ap (λ x. Some (clause_of x)) next.is
 
 -- a closed log's line adds the empty clause, which denies nothing
 pub closed_denies : (log : Logging) (n : Numbering) (v : ℕ) (ks : List Kept) (ls : List Line) (end : Option Line) (k : Logged) (assume : List ℤ) → (log ≡ Open → ⊥) → is_wanted log ≡ true
@@ -60,7 +60,7 @@ pub ends_of : (log : Logging) (n : Numbering) (v : ℕ) (ks : List Kept) (ls : L
 ends_of Unwanted n v ks ls end id d hints wanted l e = absurd (is_unlogged wanted)
 ends_of Open n v ks ls None id d hints wanted l e = absurd (none_is _ (Add id d hints) e)
 ends_of Open n v ks ls (Some line) id d hints wanted l e = (l.0, subst (λ x. IsNext (formula_of v ks) n ls (clause_of x) x) (some_is _ _ _ e) l.2)
-ends_of Closed n v ks ls end id d hints wanted (lines, (line, is, next)) e =
+ends_of Closed n v ks ls end id d hints wanted (lines, (line, is, next), led) e =
     let same : line ≡ Add id d hints = some_is _ _ _ (sym is ∙ e) in
     let nil : d ≡ [] = ap clause_of (sym same ∙ next.is) in
     (lines, subst (λ c. IsNext (formula_of v ks) n ls c (Add id d hints)) (sym nil) (subst (λ x. IsNext (formula_of v ks) n ls [] x) same next))
@@ -73,7 +73,7 @@ ends_with Open n v ks ls None c wanted l e = absurd (none_is _ c e)
 ends_with Open n v ks ls (Some line) c wanted l e =
     let is : line ≡ Add l.2.id (clause_of line) l.2.hints = l.2.is in
     (l.2.id, l.2.hints, ap Some is ∙ ap (λ d. Some (Add l.2.id d l.2.hints)) (some_is _ _ _ e))
-ends_with Closed n v ks ls end c wanted (lines, (line, is, next)) e =
+ends_with Closed n v ks ls end c wanted (lines, (line, is, next), led) e =
     let nil : [] ≡ c = some_is _ _ _ (sym (ap (option_map clause_of) is ∙ ap (λ x. Some (clause_of x)) next.is) ∙ e) in
     (next.id, next.hints, is ∙ ap Some next.is ∙ ap (λ d. Some (Add next.id d next.hints)) nil)
 
@@ -88,6 +88,12 @@ pub base_of : (log : Logging) (n : Numbering) (v : ℕ) (ks : List Kept) (ls : L
 base_of Unwanted n v ks ls end wanted l = absurd (is_unlogged wanted)
 base_of Open n v ks ls end wanted l = l.0.base
 base_of Closed n v ks ls end wanted l = l.0.base
+
+-- the room of a log that is wanted
+pub room_of : (log : Logging) (n : Numbering) (v : ℕ) (ks : List Kept) (ls : List Line) (end : Option Line) → is_wanted log ≡ true → IsLog log n v ks ls end → n.room ≤ 2147483647
+room_of Unwanted n v ks ls end wanted l = absurd (is_unlogged wanted)
+room_of Open n v ks ls end wanted l = l.0.small
+room_of Closed n v ks ls end wanted l = l.0.small
 
 pub above_room : (base room id : ℕ) (ks : List Kept) → base ≡ length (added ks) → id ≡ length ks + room + 1 → base + room < id
 above_room base room id ks same is = let le = length-added ks in omega (arith, same, is, le)

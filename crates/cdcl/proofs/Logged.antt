@@ -1,5 +1,5 @@
 -- The lines of a log lead from the formula to the clauses as they are.
-use Rattle.std.proofs.Common.{◌≡◌, ◌≢◌, ◌==◌, ◌∙◌, inl, inr, ℕ, zero, suc, ◌+◌, ◌<◌, ◌≤◌, nat_lt, if◌then◌else◌, Bool, true, false, cond, List, [], ◌∷◌, ◌++◌, length, slice_index_or, map, All, Option, None, Some, IfSome, ℤ, pos, neg_ℤ, unsigned_abs, refl, sym, ap, subst, arith, length-append}
+use Rattle.std.proofs.Common.{◌≡◌, ◌≢◌, ◌==◌, ◌∙◌, inl, inr, ℕ, zero, suc, ◌+◌, ◌<◌, ◌≤◌, nat_lt, if◌then◌else◌, Bool, true, false, cond, List, [], ◌∷◌, ◌++◌, length, slice_index_or, map, All, Option, None, Some, IfSome, Result, Ok, Err, IfOk, OnErr, ℤ, pos, neg_ℤ, unsigned_abs, refl, sym, ap, subst, arith, length-append}
 use Rattle.std.specs.FinMap as fin
 use Rattle.std.specs.Ordering.{nat_cmp, eq_by_cmp}
 use Rattle.std.specs.Cmp.{nat_cmp_total, eq_by_cmp_equiv}
@@ -22,7 +22,7 @@ use Rattle.cdcl_kernel.specs.Known.{Known, with_clause, IsLearned, Learns}
 use Rattle.cdcl_kernel.specs.declared.origin.Origin.TheVariants.{Learned}
 use Rattle.cdcl_kernel.proofs.Follow.{added_learned}
 use Rattle.cdcl_kernel.proofs.Forgetting.{by_eq}
-use Rattle.cdcl.specs.Logged.{shifted, first_id, start, AreNumbered, AreLines, LeadTo, IsNext, clause_of, formula_of, IsLog, as_added, is_wanted}
+use Rattle.cdcl.specs.Logged.{shifted, first_id, start, AreNumbered, AreLines, LeadTo, Reaches, IsNext, clause_of, formula_of, IsLog, as_added, is_wanted}
 use Rattle.cdcl.specs.declared.logging.Logging.{Logging}
 use Rattle.cdcl.specs.declared.logging.Logging.TheVariants.{Unwanted, Open, Closed}
 use Rattle.cdcl.specs.declared.numbering.Numbering.{Numbering}
@@ -110,10 +110,10 @@ used : (ks : List Kept) (id : ℕ) (c : List ℤ) → find_in ks id ≡ Some c �
 used ks zero c e = absurd (none_some c e)
 used ks (suc i) c e = let lt = in_list ks i c e in (omega arith, omega arith)
 
-begun_all : (v : ℕ) (n : Numbering) (cs : List (List ℤ)) → n.base ≡ length cs → n.shared ≡ 0 → IsLog Open n v (map as_added cs) [] None
-begun_all v n cs base none =
+begun_all : (v : ℕ) (n : Numbering) (cs : List (List ℤ)) → n.base ≡ length cs → n.shared ≡ 0 → n.room ≤ 2147483647 → IsLog Open n v (map as_added cs) [] None
+begun_all v n cs base none small =
     let all : length (added (map as_added cs)) ≡ length cs = length_added cs ∙ length_as_added cs in (
-      record { base = base ∙ sym all; shared = omega (arith, none); in_limits = All-nil IsLine; numbered = tt },
+      record { base = base ∙ sym all; shared = omega (arith, none); in_limits = All-nil IsLine; small = small; numbered = tt },
       record {
         reached = start (formula_of v (map as_added cs)) n.room;
         along = refl;
@@ -127,8 +127,8 @@ begun_all v n cs base none =
       tt,
     )
 
-pub begun : (v : ℕ) (n : Numbering) (cs : List (List ℤ)) (ks : List Kept) → n.base ≡ length cs → n.shared ≡ 0 → ks ≡ map as_added cs → IsLog Open n v ks [] None
-begun v n cs ks base none e = subst (λ us. IsLog Open n v us [] None) (sym e) (begun_all v n cs base none)
+pub begun : (v : ℕ) (n : Numbering) (cs : List (List ℤ)) (ks : List Kept) → n.base ≡ length cs → n.shared ≡ 0 → n.room ≤ 2147483647 → ks ≡ map as_added cs → IsLog Open n v ks [] None
+begun v n cs ks base none small e = subst (λ us. IsLog Open n v us [] None) (sym e) (begun_all v n cs base none small)
 
 -- ---- one line more
 
@@ -306,6 +306,7 @@ logged_open v n ks ls end c hints id small few is log lits line open_ =
         base = are.base;
         shared = let le = are.shared in omega (arith, le, length-append ls (Add id c (in_log n hints) ∷ []));
         in_limits = All-push IsLine ls _ are.in_limits next.in_limits;
+        small = are.small;
         numbered = numbered_more (first_id n) ls id c (in_log n hints) are.numbered (omega (arith, is, l.count)) open_ next.below;
       },
       record {
@@ -318,6 +319,14 @@ logged_open v n ks ls end c hints id small few is log lits line open_ =
       },
       tt,
     )
+
+-- ---- where a log that is closed has led to
+
+reaches_more : (f : Formula) (n : Numbering) (ks now : List Kept) (ls : List Line) → length ks ≤ length now → Reaches f n ks ls → Reaches f n now ls
+reaches_more f n ks now ls le r = record { reached = r.reached; along = r.along; top = let top = r.top in omega (arith, top, le) }
+
+reaches_by : (f : Formula) (n : Numbering) (ks : List Kept) (ls : List Line) → LeadTo f n ks ls → Reaches f n ks ls
+reaches_by f n ks ls l = record { reached = l.reached; along = l.along; top = omega (arith, l.top) }
 
 -- ---- clauses that are forgotten
 
@@ -348,17 +357,19 @@ logged_forgets Open n v m ks now ls end reasons ids vars same out l =
     )
 logged_forgets Closed n v m ks now ls end reasons ids vars same out l =
     let f : formula_of m now ≡ formula_of v ks = ap (λ u. record { vars = u; clauses = added now }) vars ∙ ap (λ cs. record { vars = v; clauses = cs }) same in
-    subst (λ (f : Formula). AreLines f n ls × ((l : Line) × (end ≡ Some l) × IsNext f n ls [] l)) (sym f) l
+    subst (λ (f : Formula). AreLines f n ls × ((l : Line) × (end ≡ Some l) × IsNext f n ls [] l) × Reaches f n now ls) (sym f)
+    (l.0, l.1, reaches_more (formula_of v ks) n ks now ls (omega (arith, out.same_ids)) l.2)
 
 -- ---- where no line is written
 
 -- a log that is not open stays as it is
-pub logged_not : (log : Logging) (n : Numbering) (v m : ℕ) (ks now : List Kept) (ls : List Line) (end : Option Line) → (log ≡ Open → ⊥) → m ≡ v → added now ≡ added ks → IsLog log n v ks ls end → IsLog log n m now ls end
-logged_not Unwanted n v m ks now ls end ne vars same l = tt
-logged_not Open n v m ks now ls end ne vars same l = absurd (ne refl)
-logged_not Closed n v m ks now ls end ne vars same l =
+pub logged_not : (log : Logging) (n : Numbering) (v m : ℕ) (ks now : List Kept) (ls : List Line) (end : Option Line) → (log ≡ Open → ⊥) → m ≡ v → added now ≡ added ks → length ks ≤ length now → IsLog log n v ks ls end → IsLog log n m now ls end
+logged_not Unwanted n v m ks now ls end ne vars same le l = tt
+logged_not Open n v m ks now ls end ne vars same le l = absurd (ne refl)
+logged_not Closed n v m ks now ls end ne vars same le l =
     let f : formula_of m now ≡ formula_of v ks = ap (λ u. record { vars = u; clauses = added now }) vars ∙ ap (λ cs. record { vars = v; clauses = cs }) same in
-    subst (λ (f : Formula). AreLines f n ls × ((l : Line) × (end ≡ Some l) × IsNext f n ls [] l)) (sym f) l
+    subst (λ (f : Formula). AreLines f n ls × ((l : Line) × (end ≡ Some l) × IsNext f n ls [] l) × Reaches f n now ls) (sym f)
+    (l.0, l.1, reaches_more (formula_of v ks) n ks now ls le l.2)
 
 -- one that is not wanted says nothing
 pub logged_unwanted : (log : Logging) (n : Numbering) (v : ℕ) (ks : List Kept) (ls : List Line) (end : Option Line) → is_wanted log ≡ false → IsLog log n v ks ls end
@@ -377,6 +388,15 @@ closed_of Open ne e = absurd (ne refl)
 closed_of Closed ne e = refl
 
 -- ---- what the calls of the kernel leave of a log
+
+pub learns_grows : (old new : Known) (c : List ℤ) (hints : List ℕ) (b : Bool) → Learns old new c hints b → length old.kept ≤ length new.kept
+learns_grows old new c hints true l = omega (arith, ap (λ (k : Known). length k.kept) l.1, length_learned old.kept c)
+learns_grows old new c hints false l = omega (arith, ap (λ (k : Known). length k.kept) l.1)
+
+-- no id goes, whatever a call answers that adds one or is refused
+pub grows : {A E : Type 0} (old new : Known) (r : Result A E) (P : A → Type 0) → IfOk r P → ((a : A) → P a → length old.kept ≤ length new.kept) → OnErr r (new ≡ old) → length old.kept ≤ length new.kept
+grows old new (Ok a) P p more same = more a p
+grows old new (Err e) P p more same = omega (arith, ap (λ (k : Known). length k.kept) same)
 
 pub learned_of : (old new : Known) (c : List ℤ) (hints : List ℕ) (b : Bool) → b ≡ true → Learns old new c hints b → IsLearned old c hints × (new ≡ with_clause old Learned c)
 learned_of old new c hints true e l = l
@@ -397,8 +417,12 @@ learned_closed old new n ls end c hints id small few is log l nil =
     let line : Line = Add id c (in_log n hints) in
     let next : IsNext (formula_of old.vars old.kept) n ls c line = next_line old.vars n old.kept ls c hints id small few is log.1 l.0.literals l.0.accepted in
     subst (λ (k : Known). IsLog Closed n k.vars k.kept ls (Some line)) (sym l.1)
-    (subst (λ (f : Formula). AreLines f n ls × ((l : Line) × (Some line ≡ Some l) × IsNext f n ls [] l)) (sym same)
-    (log.0, (line, refl, subst (λ d. IsNext (formula_of old.vars old.kept) n ls d line) nil next)))
+    (subst (λ (f : Formula). AreLines f n ls × ((l : Line) × (Some line ≡ Some l) × IsNext f n ls [] l) × Reaches f n (with_clause old Learned c).kept ls) (sym same)
+    (
+      log.0,
+      (line, refl, subst (λ d. IsNext (formula_of old.vars old.kept) n ls d line) nil next),
+      reaches_more (formula_of old.vars old.kept) n old.kept (with_clause old Learned c).kept ls (omega (arith, length_learned old.kept c)) (reaches_by (formula_of old.vars old.kept) n old.kept ls log.1),
+    ))
 
 -- a core's clause is a line that may follow
 pub core_open : (old new : Known) (n : Numbering) (ls : List Line) (end : Option Line) (c : List ℤ) (hints : List ℕ) (id : ℕ) → new.vars ≤ 2147483647 → length new.kept + n.room < 4294967295 → id ≡ length new.kept + n.room + 1

@@ -1,5 +1,5 @@
 -- What shows that nothing satisfies a formula with some units, over the lines of a log.
-use Rattle.std.specs.Prelude.{◌≡◌, ℕ, ℤ, pos, ◌+◌, ◌<◌, List, [], ◌∷◌, ◌++◌, map, length, get_or, unsigned_abs, All, Contains, Some}
+use Rattle.std.specs.Prelude.{◌≡◌, ℕ, ℤ, pos, ◌+◌, ◌<◌, ◌≤◌, List, [], ◌∷◌, ◌++◌, map, length, get_or, unsigned_abs, All, Contains, Some}
 use Rattle.std.specs.FinMap as fin
 use Rattle.base.specs.Budget.{Steps}
 use Rattle.lrat.specs.Literals.{Finder}
@@ -60,11 +60,12 @@ IsShown r us after Spent = after.left ≡ 0
 abbrev pub section_of : ℕ → List ℤ → Closing → List Line
 section_of top us k = Add (top + length us + 1) [] (hints_behind top k) ∷ []
 
--- the lines follow from the formula, none is the empty clause, and over what they lead to the section of each closing is accepted, with
+-- the lines follow from the formula, none is the empty clause, their greatest id is one of those that are taken, and over what they lead to the section of each closing is accepted, with
 -- the units that it was shown for
 pub record AreLemmas (r : Refuting) (ks : List Closing) (l : Lemmas) : Type 0 where
   pub in_limits : All IsLine l.proof
   pub reached : Stage
   pub extends : Extends r.formula.vars (first_stage r.formula) l.proof reached
   pub top : reached.top ≡ l.top
+  pub counted : l.top ≤ l.taken.ids
   pub sections : All (λ k. (us : List ℤ) → IsClosingOf r us k → IsAcceptedOver (base_at r.formula.vars reached) us (section_of l.top us k)) ks

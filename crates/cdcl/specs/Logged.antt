@@ -37,6 +37,7 @@ pub record AreLines (f : Formula) (n : Numbering) (ls : List Line) : Type 0 wher
   pub base : n.base ≡ length f.clauses
   pub shared : n.shared ≤ length ls
   pub in_limits : All IsLine ls
+  pub small : n.room ≤ 2147483647
   pub numbered : AreNumbered (first_id n) ls
 
 -- the lines lead from the clauses that were added to a stage that has the kernel's clauses
@@ -47,6 +48,12 @@ pub record LeadTo (f : Formula) (n : Numbering) (ks : List Kept) (ls : List Line
   pub top : reached.top ≡ length ks + n.room
   pub count : length ks ≡ n.base + length ls
   pub is_open : reached.closed ≡ false
+
+-- the lines lead somewhere, by ids that are taken
+pub record Reaches (f : Formula) (n : Numbering) (ks : List Kept) (ls : List Line) : Type 0 where
+  pub reached : Stage
+  pub along : GoAlong f.vars (start f n.room) ls reached
+  pub top : reached.top ≤ length ks + n.room
 
 -- the line adds a clause behind the others
 pub record IsNext (f : Formula) (n : Numbering) (ls : List Line) (c : List ℤ) (l : Line) : Type 0 where
@@ -71,7 +78,7 @@ formula_of n ks = record { vars = n; clauses = added ks }
 abbrev pub IsLog : Logging → Numbering → ℕ → List Kept → List Line → Option Line → Type 0
 IsLog Unwanted n v ks ls end = Unit {0}
 IsLog Open n v ks ls end = AreLines (formula_of v ks) n ls × LeadTo (formula_of v ks) n ks ls × IfSome end (λ l. IsNext (formula_of v ks) n ls (clause_of l) l)
-IsLog Closed n v ks ls end = AreLines (formula_of v ks) n ls × ((l : Line) × (end ≡ Some l) × IsNext (formula_of v ks) n ls [] l)
+IsLog Closed n v ks ls end = AreLines (formula_of v ks) n ls × ((l : Line) × (end ≡ Some l) × IsNext (formula_of v ks) n ls [] l) × Reaches (formula_of v ks) n ks ls
 
 -- what a search may not change: the variables, the clauses that were added, how far a log has come, its room for
 -- units and its lines on which closings rest; and the clause of the line that may follow, and how many ids are taken, by

@@ -3,6 +3,7 @@
 ghost use Rattle.std.specs.Prelude.{◌≡◌, IfErr};
 ghost use Rattle.cdcl.specs.Keeping.{Keeps};
 ghost use Rattle.solver.specs.declared.sat_error.SatError.TheVariants.{Limit, OutOfMemory};
+ghost use Rattle.solver.specs.Full.{full};
 ghost use Rattle.base.specs.Witness.{witness};
 ghost use Rattle.cdcl.specs.Logged.{IsFull};
 
@@ -20,7 +21,7 @@ use solver::SatError;
 /// since a literal that comes on the trail at level 0 is learned as a clause behind them.
 pub fn attach_new(kernel: &mut LoggedKernel, guide: &mut Guide) -> Result<(), SatError>
     ensures keeps { Keeps kernel.old kernel.new }
-    ensures limit { IfErr result (λ e. e ≡ Limit → IsFull kernel.new) }
+    ensures limit { IfErr result (λ e. e ≡ Limit full → IsFull kernel.new) }
 {
     let first = guide.watches.len();
     let last = kernel.known().clauses();
@@ -37,7 +38,7 @@ pub fn attach_new(kernel: &mut LoggedKernel, guide: &mut Guide) -> Result<(), Sa
 /// watched is looked at at level 0.
 fn attach(kernel: &mut LoggedKernel, guide: &mut Guide, id: u32) -> Result<(), SatError>
     ensures keeps { Keeps kernel.old kernel.new }
-    ensures limit { IfErr result (λ e. e ≡ Limit → IsFull kernel.new) }
+    ensures limit { IfErr result (λ e. e ≡ Limit full → IsFull kernel.new) }
 {
     if let Some(clause) = kernel.known().clause(id) {
         guide.take_in(clause)?;
@@ -73,7 +74,7 @@ fn watch(kernel: &Kernel, guide: &mut Guide, id: u32) -> Result<bool, SatError>
 /// Brings the literal that a clause leaves on the trail. A clause that is false waits to be met.
 fn bring(kernel: &mut LoggedKernel, guide: &mut Guide, id: u32) -> Result<(), SatError>
     ensures keeps { Keeps kernel.old kernel.new }
-    ensures limit { IfErr result (λ e. e ≡ Limit → IsFull kernel.new) }
+    ensures limit { IfErr result (λ e. e ≡ Limit full → IsFull kernel.new) }
 {
     if let Found::Conflict = imply(kernel, guide, id)? {
         guide.waiting = Some(id);
@@ -84,7 +85,7 @@ fn bring(kernel: &mut LoggedKernel, guide: &mut Guide, id: u32) -> Result<(), Sa
 /// Brings the literal of the clause at a place of those that have one.
 fn bring_at(kernel: &mut LoggedKernel, guide: &mut Guide, at: usize) -> Result<(), SatError>
     ensures keeps { Keeps kernel.old kernel.new }
-    ensures limit { IfErr result (λ e. e ≡ Limit → IsFull kernel.new) }
+    ensures limit { IfErr result (λ e. e ≡ Limit full → IsFull kernel.new) }
 {
     match guide.single.get(at).copied() {
         Some(id) => bring(kernel, guide, id),
@@ -95,7 +96,7 @@ fn bring_at(kernel: &mut LoggedKernel, guide: &mut Guide, at: usize) -> Result<(
 /// Brings the literals of the clauses on the trail that have one. At level 0 they stay there.
 fn bring_single(kernel: &mut LoggedKernel, guide: &mut Guide) -> Result<(), SatError>
     ensures keeps { Keeps kernel.old kernel.new }
-    ensures limit { IfErr result (λ e. e ≡ Limit → IsFull kernel.new) }
+    ensures limit { IfErr result (λ e. e ≡ Limit full → IsFull kernel.new) }
 {
     for at in 0..guide.single.len() {
         bring_at(kernel, guide, at)?;
@@ -116,7 +117,7 @@ fn two_open(kernel: &Kernel, id: u32) -> Option<(i32, i32)> {
 /// Lets a clause wait no longer that is not false.
 pub fn recall(kernel: &mut LoggedKernel, guide: &mut Guide) -> Result<(), SatError>
     ensures keeps { Keeps kernel.old kernel.new }
-    ensures limit { IfErr result (λ e. e ≡ Limit → IsFull kernel.new) }
+    ensures limit { IfErr result (λ e. e ≡ Limit full → IsFull kernel.new) }
 {
     if let Some(id) = guide.waiting {
         guide.waiting = match imply(kernel, guide, id)? {

@@ -11,6 +11,7 @@ ghost use Rattle.cdcl.specs.Settled.{Ends};
 ghost use Rattle.lrat.specs.Literals.{IsLiteral};
 ghost use Rattle.solver.specs.Answers.{IsCore};
 ghost use Rattle.solver.specs.declared.sat_error.SatError.TheVariants.{Limit};
+ghost use Rattle.solver.specs.Full.{full};
 ghost use Rattle.cdcl.specs.Logged.{IsFull};
 
 use crate::analysis::{begin, finish, take_step};
@@ -30,7 +31,7 @@ pub fn empty_core(
     ensures keeps { Keeps kernel.old kernel.new }
     ensures core { IfOk result (λ r. IfSome r (λ core. IsCore kernel.old.clauses assume.now core.items)) }
     ensures ends { IfOk result (λ r. IfSome r (λ core. Ends kernel.old kernel.new assume.now)) }
-    ensures limit { IfErr result (λ e. e ≡ Limit → IsFull kernel.new) }
+    ensures limit { IfErr result (λ e. e ≡ Limit full → IsFull kernel.new) }
 {
     begin(guide);
     see_all(kernel.known(), guide, conflict)?;
@@ -49,7 +50,7 @@ pub fn core_of_denied(
     ensures keeps { Keeps kernel.old kernel.new }
     ensures core { IfOk result (λ r. IfSome r (λ core. IsCore kernel.old.clauses assume.now core.items)) }
     ensures ends { IfOk result (λ r. IfSome r (λ core. Ends kernel.old kernel.new assume.now)) }
-    ensures limit { IfErr result (λ e. e ≡ Limit → IsFull kernel.new) }
+    ensures limit { IfErr result (λ e. e ≡ Limit full → IsFull kernel.new) }
 {
     let place = guide.levels.place_of(literal);
     let Some(reason) = kernel.known().reason(place) else {
@@ -75,7 +76,7 @@ fn checked_core(
     ensures keeps { Keeps kernel.old kernel.new }
     ensures core { IfOk result (λ r. IfSome r (λ core. IsCore kernel.old.clauses assume.now core.items)) }
     ensures ends { IfOk result (λ r. IfSome r (λ core. Ends kernel.old kernel.new assume.now)) }
-    ensures limit { IfErr result (λ e. e ≡ Limit → IsFull kernel.new) }
+    ensures limit { IfErr result (λ e. e ≡ Limit full → IsFull kernel.new) }
 {
     let core = kernel.core_of(
         guide.alloc,

@@ -7,6 +7,7 @@
 ghost use Rattle.std.specs.Prelude.{◌≡◌, IfErr};
 ghost use Rattle.cdcl.specs.Keeping.{Keeps};
 ghost use Rattle.solver.specs.declared.sat_error.SatError.TheVariants.{Limit};
+ghost use Rattle.solver.specs.Full.{full};
 ghost use Rattle.cdcl.specs.Logged.{IsFull};
 
 use crate::analysis::analyse;
@@ -26,7 +27,7 @@ pub fn learn(
     level: usize,
 ) -> Result<(), SatError>
     ensures keeps { Keeps kernel.old kernel.new }
-    ensures limit { IfErr result (λ e. e ≡ Limit → IsFull kernel.new) }
+    ensures limit { IfErr result (λ e. e ≡ Limit full → IsFull kernel.new) }
 {
     go_back(kernel, guide, level)?;
     analyse(kernel.known(), guide, conflict, level)?;
@@ -49,7 +50,7 @@ fn learn_clause(
     conflict: u32,
 ) -> Result<bool, SatError>
     ensures keeps { Keeps kernel.old kernel.new }
-    ensures limit { IfErr result (λ e. e ≡ Limit → IsFull kernel.new) }
+    ensures limit { IfErr result (λ e. e ≡ Limit full → IsFull kernel.new) }
 {
     if kernel.learn(guide.alloc, guide.clause.as_slice(), guide.hints.as_slice())? {
         return Ok(true);

@@ -8,32 +8,46 @@ ghost use Rattle.cdcl.specs.Closings.{IsClosingOf, hints_of, section_of};
 ghost use Rattle.cdcl.specs.Refuting.{Refuting};
 ghost use Rattle.cdcl.specs.Selected.{IsAddition};
 ghost use Rattle.solver.specs.declared.sat_error.SatError.TheVariants.{Limit, OutOfMemory};
+ghost use Rattle.solver.specs.Full.{full};
 
 use crate::closing::unit_ids;
 use crate::numbering::Numbering;
 use crate::shown::Closing;
 use base::{Refused, Seq, extend};
 use lrat::{Clause, Line, Proof};
-use solver::SatError;
+use solver::{SatError, Taken};
 use std::alloc::Global;
 
-/// Lines that follow from a formula, and the greatest id that is present behind them.
+/// Lines that follow from a formula, the greatest id that is present behind them, and the ids of
+/// which it is one.
 #[derive(Drop)]
 pub struct Lemmas {
     pub proof: Proof,
     pub top: u32,
+    pub taken: Taken,
 }
 
 /// The section of a closing with the units that it was shown for, one line behind lemmas whose greatest
-/// id is `top`. It is refused for `Limit` exactly where the line's id would be over 4,294,967,295.
-pub fn section(alloc: Global, closing: &Closing, top: u32, units: &[i32]) -> Result<Proof, SatError>
+/// id is `top`, one of those that are taken. It is refused for `Limit` exactly where the line's id would be over 4,294,967,295.
+pub fn section(
+    alloc: Global,
+    closing: &Closing,
+    top: u32,
+    taken: Taken,
+    units: &[i32],
+) -> Result<Proof, SatError>
     requires shown { (r : Refuting) × IsClosingOf r units.now closing.now }
+    requires counted { top ≤ taken.ids }
     ensures line { IfOk result (λ p. p ≡ section_of top units.now closing.now) }
-    ensures refused { IfErr result (λ e. ((e ≡ Limit) × (4294967295 ≤ top + length units.now)) ⊎ (e ≡ OutOfMemory witness)) }
+    ensures refused { IfErr result (λ e. ((e ≡ Limit full) × (4294967295 ≤ top + length units.now)) ⊎ (e ≡ OutOfMemory witness)) }
 {
     let before = u64::from(top) + units.len() as u64;
     if before >= 4_294_967_295 {
-        return Err(SatError::Limit);
+        match taken.next_id(units) {
+            Err(full) => return Err(SatError::Limit(full)),
+            // the greatest id is one of those
+            Ok(_) => unreachable!(),
+        }
     }
     let numbering = Numbering {
         base: top,

@@ -5,6 +5,7 @@ ghost use Rattle.lrat.specs.Limits.{IsLine};
 ghost use Rattle.lrat.specs.declared.line.Line.TheVariants.{Add};
 ghost use Rattle.cdcl.specs.Logged.{shifted};
 ghost use Rattle.solver.specs.declared.sat_error.SatError.TheVariants.{Limit};
+ghost use Rattle.solver.specs.Full.{full};
 
 use crate::numbering::Numbering;
 use base::{Refused, Seq, push};
@@ -15,17 +16,15 @@ use std::alloc::Global;
 
 /// The id that the next clause has in the log. It is refused where it would be over 4,294,967,295.
 pub fn next_id(kernel: &Kernel, numbering: Numbering) -> Result<u32, SatError>
+    requires { numbering.room ≤ 2147483647 }
     ensures value { IfOk result (λ id. id ≡ length kernel.now.kept + numbering.room + 1) }
     ensures few { OnOk result (length kernel.now.kept + numbering.room < 4294967295) }
     ensures small { kernel.now.vars ≤ 2147483647 }
-    ensures limit { IfErr result (λ e. (e ≡ Limit) × (4294967295 ≤ length kernel.now.kept + numbering.room)) }
+    ensures limit { IfErr result (λ e. (e ≡ Limit full) × (4294967295 ≤ length kernel.now.kept + numbering.room)) }
 {
     let _vars = kernel.vars();
-    let taken = kernel.clauses() as u64 + u64::from(numbering.room);
-    if taken >= 4_294_967_295 {
-        return Err(SatError::Limit);
-    }
-    Ok(taken as u32 + 1)
+    let id = kernel.taken(numbering.room).next_id(&[])?;
+    Ok(id)
 }
 
 /// The greatest id, or 0.

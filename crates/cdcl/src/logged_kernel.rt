@@ -21,6 +21,7 @@ ghost use Rattle.lrat.specs.Literals.{IsLiteral};
 ghost use Rattle.lrat.specs.Proofs.{IsAcceptedProof};
 ghost use Rattle.solver.specs.Answers.{IsCore, IsModel};
 ghost use Rattle.solver.specs.declared.sat_error.SatError.TheVariants.{Limit, OutOfMemory};
+ghost use Rattle.solver.specs.Full.{full};
 ghost use Rattle.base.specs.Witness.{witness};
 
 use crate::closing::{closing_line, denied_places, opposed_line};
@@ -82,9 +83,10 @@ impl LoggedKernel {
 
     /// The clauses of the formula, and a log without lines, which has room for this number of units.
     pub fn of_formula(alloc: Global, formula: &Formula, room: u32) -> Result<LoggedKernel, SatError>
-        requires { IsFormula formula.now }
+        requires formula { IsFormula formula.now }
+        requires small { room ≤ 2147483647 }
         ensures loaded { IfOk result (λ k. k ≡ record { vars = formula.now.vars; clauses = formula.now.clauses; log = Open; room = room; shared = []; end = None; ids = length formula.now.clauses + room }) }
-        ensures unlimited { IfErr result (λ e. e ≢ Limit) }
+        ensures unlimited { IfErr result (λ e. e ≢ Limit full) }
     {
         let base = formula.clauses.len() as u32;
         Ok(LoggedKernel {
@@ -131,7 +133,7 @@ impl LoggedKernel {
         ensures ok { OnOk result (self.new.clauses ≡ self.old.clauses ++ clause.now ∷ []) }
         ensures taken { OnOk result (self.new.ids ≡ self.old.ids + 1) }
         ensures err { OnErr result (self.new ≡ self.old) }
-        ensures limit { IfErr result (λ e. e ≡ Limit → IsFull self.old) }
+        ensures limit { IfErr result (λ e. e ≡ Limit full → IsFull self.old) }
     {
         self.kernel.add(clause)
     }
@@ -166,7 +168,7 @@ impl LoggedKernel {
     /// only where all ids are taken.
     pub fn learn(&mut self, alloc: Global, clause: &[i32], hints: &[u32]) -> Result<bool, SatError>
         ensures keeps { Keeps self.old self.new }
-        ensures limit { IfErr result (λ e. e ≡ Limit → IsFull self.new) }
+        ensures limit { IfErr result (λ e. e ≡ Limit full → IsFull self.new) }
     {
         match self.log {
             Logging::Open => self.learn_logged(alloc, clause, hints),
@@ -184,7 +186,7 @@ impl LoggedKernel {
     ) -> Result<bool, SatError>
         requires { self.old.log ≡ Open }
         ensures keeps { Keeps self.old self.new }
-        ensures limit { IfErr result (λ e. e ≡ Limit → IsFull self.new) }
+        ensures limit { IfErr result (λ e. e ≡ Limit full → IsFull self.new) }
     {
         let id = next_id(&self.kernel, self.numbering)?;
         let line = added_line(alloc, id, clause, hints, self.numbering)?;
@@ -208,7 +210,7 @@ impl LoggedKernel {
         conflict: u32,
     ) -> Result<Option<Vec<i32>>, SatError>
         ensures keeps { Keeps self.old self.new }
-        ensures limit { IfErr result (λ e. e ≡ Limit → IsFull self.new) }
+        ensures limit { IfErr result (λ e. e ≡ Limit full → IsFull self.new) }
     {
         let Found::Conflict = self.kernel.imply(conflict)? else {
             return Ok(None);
@@ -227,7 +229,7 @@ impl LoggedKernel {
     ) -> Result<Option<Vec<i32>>, SatError>
         requires { self.old.log ≡ Open }
         ensures keeps { Keeps self.old self.new }
-        ensures limit { IfErr result (λ e. e ≡ Limit → IsFull self.new) }
+        ensures limit { IfErr result (λ e. e ≡ Limit full → IsFull self.new) }
     {
         let clause = self.kernel.denial(alloc)?;
         let hints = self.kernel.denial_hints(alloc, conflict)?;
@@ -258,7 +260,7 @@ impl LoggedKernel {
         ensures keeps { Keeps self.old self.new }
         ensures core { IfOk result (λ r. IfSome r (λ core. IsCore self.old.clauses assume.now core.items)) }
         ensures ends { IfOk result (λ r. IfSome r (λ core. Ends self.old self.new assume.now)) }
-        ensures limit { IfErr result (λ e. e ≡ Limit → IsFull self.new) }
+        ensures limit { IfErr result (λ e. e ≡ Limit full → IsFull self.new) }
     {
         let Some(core) = self.kernel.core_of(alloc, clause, hints, assume)? else {
             return Ok(None);
@@ -311,7 +313,7 @@ impl LoggedKernel {
         requires in_range { unsigned_abs literal ≤ 2147483647 }
         requires few { length units.now ≤ self.now.room }
         ensures accepted { IfOk result (λ p. IsAcceptedProof (with_units (added_to self.now) units.now) p) }
-        ensures limit { IfErr result (λ e. e ≡ Limit → IsFull self.now) }
+        ensures limit { IfErr result (λ e. e ≡ Limit full → IsFull self.now) }
     {
         let id = next_id(&self.kernel, self.numbering)?;
         let line = opposed_line(alloc, self.numbering, units, id, literal)?;
@@ -354,7 +356,8 @@ impl LoggedKernel {
         let lines = self.lines.as_slice();
         let proof = wanted_lines(alloc, lines, self.numbering.first_id(), hints)?;
         let top = greatest_id(proof.lines(), self.numbering.base);
-        Ok(Lemmas { proof, top })
+        let taken = self.kernel.taken(self.numbering.room);
+        Ok(Lemmas { proof, top, taken })
     }
 }
 

@@ -10,6 +10,7 @@ ghost use Rattle.std.specs.Prelude.{◌≡◌, IfErr};
 ghost use Rattle.base.specs.Budget.{Spends};
 ghost use Rattle.cdcl.specs.Keeping.{Keeps};
 ghost use Rattle.solver.specs.declared.sat_error.SatError.TheVariants.{Limit};
+ghost use Rattle.solver.specs.Full.{full};
 ghost use Rattle.cdcl.specs.Logged.{IsFull};
 
 use crate::guide::Guide;
@@ -50,7 +51,7 @@ pub fn propagate(
 ) -> Result<Propagated, SatError>
     ensures keeps { Keeps kernel.old kernel.new }
     ensures spends { Spends budget.old budget.new }
-    ensures limit { IfErr result (λ e. e ≡ Limit → IsFull kernel.new) }
+    ensures limit { IfErr result (λ e. e ≡ Limit full → IsFull kernel.new) }
 {
     for _ in 0..kernel.known().vars() as u64 + 1 {
         let Some(literal) = kernel.known().literal(guide.head) else {
@@ -74,7 +75,7 @@ fn propagate_literal(
 ) -> Result<Propagated, SatError>
     ensures keeps { Keeps kernel.old kernel.new }
     ensures spends { Spends budget.old budget.new }
-    ensures limit { IfErr result (λ e. e ≡ Limit → IsFull kernel.new) }
+    ensures limit { IfErr result (λ e. e ≡ Limit full → IsFull kernel.new) }
 {
     match visit_binary(kernel, guide, budget, denied)? {
         Propagated::Quiet => {}
@@ -95,7 +96,7 @@ fn visit_binary(
 ) -> Result<Propagated, SatError>
     ensures keeps { Keeps kernel.old kernel.new }
     ensures spends { Spends budget.old budget.new }
-    ensures limit { IfErr result (λ e. e ≡ Limit → IsFull kernel.new) }
+    ensures limit { IfErr result (λ e. e ≡ Limit full → IsFull kernel.new) }
 {
     for at in 0..guide.watches.binary(denied).len() {
         let Some(watch) = guide.watches.binary(denied).get(at).copied() else {
@@ -125,7 +126,7 @@ fn visit_long(
 ) -> Result<Propagated, SatError>
     ensures keeps { Keeps kernel.old kernel.new }
     ensures spends { Spends budget.old budget.new }
-    ensures limit { IfErr result (λ e. e ≡ Limit → IsFull kernel.new) }
+    ensures limit { IfErr result (λ e. e ≡ Limit full → IsFull kernel.new) }
 {
     let mut kept = 0;
     for at in 0..list.len() {
@@ -182,7 +183,7 @@ fn look_at(
     id: u32,
 ) -> Result<Visit, SatError>
     ensures keeps { Keeps kernel.old kernel.new }
-    ensures limit { IfErr result (λ e. e ≡ Limit → IsFull kernel.new) }
+    ensures limit { IfErr result (λ e. e ≡ Limit full → IsFull kernel.new) }
 {
     let other = guide.watches.other(id, denied);
     if kernel.known().is_true(other) {

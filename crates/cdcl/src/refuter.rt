@@ -6,6 +6,7 @@ ghost use Rattle.base.specs.Witness.{witness};
 ghost use Rattle.cdcl.specs.Closings.{AreLemmas, IsClosingOf, IsShown, StaysShown};
 ghost use Rattle.cdcl.specs.Refuting.{refuting};
 ghost use Rattle.solver.specs.declared.sat_error.SatError.TheVariants.{Limit, OutOfMemory};
+ghost use Rattle.solver.specs.Full.{full};
 ghost use Rattle.cdcl_kernel.specs.Verdicts.{IsOpposed};
 ghost use Rattle.cdcl.specs.Keeping.{Keeps};
 ghost use Rattle.cdcl.specs.Logged.{EndDenies, added_to, is_wanted, with_units, IsFull};
@@ -50,14 +51,15 @@ impl Model for Refuter {
 }
 
 impl Refuter {
-    /// A solver that has loaded the formula, for lists of at most `room` units. It is refused only
-    /// when out of memory.
+    /// A solver that has loaded the formula, for lists of at most `room` units, which is less than half of all
+    /// ids. It is refused only when out of memory.
     pub fn new(alloc: Global, formula: &Formula, room: u32) -> Result<Refuter, SatError>
-        requires { IsFormula formula.now }
+        requires formula { IsFormula formula.now }
+        requires small { room ≤ 2147483647 }
         ensures formula { IfOk result (λ r. r.formula ≡ formula.now) }
         ensures room { IfOk result (λ r. r.room ≡ room) }
         ensures log { IfOk result (λ r. r.log ≡ []) }
-        ensures unlimited { IfErr result (λ e. e ≢ Limit) }
+        ensures unlimited { IfErr result (λ e. e ≢ Limit full) }
     {
         Ok(Refuter {
             kernel: LoggedKernel::of_formula(alloc, formula, room)?,
@@ -140,7 +142,7 @@ fn searched(
     ensures spends { Spends budget.old budget.new }
     ensures lawful { IfOk result (IsLawful kernel.old.vars kernel.old.clauses units.now budget.new) }
     ensures ends { IfOk result (EndsWith kernel.old kernel.new units.now) }
-    ensures limit { IfErr result (λ e. e ≡ Limit → IsFull kernel.new) }
+    ensures limit { IfErr result (λ e. e ≡ Limit full → IsFull kernel.new) }
 {
     let answer = search(kernel, guide, units, budget);
     if answer.is_err() {
@@ -178,7 +180,7 @@ fn proof(alloc: Global, kernel: &LoggedKernel, units: &[i32]) -> Result<Proof, S
     requires few { length units.now ≤ kernel.now.room }
     requires shown { ((l : ℤ) × IsOpposed units.now l) ⊎ EndDenies kernel.now units.now }
     ensures accepted { IfOk result (IsAcceptedProof (with_units (added_to kernel.now) units.now)) }
-    ensures limit { IfErr result (λ e. e ≡ Limit → IsFull kernel.now) }
+    ensures limit { IfErr result (λ e. e ≡ Limit full → IsFull kernel.now) }
 {
     let known = kernel.known();
     let _vars = known.vars();

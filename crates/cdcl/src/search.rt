@@ -7,6 +7,7 @@ ghost use Rattle.lrat.specs.Literals.{IsLiteral};
 ghost use Rattle.cdcl.specs.Settled.{EndsWith, IsSettled};
 ghost use Rattle.solver.specs.Answers.{IsLawful};
 ghost use Rattle.solver.specs.declared.sat_error.SatError.TheVariants.{Limit};
+ghost use Rattle.solver.specs.Full.{full};
 ghost use Rattle.cdcl.specs.Logged.{IsFull};
 
 use crate::analysis::top_level;
@@ -48,7 +49,7 @@ pub fn search(
     ensures spends { Spends budget.old budget.new }
     ensures lawful { IfOk result (IsLawful kernel.old.vars kernel.old.clauses assume.now budget.new) }
     ensures ends { IfOk result (EndsWith kernel.old kernel.new assume.now) }
-    ensures limit { IfErr result (λ e. e ≡ Limit → IsFull kernel.new) }
+    ensures limit { IfErr result (λ e. e ≡ Limit full → IsFull kernel.new) }
 {
     reuse_trail(kernel, guide, assume)?;
     guide.grow_to(assume)?;
@@ -74,7 +75,7 @@ fn turn(
     ensures spends { Spends budget.old budget.new }
     ensures lawful { IfOk result (λ r. IfSome r (IsSettled kernel.old assume.now)) }
     ensures ends { IfOk result (λ r. IfSome r (EndsWith kernel.old kernel.new assume.now)) }
-    ensures limit { IfErr result (λ e. e ≡ Limit → IsFull kernel.new) }
+    ensures limit { IfErr result (λ e. e ≡ Limit full → IsFull kernel.new) }
 {
     if let Some(conflict) = guide.waiting {
         return meet(kernel, guide, conflict, assume);
@@ -96,7 +97,7 @@ fn meet(
     ensures keeps { Keeps kernel.old kernel.new }
     ensures lawful { IfOk result (λ r. IfSome r (IsSettled kernel.old assume.now)) }
     ensures ends { IfOk result (λ r. IfSome r (EndsWith kernel.old kernel.new assume.now)) }
-    ensures limit { IfErr result (λ e. e ≡ Limit → IsFull kernel.new) }
+    ensures limit { IfErr result (λ e. e ≡ Limit full → IsFull kernel.new) }
 {
     guide.conflicts = guide.conflicts.saturating_add(1);
     let level = top_level(kernel.known(), guide, conflict);
@@ -127,7 +128,7 @@ fn advance(
     ensures keeps { Keeps kernel.old kernel.new }
     ensures lawful { IfOk result (λ r. IfSome r (IsSettled kernel.old assume.now)) }
     ensures ends { IfOk result (λ r. IfSome r (EndsWith kernel.old kernel.new assume.now)) }
-    ensures limit { IfErr result (λ e. e ≡ Limit → IsFull kernel.new) }
+    ensures limit { IfErr result (λ e. e ≡ Limit full → IsFull kernel.new) }
 {
     match choose(kernel.known(), guide, assume) {
         Next::Decide(literal) => {
@@ -175,7 +176,7 @@ fn look_through(
     ensures keeps { Keeps kernel.old kernel.new }
     ensures lawful { IfOk result (λ r. IfSome r (IsSettled kernel.old assume.now)) }
     ensures ends { IfOk result (λ r. IfSome r (EndsWith kernel.old kernel.new assume.now)) }
-    ensures limit { IfErr result (λ e. e ≡ Limit → IsFull kernel.new) }
+    ensures limit { IfErr result (λ e. e ≡ Limit full → IsFull kernel.new) }
 {
     let values = kernel.known().model_of(guide.alloc, assume)?;
     if values.is_none() {
@@ -187,7 +188,7 @@ fn look_through(
 /// Goes on where a clause has no true literal although no variable seemed open.
 fn repair(kernel: &mut LoggedKernel, guide: &mut Guide) -> Result<(), SatError>
     ensures keeps { Keeps kernel.old kernel.new }
-    ensures limit { IfErr result (λ e. e ≡ Limit → IsFull kernel.new) }
+    ensures limit { IfErr result (λ e. e ≡ Limit full → IsFull kernel.new) }
 {
     let Some(id) = kernel.known().unsatisfied() else {
         return Ok(());

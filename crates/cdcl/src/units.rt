@@ -6,6 +6,7 @@
 ghost use Rattle.std.specs.Prelude.{◌≡◌, IfErr};
 ghost use Rattle.cdcl.specs.Keeping.{Keeps};
 ghost use Rattle.solver.specs.declared.sat_error.SatError.TheVariants.{Limit};
+ghost use Rattle.solver.specs.Full.{full};
 ghost use Rattle.cdcl.specs.Logged.{IsFull};
 
 use crate::guide::Guide;
@@ -18,7 +19,7 @@ use solver::SatError;
 /// Puts the literal that a clause leaves on the trail.
 pub fn imply(kernel: &mut LoggedKernel, guide: &mut Guide, id: u32) -> Result<Found, SatError>
     ensures keeps { Keeps kernel.old kernel.new }
-    ensures limit { IfErr result (λ e. e ≡ Limit → IsFull kernel.new) }
+    ensures limit { IfErr result (λ e. e ≡ Limit full → IsFull kernel.new) }
 {
     let place = kernel.known().len();
     let found = kernel.imply(id)?;
@@ -39,7 +40,7 @@ fn settle(
     id: u32,
 ) -> Result<(), SatError>
     ensures keeps { Keeps kernel.old kernel.new }
-    ensures limit { IfErr result (λ e. e ≡ Limit → IsFull kernel.new) }
+    ensures limit { IfErr result (λ e. e ≡ Limit full → IsFull kernel.new) }
 {
     let variable = literal.unsigned_abs() as usize;
     let Some(clause) = kernel.known().clause(id) else {

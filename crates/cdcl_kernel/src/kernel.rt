@@ -1,6 +1,6 @@
 //! What is known for sure: the clauses, and a trail whose literals stand for a reason.
 
-ghost use Rattle.std.specs.Prelude.{◌≡◌, ◌≢◌, ◌≤◌, ◌<◌, ◌^◌, ◌++◌, ◌∷◌, [], ℕ, ℤ, pos, neg_ℤ, true, None, List, Option, IsTrue, ◌↔◌, All, Contains, IfOk, IfErr, IfSome, MatchOption, OnOk, OnErr, length, take, map, option_map, slice_get, slice_index_or, unsigned_abs};
+ghost use Rattle.std.specs.Prelude.{◌≡◌, ◌≢◌, ◌≤◌, ◌<◌, ◌^◌, ◌+◌, ◌++◌, ◌∷◌, [], ℕ, ℤ, pos, neg_ℤ, true, None, List, Option, IsTrue, ◌↔◌, All, Contains, IfOk, IfErr, IfSome, MatchOption, OnOk, OnErr, length, take, map, option_map, slice_get, slice_index_or, unsigned_abs};
 ghost use Rattle.base.specs.Witness.{witness};
 ghost use Rattle.lrat.specs.Literals.{IsLiteral};
 ghost use Rattle.lrat.specs.Lines.{Conflicts};
@@ -12,6 +12,7 @@ ghost use Rattle.cdcl_kernel.specs.declared.origin.Origin.TheVariants.{Added};
 ghost use Rattle.cdcl_kernel.specs.Verdicts.{HoldsOne, IsUnsatisfied, HoldsAll, DeniesAssumed, IsOpposed, IsReplacement};
 ghost use Rattle.solver.specs.Answers.{IsModel, IsCore};
 ghost use Rattle.solver.specs.declared.sat_error.SatError.TheVariants.{Limit, OutOfMemory};
+ghost use Rattle.solver.specs.Full.{full};
 
 use crate::found::Found;
 use crate::literals::{are_nonzero, denials, negated};
@@ -21,7 +22,7 @@ use crate::store::Store;
 use crate::verdict::{assumed_part, opposed_pair, replacement, values_of};
 use base::{copied, push, reserve_one};
 use lrat::{Fault, Left, Lookup, Trail, derive_with, look_at};
-use solver::SatError;
+use solver::{SatError, Taken};
 use std::alloc::Global;
 use std::marker::Model;
 
@@ -97,6 +98,14 @@ impl Kernel {
         ensures few { length self.now.kept ≤ 4294967295 }
     {
         self.store.len()
+    }
+
+    /// The ids of the clauses, and those of a room that is left out.
+    pub fn taken(&self, room: u32) -> Taken
+        requires { room ≤ 2147483647 }
+        ensures { result.ids ≡ length self.now.kept + room }
+    {
+        self.store.taken(room)
     }
 
     /// The clause with this id, where it was not taken out.
@@ -179,7 +188,7 @@ impl Kernel {
         ensures ok { OnOk result (self.new ≡ with_clause self.old Added clause.now) }
         ensures added { OnOk result (added self.new.kept ≡ added self.old.kept ++ clause.now ∷ []) }
         ensures err { OnErr result (self.new ≡ self.old) }
-        ensures limit { IfErr result (λ e. e ≡ Limit → length self.old.kept ≡ 4294967295) }
+        ensures limit { IfErr result (λ e. e ≡ Limit full → length self.old.kept ≡ 4294967295) }
     {
         self.store.add(clause, Origin::Added)?;
         Ok(())
@@ -268,7 +277,7 @@ impl Kernel {
         ensures added { added self.new.kept ≡ added self.old.kept }
         ensures learns { IfOk result (λ b. Learns self.old self.new clause.now hints.now b) }
         ensures err { OnErr result (self.new ≡ self.old) }
-        ensures limit { IfErr result (λ e. e ≡ Limit → length self.old.kept ≡ 4294967295) }
+        ensures limit { IfErr result (λ e. e ≡ Limit full → length self.old.kept ≡ 4294967295) }
     {
         let shown = self.shows(clause, hints)?;
         if shown {
@@ -286,7 +295,7 @@ impl Kernel {
         ensures denial { IfOk result (λ c. c.items ≡ map neg_ℤ (decisions self.old.literals self.old.reasons)) }
         ensures learned { IfOk result (λ c. Learns self.old self.new c.items (reasons self.old.reasons ++ conflict ∷ []) true) }
         ensures err { OnErr result (self.new ≡ self.old) }
-        ensures limit { IfErr result (λ e. e ≡ Limit → length self.old.kept ≡ 4294967295) }
+        ensures limit { IfErr result (λ e. e ≡ Limit full → length self.old.kept ≡ 4294967295) }
     {
         let clause = self.denial(alloc)?;
         self.store.add(clause.as_slice(), Origin::Learned)?;

@@ -1,6 +1,6 @@
 //! Clauses in one flat list, by their ids: 1, 2 and so on.
 
-ghost use Rattle.std.specs.Prelude.{IsTrue, ◌↔◌, MatchOption, ◌≡◌, ◌≤◌, ◌++◌, ◌∷◌, [], All, OnOk, OnErr, IfErr, length, take};
+ghost use Rattle.std.specs.Prelude.{IsTrue, ◌↔◌, MatchOption, ◌≡◌, ◌≤◌, ◌+◌, ◌++◌, ◌∷◌, [], All, OnOk, OnErr, IfErr, length, take};
 ghost use Rattle.lrat.specs.Literals.{IsLiteral};
 ghost use Rattle.std.specs.List.Sorted.{IsSorted};
 ghost use Rattle.std.specs.Ordering.{nat_cmp};
@@ -8,6 +8,7 @@ ghost use Rattle.cdcl_kernel.specs.Forgotten.{Forgets, GoOut};
 ghost use Rattle.cdcl_kernel.specs.Kept.{Kept, find_in, origin_in, without, added};
 ghost use Rattle.cdcl_kernel.specs.Verdicts.{HoldsOne, HoldsOneOf, IsUnsatisfied};
 ghost use Rattle.solver.specs.declared.sat_error.SatError.TheVariants.{Limit, OutOfMemory};
+ghost use Rattle.solver.specs.Full.{full};
 
 use crate::origin::Origin;
 use crate::place::{Place, close_up};
@@ -15,7 +16,7 @@ use crate::sorted::has_id;
 use crate::verdict::holds_one;
 use base::{extend, push};
 use lrat::{Lookup, Trail};
-use solver::SatError;
+use solver::{SatError, Taken};
 use std::alloc::Global;
 use std::marker::Model;
 
@@ -75,17 +76,23 @@ impl Store {
         self.places.len()
     }
 
+    /// The ids of the clauses, and those of a room that is left out.
+    pub fn taken(&self, room: u32) -> Taken
+        requires { room ≤ 2147483647 }
+        ensures { result.ids ≡ length self.now.kept + room }
+    {
+        Taken::by(self.places.as_slice(), room)
+    }
+
     /// Adds a clause with the next id. A refusal changes nothing.
     pub fn add(&mut self, clause: &[i32], origin: Origin) -> Result<(), SatError>
         requires { All (IsLiteral self.old.vars) clause.now }
         ensures vars { self.new.vars ≡ self.old.vars }
         ensures ok { OnOk result (self.new.kept ≡ self.old.kept ++ record { origin = origin; clause = clause.now } ∷ []) }
         ensures err { OnErr result (self.new ≡ self.old) }
-        ensures limit { IfErr result (λ e. e ≡ Limit → length self.old.kept ≡ 4294967295) }
+        ensures limit { IfErr result (λ e. e ≡ Limit full → length self.old.kept ≡ 4294967295) }
     {
-        if self.places.len() >= 4_294_967_295 {
-            return Err(SatError::Limit);
-        }
+        Taken::by(self.places.as_slice(), 0).next_id(&[])?;
         let start = self.literals.len();
         extend(&mut self.literals, clause)?;
         push(

@@ -13,7 +13,7 @@ use Rattle.certify.specs.declared.certified.Certified.{Certified}
 use Rattle.certify.specs.declared.certified.Certified.TheVariants as outcome
 use Rattle.certify.specs.declared.certify_error.CertifyError.{CertifyError}
 use Rattle.certify.specs.declared.counterexample.Counterexample.{Counterexample}
-use Rattle.certify.specs.declared.certify_error.CertifyError.TheVariants.{NoProperty, Limit, NotLatch, Repeated, OutOfMemory}
+use Rattle.certify.specs.declared.certify_error.CertifyError.TheVariants.{NoProperty, Limit, IdsTaken, NotLatch, Repeated, OutOfMemory}
 use Rattle.certify.proofs.Stopped.{not_inductive}
 
 accepted_named : (m : Parts) (p : Property) (c : Certificate) → c.property ≡ p → IsShowable m p → IsAcceptedFor (circuit_of m p) (bad_of m p) c → IsAcceptedCertificate m c
@@ -40,6 +40,7 @@ certified m s p a inv after (Err e) showable circuit literal is = tt
 cause_of : (m : Parts) (p : Property) (inv : List (List Lit)) (e : CertifyError) → IsShowable m p → HasCauseFor (circuit_of m p) inv e → HasCause m p inv e
 cause_of m p inv (NoProperty n) showable cause = absurd cause
 cause_of m p inv Limit showable cause = inr (showable, cause)
+cause_of m p inv (IdsTaken used_up) showable cause = (showable, cause)
 cause_of m p inv (NotLatch k) showable cause = (showable, cause)
 cause_of m p inv (Repeated k) showable cause = (showable, cause)
 cause_of m p inv (OutOfMemory refused) showable cause = showable.exists

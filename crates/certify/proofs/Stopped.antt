@@ -12,13 +12,13 @@ use Rattle.certify.specs.declared.counterexample.Case.{Case}
 use Rattle.certify.specs.declared.counterexample.Case.TheVariants.{Initial, Step, Bad}
 use Rattle.certify.specs.declared.counterexample.Counterexample.{Counterexample}
 use Rattle.certify.specs.declared.halt.Halt.{Halt}
-use Rattle.certify.specs.declared.halt.Halt.TheVariants.{NotInvariant, Spent, Limit, OutOfMemory}
+use Rattle.certify.specs.declared.halt.Halt.TheVariants.{NotInvariant, Spent, IdsTaken, OutOfMemory}
 use Rattle.certify.specs.Counterexamples.{formula_of, IsCase, IsCounterexample, Satisfies}
 use Rattle.certify.specs.Halts.{of_solver, IsHalt, IsHaltOf}
 
 -- a refusal can stop anything
 pub solver_halt : (f : Formula) (case : Case) (after : Steps) (e : SatError) → IsHaltOf f case after (of_solver e)
-solver_halt f case after solver.Limit = tt
+solver_halt f case after (solver.Limit used_up) = tt
 solver_halt f case after (solver.OutOfMemory refused) = tt
 
 -- what stopped a case stopped one of the cases
@@ -29,7 +29,7 @@ halt_of m inv a case f after (NotInvariant c) is_case is stopped = record {
   satisfied = subst (λ x. Satisfies c.values.items (formula_of m inv a x)) (sym stopped.0) (subst (Satisfies c.values.items) is stopped.1);
 }
 halt_of m inv a case f after Spent is_case is none = none
-halt_of m inv a case f after Limit is_case is any = tt
+halt_of m inv a case f after (IdsTaken used_up) is_case is any = tt
 halt_of m inv a case f after (OutOfMemory refused) is_case is any = tt
 
 -- nothing satisfies a case of an inductive invariant

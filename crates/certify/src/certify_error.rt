@@ -6,6 +6,7 @@ ghost use Rattle.certify.specs.Numbers.{number_of, place_of};
 ghost use Rattle.certify.specs.declared.certify_error.CertifyError.TheVariants.{OutOfMemory};
 
 use base::Refused;
+use solver::Full;
 use thiserror::Error;
 
 /// Why nothing came of the clauses.
@@ -14,9 +15,12 @@ pub enum CertifyError {
     /// the circuit has no property of this position
     #[error("there is no property {0}")]
     NoProperty(u32),
-    /// the clauses are more than a certificate may have, or a solver has used up its ids
+    /// the shadow circuit has too many variables, or the clauses are more than a certificate may have
     #[error("over a limit")]
     Limit,
+    /// a solver has used up its ids
+    #[error("{0}")]
+    IdsTaken(Full),
     /// the clause, from 0, has a literal that is not a latch's
     #[error("clause {clause}: a literal is not a latch's")]
     NotLatch { clause: u64 },
@@ -42,7 +46,7 @@ impl CertifyError {
         ensures { result ≡ number_of self }
     {
         match self {
-            CertifyError::Limit => 4,
+            CertifyError::Limit | CertifyError::IdsTaken(_) => 4,
             CertifyError::OutOfMemory(_) => 20,
             CertifyError::NoProperty(_) => 30,
             CertifyError::NotLatch { .. } => 32,
@@ -57,7 +61,7 @@ impl CertifyError {
         match self {
             CertifyError::NoProperty(position) => u64::from(position),
             CertifyError::NotLatch { clause } | CertifyError::Repeated { clause } => clause,
-            CertifyError::Limit | CertifyError::OutOfMemory(_) => 0,
+            CertifyError::Limit | CertifyError::IdsTaken(_) | CertifyError::OutOfMemory(_) => 0,
         }
     }
 }

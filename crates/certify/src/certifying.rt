@@ -63,7 +63,7 @@ fn certify_for(
         })),
         Err(Halt::NotInvariant(found)) => Ok(Certified::NotInvariant(found)),
         Err(Halt::Spent) => Ok(Certified::Spent),
-        Err(Halt::Limit) => Err(CertifyError::Limit),
+        Err(Halt::IdsTaken(full)) => Err(CertifyError::IdsTaken(full)),
         Err(Halt::OutOfMemory(refused)) => Err(CertifyError::OutOfMemory(refused)),
     }
 }

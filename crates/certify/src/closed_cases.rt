@@ -1,6 +1,6 @@
 //! Cases over one formula that is loaded once, and the lemmas that their proofs share.
 
-ghost use Rattle.std.specs.Prelude.{◌≡◌, ◌++◌, ◌∷◌, [], All, List, map, IfErr, IfOk, OnOk};
+ghost use Rattle.std.specs.Prelude.{◌≡◌, ◌≤◌, ◌++◌, ◌∷◌, [], All, List, map, IfErr, IfOk, OnOk};
 ghost use Rattle.base.specs.Budget.{Spends};
 ghost use Rattle.lrat.specs.Limits.{IsFormula};
 ghost use Rattle.lrat.specs.Literals.{IsLiteral};
@@ -16,7 +16,7 @@ use base::Budget;
 use cdcl::{Closing, Refuter, Shown, section};
 use graph::Seq;
 use lrat::{Formula, Proof};
-use solver::SatError;
+use solver::{SatError, Taken};
 use std::alloc::Global;
 
 /// Cases that nothing satisfies. They share a formula, which a solver has loaded, and each has units
@@ -79,23 +79,26 @@ impl ClosedCases {
         ensures proved { IfOk result (λ l. (b : Base) × IsSharedBy self.now.refuter.formula l b × ((cs : List AnyCase) → AreProofs cs sections.old → AreProofs (cs ++ map (case_with b) self.now.units) sections.new)) }
     {
         let lemmas = self.refuter.lemmas(alloc, self.closings.as_slice())?;
-        self.write_sections(alloc, lemmas.top, sections)?;
+        self.write_sections(alloc, lemmas.top, lemmas.taken, sections)?;
         Ok(lemmas.proof)
     }
 
-    /// Adds the section of each case, one line behind lemmas whose greatest id is `top`.
+    /// Adds the section of each case, one line behind lemmas whose greatest id is `top`, one of those
+    /// that are taken.
     fn write_sections(
         &self,
         alloc: Global,
         top: u32,
+        taken: Taken,
         sections: &mut Seq<Proof>,
     ) -> Result<(), SatError>
         requires closed { AreClosed self.now }
+        requires counted { top ≤ taken.ids }
         ensures proved { OnOk result ((b : Base) → AreSectionsOver b top self.now → (cs : List AnyCase) → AreProofs cs sections.old → AreProofs (cs ++ map (case_with b) self.now.units) sections.new) }
     {
         for place in 0..self.closings.len() {
             let units = self.units.as_slice()[place].as_slice();
-            let section = section(alloc, &self.closings.as_slice()[place], top, units)?;
+            let section = section(alloc, &self.closings.as_slice()[place], top, taken, units)?;
             // its lines are in the limits
             section.lines();
             sections.push(section)?;

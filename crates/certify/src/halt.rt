@@ -7,7 +7,7 @@ ghost use Rattle.certify.specs.declared.halt.Halt.TheVariants.{OutOfMemory};
 
 use crate::counterexample::Counterexample;
 use base::Refused;
-use solver::SatError;
+use solver::{Full, SatError};
 
 /// Why no further case is proved.
 #[derive(Drop)]
@@ -17,7 +17,7 @@ pub enum Halt {
     /// The budget is exhausted.
     Spent,
     /// A solver has used up its ids.
-    Limit,
+    IdsTaken(Full),
     /// Out of memory.
     OutOfMemory(Refused),
 }
@@ -27,7 +27,7 @@ impl From<SatError> for Halt {
 
     fn from(e: SatError) -> Halt {
         match e {
-            SatError::Limit => Halt::Limit,
+            SatError::Limit(full) => Halt::IdsTaken(full),
             SatError::OutOfMemory(refused) => Halt::OutOfMemory(refused),
         }
     }

@@ -112,6 +112,7 @@ fn close_steps(
 fn most_literals(invariant: &[Seq<Lit>]) -> u32
     requires { All (λ c. length c ≤ 4194303) invariant.now }
     ensures one { 1 ≤ result }
+    ensures few { result ≤ 4194303 }
     ensures all { All (λ c. length c ≤ result) invariant.now }
 {
     let mut most = 1;

@@ -5,15 +5,15 @@ ghost use Rattle.base.specs.Witness.{witness};
 ghost use Rattle.engine.specs.Numbers.{number_of, of_solver};
 
 use base::Refused;
-use solver::SatError;
+use solver::{Full, SatError};
 use thiserror::Error;
 
 /// Why an engine gave up.
 #[derive(Clone, Copy, Debug, PartialEq, Eq, Error)]
 pub enum EngineError {
-    /// its solver has used up its ids, or has not as many variables as it needs
-    #[error("over a limit")]
-    Limit,
+    /// its solver has used up its ids
+    #[error("{0}")]
+    Limit(Full),
     /// out of memory
     #[error("{0}")]
     OutOfMemory(Refused),
@@ -24,7 +24,7 @@ impl From<SatError> for EngineError {
 
     fn from(e: SatError) -> EngineError {
         match e {
-            SatError::Limit => EngineError::Limit,
+            SatError::Limit(full) => EngineError::Limit(full),
             SatError::OutOfMemory(refused) => EngineError::OutOfMemory(refused),
         }
     }
@@ -46,7 +46,7 @@ impl EngineError {
         ensures { result ≡ number_of self }
     {
         match self {
-            EngineError::Limit => 4,
+            EngineError::Limit(_) => 4,
             EngineError::OutOfMemory(_) => 20,
         }
     }

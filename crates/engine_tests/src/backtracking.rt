@@ -3,9 +3,9 @@
 ghost use Rattle.std.specs.Prelude.{◌≡◌, ◌∷◌, [], true, IfOk};
 ghost use Rattle.lrat.specs.Literals.{IsLiteral, Follows};
 
-use crate::solvers::{ask, load_list};
+use crate::solvers::{Trouble, ask, load_list};
 use base::Budget;
-use solver::{Answer, Plain, Sat, SatError};
+use solver::{Answer, Plain, Sat};
 use std::alloc::Global;
 use std::test::Fail;
 
@@ -15,7 +15,7 @@ fn follows<S: Sat>(
     alloc: Global,
     literal: i32,
     budget: &mut Budget,
-) -> Result<bool, SatError>
+) -> Result<bool, Trouble>
     requires { IsLiteral (S.vars solver.old) literal }
     ensures vars { S.vars solver.new ≡ S.vars solver.old }
     ensures shown { IfOk result (λ shown. shown ≡ true → Follows (S.clauses solver.old) (literal ∷ [])) }
@@ -37,7 +37,7 @@ fn is_exactly(
     list: &[i32],
     assume: &[i32],
     wanted: Result<&[bool], &[i32]>,
-) -> Result<bool, SatError> {
+) -> Result<bool, Trouble> {
     let mut solver = Plain::new(alloc);
     load_list(&mut solver, alloc, vars, list)?;
     match (
@@ -72,7 +72,7 @@ fn what_follows(rt: HostRuntime) -> Result<(), Fail> {
 }
 
 /// Whether a solver begun anew with one unit has its model, though the clauses before had none.
-fn forgets(alloc: Global) -> Result<bool, SatError> {
+fn forgets(alloc: Global) -> Result<bool, Trouble> {
     let mut solver = Plain::new(alloc);
     load_list(&mut solver, alloc, 0, &[0])?;
     load_list(&mut solver, alloc, 2, &[2, 0])?;
@@ -87,12 +87,4 @@ fn forgets(alloc: Global) -> Result<bool, SatError> {
 #[test]
 fn a_reset_forgets(rt: HostRuntime) {
     assert!(rt; forgets(rt.alloc()) == Ok(true));
-}
-
-#[test]
-fn tells_refusals_in_words(rt: HostRuntime) -> Result<(), Fail> {
-    let text = format!(in rt.alloc(); "{}", SatError::Limit)?;
-    assert!(rt; text.as_str() == "more than 4294967295 clauses");
-    assert!(rt; (SatError::Limit.number(), SatError::Limit.place()) == (4, 0));
-    Ok(())
 }

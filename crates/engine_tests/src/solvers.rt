@@ -15,6 +15,27 @@ use solver::{Answer, Plain, Sat, SatError};
 use std::alloc::Global;
 use std::test::Fail;
 
+/// Why a question was not asked, or not answered.
+#[derive(Clone, Copy, Debug, PartialEq, Eq)]
+pub enum Trouble {
+    /// a literal is out of range
+    Unfit,
+    /// the solver refused
+    Refused(SatError),
+}
+
+impl From<SatError> for Trouble {
+    fn from(error: SatError) -> Trouble {
+        Trouble::Refused(error)
+    }
+}
+
+impl From<Refused> for Trouble {
+    fn from(refused: Refused) -> Trouble {
+        Trouble::Refused(SatError::OutOfMemory(refused))
+    }
+}
+
 /// Assumptions about a formula, and the literals that a core may have; none of these where there is a
 /// model.
 type Question = (&'static [i32], Option<&'static [i32]>);
@@ -62,7 +83,7 @@ fn clause_end(list: &[i32], start: usize) -> usize
 }
 
 /// The formula of a list of clauses, each of which ends with 0 and whose literals must be in range.
-fn formula(alloc: Global, vars: u16, list: &[i32]) -> Result<Formula, SatError>
+fn formula(alloc: Global, vars: u16, list: &[i32]) -> Result<Formula, Trouble>
     ensures vars { IfOk result (λ f. f.vars ≡ vars) }
     ensures is_formula { IfOk result IsFormula }
 {
@@ -73,19 +94,19 @@ fn formula(alloc: Global, vars: u16, list: &[i32]) -> Result<Formula, SatError>
         let end = clause_end(list, start);
         let clause = &list[start..end];
         if !are_literals(clause, vars) {
-            return Err(SatError::Limit);
+            return Err(Trouble::Unfit);
         }
         clauses.push(Clause::from_slice(alloc, clause)?)?;
         start = end + 1;
     }
     if clauses.len() > 4_294_967_295 {
-        return Err(SatError::Limit);
+        return Err(Trouble::Unfit);
     }
     Ok(Formula { vars, clauses })
 }
 
 /// Adds the formula's clauses.
-fn add<S: Sat>(solver: &mut S, alloc: Global, formula: &Formula) -> Result<(), SatError>
+fn add<S: Sat>(solver: &mut S, alloc: Global, formula: &Formula) -> Result<(), Trouble>
     requires is_formula { IsFormula formula.now }
     requires vars { S.vars solver.old ≡ formula.now.vars }
     ensures { S.vars solver.new ≡ S.vars solver.old }
@@ -97,7 +118,7 @@ fn add<S: Sat>(solver: &mut S, alloc: Global, formula: &Formula) -> Result<(), S
 }
 
 /// Begins anew with the formula.
-fn load<S: Sat>(solver: &mut S, alloc: Global, formula: &Formula) -> Result<(), SatError>
+fn load<S: Sat>(solver: &mut S, alloc: Global, formula: &Formula) -> Result<(), Trouble>
     requires { IsFormula formula.now }
     ensures { OnOk result (S.vars solver.new ≡ formula.now.vars) }
 {
@@ -111,7 +132,7 @@ pub fn load_list<S: Sat>(
     alloc: Global,
     vars: u16,
     list: &[i32],
-) -> Result<(), SatError>
+) -> Result<(), Trouble>
     ensures { OnOk result (S.vars solver.new ≡ vars) }
 {
     let formula = formula(alloc, vars, list)?;
@@ -124,13 +145,13 @@ pub fn ask<S: Sat>(
     alloc: Global,
     assume: &[i32],
     budget: &mut Budget,
-) -> Result<Answer, SatError>
+) -> Result<Answer, Trouble>
     ensures { S.vars solver.new ≡ S.vars solver.old }
 {
     if !are_literals(assume, solver.vars()) {
-        return Err(SatError::Limit);
+        return Err(Trouble::Unfit);
     }
-    solver.solve(alloc, assume, budget)
+    Ok(solver.solve(alloc, assume, budget)?)
 }
 
 /// How many steps a solver may take where nothing is said of them.
@@ -184,7 +205,7 @@ fn answers<S: Sat>(
     alloc: Global,
     formula: &Formula,
     question: Question,
-) -> Result<bool, SatError>
+) -> Result<bool, Trouble>
     requires { IsFormula formula.now }
 {
     let (assume, core) = question;
@@ -200,13 +221,13 @@ fn answers_list<S: Sat>(
     vars: u16,
     list: &[i32],
     question: Question,
-) -> Result<bool, SatError> {
+) -> Result<bool, Trouble> {
     let formula = formula(alloc, vars, list)?;
     answers(solver, alloc, &formula, question)
 }
 
 /// Whether the solver answers all short formulas rightly, one after the other.
-fn answers_short<S: Sat>(solver: &mut S, alloc: Global) -> Result<bool, SatError> {
+fn answers_short<S: Sat>(solver: &mut S, alloc: Global) -> Result<bool, Trouble> {
     for (vars, list, question) in &SHORT {
         if !answers_list(solver, alloc, *vars, list, *question)? {
             return Ok(false);
@@ -227,7 +248,7 @@ fn steps<S: Sat>(
     alloc: Global,
     vars: u16,
     list: &[i32],
-) -> Result<Option<u64>, SatError> {
+) -> Result<Option<u64>, Trouble> {
     let formula = formula(alloc, vars, list)?;
     load(solver, alloc, &formula)?;
     let mut budget = Budget::new(STEPS);
@@ -245,7 +266,7 @@ fn answers_worked<S: Sat>(
     alloc: Global,
     least: bool,
     most: u64,
-) -> Result<bool, SatError> {
+) -> Result<bool, Trouble> {
     for (vars, list, few) in &UNSATISFIABLE {
         let few = if least { *few } else { 0 };
         match steps(solver, alloc, *vars, list)? {
@@ -267,7 +288,7 @@ fn worked_formulas(rt: HostRuntime) {
 }
 
 /// Whether each question is answered rightly as the clauses come.
-fn grows<S: Sat>(solver: &mut S, alloc: Global) -> Result<bool, SatError> {
+fn grows<S: Sat>(solver: &mut S, alloc: Global) -> Result<bool, Trouble> {
     let none = formula(alloc, 3, &[])?;
     load(solver, alloc, &none)?;
     for (list, (assume, core)) in &GROWING {
@@ -294,7 +315,7 @@ pub fn spent<S: Sat>(
     vars: u16,
     list: &[i32],
     steps: u64,
-) -> Result<Option<u64>, SatError> {
+) -> Result<Option<u64>, Trouble> {
     load_list(solver, alloc, vars, list)?;
     let mut budget = Budget::new(steps);
     match ask(solver, alloc, &[], &mut budget)? {

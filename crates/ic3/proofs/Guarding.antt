@@ -33,15 +33,16 @@ pub item_has : {X : Type 0} (P : X → Type 0) (xs : List X) (i : ℕ) (x : X) �
 item_has P xs i x i_in is all = subst P (sym is) (all i x i_in)
 
 -- no clause yet
-pub has_none : {S : Type 0} (m : Parts) (es : List Entry) (t : Contents) (levels room : ℕ) → IsLoaded m room [] t → levels ≤ room → room ≤ 4294967295 →
+pub has_none : {S : Type 0} (m : Parts) (es : List Entry) (t : Contents) (levels room : ℕ) → IsLoaded m room [] t → levels ≤ room → levels ≤ 2000000000 → room ≤ 4294967295 →
     HasFrames {S = S} m es (record { transition = t; levels = levels; room = room; next = levels })
-has_none m es t levels room loaded fits small = record {
+has_none m es t levels room loaded fits few small = record {
   added = [];
   loaded = loaded;
   used = All-nil (λ (g : Guarded). g.guard < levels);
   backs = All-nil (λ (g : Guarded). g.guard < levels → (s : List Bool) → InFrame es g.guard s → Holds s g.clause);
   order = omega arith;
   fits = fits;
+  few = few;
   small = small;
 }
 
@@ -56,13 +57,14 @@ has_more m es a t next g has loaded later fits used backed = record {
   backs = All-push (λ (x : Guarded). x.guard < a.levels → (s : List Bool) → InFrame es x.guard s → Holds s x.clause) has.added g has.backs backed;
   order = let order = has.order in omega (arith, order, later);
   fits = fits;
+  few = has.few;
   small = has.small;
 }
 
 -- a solver that has more of the circuit
 pub has_grown : {S : Type 0} (m : Parts) (es : List Entry) (a : FrameSolver S) (t : Contents) (has : HasFrames m es a) → IsLoaded m a.room has.added t →
     HasFrames {S = S} m es (record { transition = t; levels = a.levels; room = a.room; next = a.next })
-has_grown m es a t has loaded = record { added = has.added; loaded = loaded; used = has.used; backs = has.backs; order = has.order; fits = has.fits; small = has.small }
+has_grown m es a t has loaded = record { added = has.added; loaded = loaded; used = has.used; backs = has.backs; order = has.order; fits = has.fits; few = has.few; small = has.small }
 
 -- a solver that counts a query more
 pub has_counted : {S : Type 0} (m : Parts) (es : List Entry) (a : FrameSolver S) (next : ℕ) → HasFrames m es a → a.next ≤ next → next ≤ a.room →
@@ -74,6 +76,7 @@ has_counted m es a next has later fits = record {
   backs = has.backs;
   order = let order = has.order in omega (arith, order, later);
   fits = fits;
+  few = has.few;
   small = has.small;
 }
 
@@ -103,6 +106,7 @@ has_within m es fs a within has = record {
   backs = λ k d k_in level s inside. has.backs k d k_in level s (within (get_or has.added k d).guard s inside);
   order = has.order;
   fits = has.fits;
+  few = has.few;
   small = has.small;
 }
 

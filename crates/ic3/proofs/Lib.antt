@@ -9,3 +9,4 @@ pub mod Lifted
 pub mod Shown
 pub mod Rising
 pub mod Reduced
+pub mod Clear

@@ -1,14 +1,16 @@
 -- What the search's queries are answered (Bradley 2011).
 use Rattle.std.specs.Prelude.{◌≡◌, ℕ, ◌≤◌, Bool, true, List, [], ◌∷◌, filter, length, All}
 use Rattle.base.specs.Budget.{Steps}
+use Rattle.graph.specs.declared.circuit.Property.TheVariants.{Bad}
 use Rattle.graph.specs.declared.parts.Parts.{Parts}
 use Rattle.graph.specs.Valuation.{Valuation, value_of}
 use Rattle.graph.specs.Runs.{next_state}
 use Rattle.cnf.specs.Formulas.{bad_literal}
+use Rattle.engine.specs.Bounds.{IsClear}
 use Rattle.engine.specs.Findings.{IsSo}
 use Rattle.engine.specs.declared.finding.Finding.{Finding}
 use Rattle.engine.specs.declared.finding.Finding.TheVariants.{Invariant, Run, Unknown}
-use Rattle.engine.specs.declared.finding.Reason.TheVariants.{Budget}
+use Rattle.engine.specs.declared.finding.Reason.TheVariants.{Budget, Depth, NoEvidence}
 use Rattle.ic3_step.specs.declared.state.StateLit.{StateLit}
 use Rattle.ic3_step.specs.declared.step.Consecution.{Consecution}
 use Rattle.ic3_step.specs.declared.step.Consecution.TheVariants.{Held, Broken, Spent}
@@ -74,11 +76,18 @@ IsAtBad m entries k after (Set t) = (w : Valuation) × IsAt m (bad_literal m 0 �
 IsAtBad m entries k after Excluded = Excludes m (bad_literal m 0) entries k
 IsAtBad m entries k after Spent = after.left ≡ 0
 
--- a run, an invariant, or that the budget is exhausted
+-- no run of at most so many steps sets the bad literal, and they are a thousand million or more
+pub record IsDeep (m : Parts) (steps : ℕ) : Type 0 where
+  pub clear : IsClear m (Bad 0) steps
+  pub many : 1000000000 ≤ steps
+
+-- a run, an invariant, that the budget is exhausted, or a depth of a thousand million steps or more
 abbrev pub IsDecided : Finding → Type 0
 IsDecided (Run initial inputs) = Unit {0}
 IsDecided (Invariant inv) = Unit {0}
-IsDecided (Unknown reason) = reason ≡ Budget
+IsDecided (Unknown Budget) = Unit {0}
+IsDecided (Unknown (Depth steps)) = 1000000000 ≤ steps
+IsDecided (Unknown NoEvidence) = ⊥
 
 -- what is found is so, and no other unknown
 pub record IsFound (m : Parts) (after : Steps) (found : Finding) : Type 0 where

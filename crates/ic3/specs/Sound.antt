@@ -13,7 +13,7 @@ abbrev pub Backs : List Entry → ℕ → List Guarded → Type 0
 Backs entries levels gs = All (λ (g : Guarded). g.guard < levels → (s : List Bool) → InFrame entries g.guard s → Holds s g.clause) gs
 
 -- the solver has the circuit, room for the guards, and clauses that the frames back; no clause has one of the guards that
--- are free, which come after those of the levels; guards are numbers of 32 bits
+-- are free, which come after those of the levels; there are guards for at most 2,000,000,000 levels
 pub record HasFrames {S : Type 0} (m : Parts) (entries : List Entry) (a : FrameSolver S) : Type 0 where
   pub added : List Guarded
   pub loaded : IsLoaded m a.room added a.transition
@@ -21,6 +21,7 @@ pub record HasFrames {S : Type 0} (m : Parts) (entries : List Entry) (a : FrameS
   pub backs : Backs entries a.levels added
   pub order : a.levels ≤ a.next
   pub fits : a.next ≤ a.room
+  pub few : a.levels ≤ 2000000000
   pub small : a.room ≤ 4294967295
 
 -- the solver is has of frames that keep their laws, and each of them has a guard

@@ -147,15 +147,14 @@ impl<S: Sat> FrameSolver<S> {
         levels: u32,
     ) -> Result<(), EngineError>
         requires laws { AreFrames circuit.now (bad_literal circuit.now 0) frames.now }
+        requires few { levels ≤ 2000000000 }
         requires top { frames.now.top < levels }
         requires below { All (λ e. e.level < levels) frames.now.entries }
         ensures levels { OnOk result (self.new.levels ≡ levels) }
         ensures room { OnOk result (self.new.next < self.new.room) }
         ensures sound { OnOk result (IsSound circuit.now self.new frames.now) }
     {
-        let Some(room) = levels.checked_add(queries(circuit)) else {
-            return Err(EngineError::Limit);
-        };
+        let room = levels + queries(circuit);
         self.transition.load(alloc, circuit, room)?;
         self.levels = levels;
         self.room = room;

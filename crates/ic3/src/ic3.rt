@@ -73,7 +73,7 @@ impl<S: Sat, P: Progress> Engine for Ic3<S, P> {
     ghost answers = { λ _ m _ r after. IfOk r (IsSo m after) × IfOk r IsDecided };
 
     /// Looks for an invariant that excludes the bad literal, or for a run that sets it. It knows
-    /// nothing only where the budget is exhausted. Each candidate, each frame that is opened, each time
+    /// nothing only where the budget is exhausted, or no run of a thousand million steps sets it. Each candidate, each frame that is opened, each time
     /// that is blocked, each clause that is looked at and each query takes from the budget, besides
     /// what the solver spends.
     fn find(

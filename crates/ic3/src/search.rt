@@ -1,13 +1,13 @@
 //! The search through the frames.
 
-ghost use Rattle.std.specs.Prelude.{◌≡◌, ◌+◌, IfOk, IfSome, OnOk};
+ghost use Rattle.std.specs.Prelude.{◌≡◌, false, IfOk, IfSome, OnOk};
 ghost use Rattle.base.specs.Budget.{Spends};
 ghost use Rattle.cnf.specs.Formulas.{bad_literal};
 ghost use Rattle.engine.specs.Findings.{IsForBad, IsInvariant};
 ghost use Rattle.ic3_frames.specs.Frames.{Excludes};
 ghost use Rattle.ic3.specs.Sound.{IsSound};
 ghost use Rattle.ic3.specs.Cubes.{IsReady};
-ghost use Rattle.ic3.specs.Answers.{IsFound};
+ghost use Rattle.ic3.specs.Answers.{IsDeep, IsFound};
 
 use crate::bad::AtBad;
 use crate::failures::Failures;
@@ -22,33 +22,37 @@ use std::alloc::Global;
 /// How many levels have guards at first.
 const LEVELS: u32 = 32;
 
+/// With more levels than this there are no guards for twice as many.
+const MOST_DOUBLED: u32 = 1_000_000_000;
+
 impl<S: Sat> FrameSolver<S> {
     /// Opens the next frame. Where it has no guard, the circuit is loaded again, for twice as many
-    /// levels.
+    /// levels. With a thousand million frames there are no more: then it changes nothing and answers false.
     fn open_next(
         &mut self,
         alloc: Global,
         circuit: &Model,
         frames: &mut Frames,
-    ) -> Result<(), EngineError>
+    ) -> Result<bool, EngineError>
         requires sound { IsSound circuit.now self.old frames.old }
         requires excluded { Excludes circuit.now (bad_literal circuit.now 0) frames.old.entries frames.old.top }
         ensures sound { OnOk result (IsSound circuit.now self.new frames.new) }
+        ensures deep { IfOk result (λ opened. opened ≡ false → IsDeep circuit.now frames.new.top) }
     {
         if frames.top() + 1 < self.levels {
             frames.open();
-            return Ok(());
+            return Ok(true);
         }
-        let Some(levels) = self.levels.checked_mul(2) else {
-            return Err(EngineError::Limit);
-        };
-        self.load(alloc, circuit, frames, levels)?;
+        if self.levels > MOST_DOUBLED {
+            return Ok(false);
+        }
+        self.load(alloc, circuit, frames, self.levels * 2)?;
         frames.open();
-        Ok(())
+        Ok(true)
     }
 
-    /// Opens the next frame, the first with the candidates, and propagates clauses, until one frame is the same as the
-    /// next: that one is an invariant.
+    /// Propagates clauses to the frame that was opened, the first time with the candidates, until one frame is the
+    /// same as the next: that one is an invariant.
     fn advance<P: Progress>(
         &mut self,
         alloc: Global,
@@ -60,12 +64,10 @@ impl<S: Sat> FrameSolver<S> {
         budget: &mut Budget,
     ) -> Result<Option<Seq<Seq<Lit>>>, EngineError>
         requires sound { IsSound circuit.now self.old frames.old }
-        requires excluded { Excludes circuit.now (bad_literal circuit.now 0) frames.old.entries frames.old.top }
         ensures spends { Spends budget.old budget.new }
         ensures sound { OnOk result (IsSound circuit.now self.new frames.new) }
         ensures invariant { IfOk result (λ r. IfSome r (IsInvariant circuit.now)) }
     {
-        self.open_next(alloc, circuit, frames)?;
         progress.opened(frames.top(), frames.entries().len(), budget);
         self.try_candidates(alloc, circuit, frames, candidates, budget)?;
         self.propagate(alloc, circuit, frames, failures, budget)
@@ -103,6 +105,9 @@ impl<S: Sat> FrameSolver<S> {
                     }
                 }
                 AtBad::Excluded => {
+                    if !self.open_next(alloc, circuit, frames)? {
+                        return Ok(Finding::Unknown(Reason::Depth(frames.top())));
+                    }
                     match self.advance(
                         alloc, circuit, frames, failures, candidates, progress, budget,
                     )? {

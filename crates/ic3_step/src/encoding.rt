@@ -12,9 +12,6 @@ use graph::Model;
 use solver::Sat;
 use std::alloc::Global;
 
-/// The greatest number of variables.
-const GREATEST: u32 = 2_147_483_647;
-
 /// The literal of a guard.
 pub(crate) fn guard_literal(model: &Model, guard: u32) -> i32
     requires { model.now.max_var + 2 + guard < 2 ^ 31 }
@@ -57,20 +54,19 @@ fn guarded(
     Ok(literals)
 }
 
-/// Begins anew with the cone of the circuit's constraints.
+/// Begins anew with the cone of the circuit's constraints. A circuit has at most 4,194,303 variables, so the
+/// guards have theirs.
 pub(crate) fn load<S: Sat>(
     solver: &mut S,
     alloc: Global,
     model: &Model,
     guards: u32,
 ) -> Result<Cone, EngineError>
+    requires { guards ≤ 2143289343 }
     ensures { IfOk result (λ c. IsLoaded model.now guards [] (record { vars = S.vars solver.new; clauses = S.clauses solver.new; cone = Some c })) }
 {
     model.parts();
     let variables = model.max_var() + 1;
-    if guards > GREATEST - variables {
-        return Err(EngineError::Limit);
-    }
     let mut cone = Cone::new(alloc, model)?;
     solver.reset(alloc, variables + guards)?;
     add_constraints(solver, alloc, model)?;

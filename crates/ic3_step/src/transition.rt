@@ -1,6 +1,6 @@
 //! One time of a circuit in a solver.
 
-ghost use Rattle.std.specs.Prelude.{◌≡◌, ◌<◌, ◌++◌, ◌∷◌, [], ℕ, List, None, length, All, Contains, IfOk, IfSome, OnOk, OnErr};
+ghost use Rattle.std.specs.Prelude.{◌≡◌, ◌<◌, ◌≤◌, ◌++◌, ◌∷◌, [], ℕ, List, None, length, All, Contains, IfOk, IfSome, OnOk, OnErr};
 ghost use Rattle.base.specs.Budget.{Spends};
 ghost use Rattle.graph.specs.WellFormed.{used};
 ghost use Rattle.cnf.specs.Formulas.{IsOverLatches};
@@ -45,9 +45,10 @@ impl<S: Sat> Transition<S> {
     }
 
     /// Begins anew with the constraints of the circuit, what they are made of, and room for the
-    /// guards below `guards`. It costs the circuit, and refuses more variables than 2,147,483,647 as
-    /// over the limit. After a refusal it is to be loaded again.
+    /// guards below `guards`, which with any circuit's variables are no more than 2,147,483,647. It
+    /// costs the circuit. After a refusal it is to be loaded again.
     pub fn load(&mut self, alloc: Global, model: &Model, guards: u32) -> Result<(), EngineError>
+        requires { guards ≤ 2143289343 }
         ensures { OnOk result (IsLoaded model.now guards [] self.new) }
     {
         let cone = encoding::load(&mut self.solver, alloc, model, guards)?;

@@ -1,3 +1,4 @@
 pub mod Answers
 pub mod Branches
+pub mod Full
 pub mod Numbers

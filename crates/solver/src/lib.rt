@@ -4,6 +4,7 @@
 //!   last `reset` and the assumptions; a core is part of the assumptions, and nothing satisfies
 //!   it together with the clauses; `Spent` is answered only where the budget is exhausted.
 //!   A refusal, for lack of memory or of ids, leaves the clauses as they were.
+//! - `Full` is the witness that all ids of clauses are taken, and `Taken` makes it.
 //! - `Plain` is a solver by backtracking, short rather than fast.
 //!
 //! Literals are integers: `n` is the variable `n`, and `-n` says that it is false. What is said
@@ -12,6 +13,7 @@
 
 mod answer;
 mod free;
+mod full;
 mod look;
 mod plain;
 mod sat;
@@ -19,6 +21,7 @@ mod sat_error;
 mod search;
 
 pub use answer::Answer;
+pub use full::{Full, Taken};
 pub use plain::Plain;
 pub use sat::Sat;
 pub use sat_error::SatError;

@@ -6,8 +6,10 @@ ghost use Rattle.base.specs.Witness.{witness};
 ghost use Rattle.lrat.specs.Literals.{IsLiteral};
 ghost use Rattle.solver.specs.Answers.{IsLawful};
 ghost use Rattle.solver.specs.declared.sat_error.SatError.TheVariants.{Limit, OutOfMemory};
+ghost use Rattle.solver.specs.Full.{full};
 
 use crate::answer::Answer;
+use crate::full::Taken;
 use crate::sat::Sat;
 use crate::sat_error::SatError;
 use crate::search::search;
@@ -75,11 +77,9 @@ impl Sat for Plain {
         ensures ok { OnOk result (self.new.clauses ≡ self.old.clauses ++ clause.now ∷ []) }
         ensures few { OnOk result (length self.new.clauses ≤ 4294967295) }
         ensures err { OnErr result (self.new.clauses ≡ self.old.clauses) }
-        ensures limit { IfErr result (λ e. e ≡ Limit → (length self.old.clauses ≡ 4294967295) × (length self.new.clauses ≡ 4294967295)) }
+        ensures limit { IfErr result (λ e. e ≡ Limit full → (length self.old.clauses ≡ 4294967295) × (length self.new.clauses ≡ 4294967295)) }
     {
-        if self.formula.clauses.len() >= 4_294_967_295 {
-            return Err(SatError::Limit);
-        }
+        Taken::by(self.formula.clauses.as_slice(), 0).next_id(&[])?;
         let clause = Clause::from_slice(alloc, clause)?;
         self.formula.clauses.push(clause)?;
         Ok(())

@@ -5,6 +5,7 @@ ghost use Rattle.base.specs.Budget.{Spends};
 ghost use Rattle.lrat.specs.Literals.{IsLiteral};
 ghost use Rattle.solver.specs.Answers.{IsLawful};
 ghost use Rattle.solver.specs.declared.sat_error.SatError.TheVariants.{Limit};
+ghost use Rattle.solver.specs.Full.{full};
 
 use crate::answer::Answer;
 use crate::sat_error::SatError;
@@ -32,7 +33,7 @@ pub trait Sat: Drop {
         ensures free { OnOk result (is_full self.new → ⊥) }
         ensures err_vars { OnErr result (vars self.new ≡ vars self.old) }
         ensures err_clauses { OnErr result (clauses self.new ≡ clauses self.old) }
-        ensures unlimited { IfErr result (λ e. e ≢ Limit) };
+        ensures unlimited { IfErr result (λ e. e ≢ Limit full) };
 
     /// The greatest variable.
     fn vars(&self) -> u32
@@ -47,7 +48,7 @@ pub trait Sat: Drop {
         ensures ok { OnOk result (clauses self.new ≡ clauses self.old ++ clause.now ∷ []) }
         ensures few { OnOk result (length (clauses self.new) ≤ 4294967295) }
         ensures err { OnErr result (clauses self.new ≡ clauses self.old) }
-        ensures limit { IfErr result (λ e. e ≡ Limit → is_full self.old × is_full self.new) };
+        ensures limit { IfErr result (λ e. e ≡ Limit full → is_full self.old × is_full self.new) };
 
     /// Finds values that satisfy the clauses and the assumptions, or part of the assumptions that
     /// nothing satisfies together with the clauses. Each look at a clause for its values and each
@@ -64,5 +65,5 @@ pub trait Sat: Drop {
         ensures clauses { clauses self.new ≡ clauses self.old }
         ensures spends { Spends budget.old budget.new }
         ensures lawful { IfOk result (IsLawful (vars self.old) (clauses self.old) assume.now budget.new) }
-        ensures limit { IfErr result (λ e. e ≡ Limit → is_full self.new) };
+        ensures limit { IfErr result (λ e. e ≡ Limit full → is_full self.new) };
 }

@@ -3,20 +3,30 @@
 ghost use Rattle.base.specs.Witness.{witness};
 ghost use Rattle.std.specs.Prelude.{◌≡◌};
 ghost use Rattle.solver.specs.Numbers.{number_of};
-ghost use Rattle.solver.specs.declared.sat_error.SatError.TheVariants.{OutOfMemory};
+ghost use Rattle.solver.specs.declared.sat_error.SatError.TheVariants.{Limit, OutOfMemory};
+ghost use Rattle.solver.specs.Full.{full};
 
+use crate::full::Full;
 use base::Refused;
 use thiserror::Error;
 
 /// Why a solver refuses.
 #[derive(Clone, Copy, Debug, PartialEq, Eq, Error)]
 pub enum SatError {
-    /// the id of a clause would pass 4,294,967,295
-    #[error("more than 4294967295 clauses")]
-    Limit,
+    /// all ids of clauses are taken
+    #[error("{0}")]
+    Limit(Full),
     /// out of memory
     #[error("{0}")]
     OutOfMemory(Refused),
+}
+
+impl From<Full> for SatError {
+    ghost from_gives = { λ _ e. e ≡ Limit full };
+
+    fn from(full: Full) -> SatError {
+        SatError::Limit(full)
+    }
 }
 
 impl From<Refused> for SatError {
@@ -33,7 +43,7 @@ impl SatError {
         ensures { result ≡ number_of self }
     {
         match self {
-            SatError::Limit => 4,
+            SatError::Limit(_) => 4,
             SatError::OutOfMemory(_) => 20,
         }
     }

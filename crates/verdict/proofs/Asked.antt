@@ -83,6 +83,7 @@ certificate_backs m p inv after c formed certified = (certified.2, certified.0, 
 refused_ok : (m : Parts) (p : Property) (inv : List (List Lit)) (after : Steps) (e : CertifyError) → HasProperty m p → IsUncertified m p inv e → IfOk (of_certify e) (IsOfClauses m p inv after)
 refused_ok m p inv after (certify.NoProperty k) there cause = absurd (cause.1 there)
 refused_ok m p inv after certify.Limit there cause = tt
+refused_ok m p inv after (certify.IdsTaken used_up) there cause = tt
 refused_ok m p inv after (certify.NotLatch k) there cause = λ good inductive. first_fault_refuses (circuit_of m p) inv k fault.NotLatch cause.1.first good
 refused_ok m p inv after (certify.Repeated k) there cause = λ good inductive. first_fault_refuses (circuit_of m p) inv k fault.Repeated cause.1.first good
 refused_ok m p inv after (certify.OutOfMemory refused) there cause = tt
@@ -90,6 +91,7 @@ refused_ok m p inv after (certify.OutOfMemory refused) there cause = tt
 refused_err : (m : Parts) (p : Property) (inv : List (List Lit)) (e : CertifyError) → IsUncertified m p inv e → IfErr (of_certify e) (Stops m p inv)
 refused_err m p inv (certify.NoProperty k) cause = tt
 refused_err m p inv certify.Limit cause = cause
+refused_err m p inv (certify.IdsTaken used_up) cause = cause
 refused_err m p inv (certify.NotLatch k) cause = tt
 refused_err m p inv (certify.Repeated k) cause = tt
 refused_err m p inv (certify.OutOfMemory refused) cause = tt

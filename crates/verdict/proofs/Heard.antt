@@ -24,7 +24,7 @@ use Rattle.checker.specs.declared.invariant.ClauseFault.TheVariants as fault
 use Rattle.checker.proofs.Accepted.{first_fault_refuses}
 use Rattle.certify.specs.Causes.{HasCause as IsUncertified}
 use Rattle.certify.specs.declared.certify_error.CertifyError.{CertifyError}
-use Rattle.certify.specs.declared.certify_error.CertifyError.TheVariants.{NoProperty, Limit, NotLatch, Repeated, OutOfMemory}
+use Rattle.certify.specs.declared.certify_error.CertifyError.TheVariants.{NoProperty, Limit, IdsTaken, NotLatch, Repeated, OutOfMemory}
 use Rattle.engine.specs.Bounds.{IsClear}
 use Rattle.engine.specs.Findings.{IsForBad, IsHonest, IsInvariant, IsSo}
 use Rattle.engine.specs.declared.engine_error.EngineError.{EngineError}
@@ -54,7 +54,7 @@ asked_there m one (Output n) asked = watched_there m (Output n) asked.bad asked.
 asked_there m one (Justice n) asked = asked.showable.exists
 
 pub engine_refused : (m : Parts) (p : Property) (e : EngineError) → HasProperty m p → HasCause m p (of_engine e)
-engine_refused m p engine.Limit there = there
+engine_refused m p (engine.Limit used_up) there = there
 engine_refused m p (engine.OutOfMemory refused) there = there
 
 -- ---- runs
@@ -116,6 +116,7 @@ refused_to : (m : Parts) (p : Property) (inv : List (List Lit)) (after : Steps) 
     All (IsGood (circuit_of m p)) inv → IfOk (of_certify e) (IsMeant m p after)
 refused_to m p inv after (NoProperty k) there cause good = absurd (cause.1 there)
 refused_to m p inv after Limit there cause good = tt
+refused_to m p inv after (IdsTaken used_up) there cause good = tt
 refused_to m p inv after (NotLatch k) there cause good = absurd (first_fault_refuses (circuit_of m p) inv k fault.NotLatch cause.1.first good)
 refused_to m p inv after (Repeated k) there cause good = absurd (first_fault_refuses (circuit_of m p) inv k fault.Repeated cause.1.first good)
 refused_to m p inv after (OutOfMemory refused) there cause good = tt

@@ -1,5 +1,5 @@
 -- Which engines were asked, in what order, and what came of their answers.
-use Rattle.std.specs.Prelude.{◌≡◌, ◌+◌, ◌<◌, ◌⊎◌, Bool, List, [], ◌∷◌, ◌++◌, length, drop, All, None, Result, Ok, Err, IfOk, IfErr, OnOk}
+use Rattle.std.specs.Prelude.{◌≡◌, ◌≢◌, ◌+◌, ◌<◌, ◌⊎◌, Bool, List, [], ◌∷◌, ◌++◌, length, drop, All, None, Result, Ok, Err, IfOk, IfErr, OnOk}
 use Rattle.base.specs.Budget.{Spends, Steps}
 use Rattle.base.specs.Witness.{witness}
 use Rattle.graph.specs.declared.circuit.Lit.{Lit}
@@ -9,6 +9,7 @@ use Rattle.stimulus.specs.Shown.{Shows}
 use Rattle.stimulus.specs.Texts.{property_of}
 use Rattle.cnf.specs.Invariants.{IsInductive}
 use Rattle.checker.specs.Accepted.{IsAcceptedCertificate, IsGood, bad_of, circuit_of}
+use Rattle.solver.specs.Full.{full}
 use Rattle.certify.specs.Causes.{HasCause as IsUncertified}
 use Rattle.certify.specs.declared.certify_error.CertifyError.TheVariants as certify
 use Rattle.engine.specs.declared.engine_error.EngineError.{EngineError}
@@ -20,7 +21,7 @@ use Rattle.verdict.specs.Numbers.{of_engine}
 use Rattle.verdict.specs.Reasons.{reason_of, weightier_of}
 use Rattle.verdict.specs.Verdicts.{IsAsked, IsViolation}
 use Rattle.verdict.specs.declared.decide_error.DecideError.{DecideError}
-use Rattle.verdict.specs.declared.decide_error.DecideError.TheVariants.{NoProperty, Limit, OutOfMemory}
+use Rattle.verdict.specs.declared.decide_error.DecideError.TheVariants.{NoProperty, Limit, IdsTaken, OutOfMemory}
 use Rattle.verdict.specs.declared.verdict.Verdict.{Verdict}
 use Rattle.verdict.specs.declared.verdict.Verdict.TheVariants.{Safe, Unsafe, Unknown}
 
@@ -50,10 +51,11 @@ IsOfClauses m p inv after (Safe c) = (c.property ≡ p) × (c.invariant ≡ inv)
 IsOfClauses m p inv after (Unsafe s) = ⊥
 IsOfClauses m p inv after (Unknown reason) = IsUnproved m p inv after reason
 
--- what stops the making of a certificate of clauses: a limit of `certify`, or out of memory
+-- what stops the making of a certificate of clauses: a limit of `certify`, used-up ids, or out of memory
 abbrev pub Stops : Parts → Property → List (List Lit) → DecideError → Type 0
 Stops m p inv (NoProperty n) = ⊥
 Stops m p inv Limit = IsUncertified m p inv certify.Limit
+Stops m p inv (IdsTaken used_up) = IsUncertified m p inv (certify.IdsTaken full)
 Stops m p inv (OutOfMemory refused) = Unit {0}
 
 -- what comes of a finding that left so much of the budget: a run is replayed, and of clauses a certificate is made
@@ -112,6 +114,7 @@ AskedInOrder answers m p old new before r after = AllTold answers m p old before
 pub record IsUnasked {E : Type 0} (m : Parts) (p : Property) (old new : List E) (before : Steps) (r : Result Verdict DecideError) (after : Steps) : Type 0 where
   pub refused : OnOk r ⊥
   pub large : IfErr r (λ e. e ≡ Limit → 4194303 < (circuit_of m p).max_var)
+  pub own : IfErr r (λ e. e ≢ IdsTaken full)
   pub engines : new ≡ old
   pub budget : after ≡ before
 

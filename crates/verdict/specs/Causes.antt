@@ -5,23 +5,26 @@ use Rattle.graph.specs.declared.circuit.Property.{Property}
 use Rattle.graph.specs.declared.parts.Parts.{Parts}
 use Rattle.graph.specs.Properties.{position_of, HasProperty}
 use Rattle.engine.specs.declared.finding.Reason.TheVariants.{NoEvidence}
+use Rattle.solver.specs.Full.{full}
 use Rattle.certify.specs.declared.certify_error.CertifyError.{CertifyError}
 use Rattle.certify.specs.declared.certify_error.CertifyError.TheVariants as certify
 use Rattle.verdict.specs.declared.verdict.Verdict.{Verdict}
 use Rattle.verdict.specs.declared.verdict.Verdict.TheVariants.{Unknown}
 use Rattle.verdict.specs.declared.decide_error.DecideError.{DecideError}
-use Rattle.verdict.specs.declared.decide_error.DecideError.TheVariants.{NoProperty, Limit, OutOfMemory}
+use Rattle.verdict.specs.declared.decide_error.DecideError.TheVariants.{NoProperty, Limit, IdsTaken, OutOfMemory}
 
 -- the circuit has no such property, whose position is reported; otherwise it has, and an engine gave up or memory ran out
 abbrev pub HasCause : Parts → Property → DecideError → Type 0
 HasCause m p (NoProperty n) = (n ≡ position_of p) × (HasProperty m p → ⊥)
 HasCause m p Limit = HasProperty m p
+HasCause m p (IdsTaken used_up) = HasProperty m p
 HasCause m p (OutOfMemory refused) = HasProperty m p
 
--- what comes of clauses of which no certificate is made: a limit and out of memory end the asking, and clauses with a
+-- what comes of clauses of which no certificate is made: a limit, used-up ids and out of memory end the asking, and clauses with a
 -- fault are no evidence
 abbrev pub of_certify : CertifyError → Result Verdict DecideError
 of_certify certify.Limit = Err Limit
+of_certify (certify.IdsTaken used_up) = Err (IdsTaken full)
 of_certify (certify.OutOfMemory refused) = Err (OutOfMemory witness)
 of_certify (certify.NoProperty n) = Ok (Unknown NoEvidence)
 of_certify (certify.NotLatch k) = Ok (Unknown NoEvidence)

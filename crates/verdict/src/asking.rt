@@ -159,6 +159,7 @@ fn uncertified(error: CertifyError) -> Result<Verdict, DecideError>
 {
     match error {
         CertifyError::Limit => Err(DecideError::Limit),
+        CertifyError::IdsTaken(full) => Err(DecideError::IdsTaken(full)),
         CertifyError::OutOfMemory(refused) => Err(DecideError::OutOfMemory(refused)),
         CertifyError::NoProperty(_) => Ok(Verdict::Unknown(Reason::NoEvidence)),
         CertifyError::NotLatch { .. } => Ok(Verdict::Unknown(Reason::NoEvidence)),

@@ -5,6 +5,7 @@ ghost use Rattle.verdict.specs.Numbers.{number_of, of_engine, place_of};
 
 use base::Refused;
 use engine::EngineError;
+use solver::Full;
 use thiserror::Error;
 
 /// Why nothing is answered of a property.
@@ -13,9 +14,12 @@ pub enum DecideError {
     /// the circuit has no property of this position
     #[error("there is no property {0}")]
     NoProperty(u32),
-    /// the shadow circuit has too many variables, an engine is over a limit, or `certify` is, of clauses that one found
+    /// the shadow circuit has too many variables, or an engine found more clauses than a certificate may have
     #[error("over a limit")]
     Limit,
+    /// a solver has used up its ids: an engine's, or one that `certify` asked about clauses that one found
+    #[error("{0}")]
+    IdsTaken(Full),
     /// out of memory
     #[error("{0}")]
     OutOfMemory(Refused),
@@ -26,7 +30,7 @@ impl From<EngineError> for DecideError {
 
     fn from(e: EngineError) -> DecideError {
         match e {
-            EngineError::Limit => DecideError::Limit,
+            EngineError::Limit(full) => DecideError::IdsTaken(full),
             EngineError::OutOfMemory(refused) => DecideError::OutOfMemory(refused),
         }
     }
@@ -38,7 +42,7 @@ impl DecideError {
         ensures { result ≡ number_of self }
     {
         match self {
-            DecideError::Limit => 4,
+            DecideError::Limit | DecideError::IdsTaken(_) => 4,
             DecideError::OutOfMemory(_) => 20,
             DecideError::NoProperty(_) => 30,
         }
@@ -50,7 +54,7 @@ impl DecideError {
     {
         match self {
             DecideError::NoProperty(position) => u64::from(position),
-            DecideError::Limit | DecideError::OutOfMemory(_) => 0,
+            DecideError::Limit | DecideError::IdsTaken(_) | DecideError::OutOfMemory(_) => 0,
         }
     }
 }

@@ -1,6 +1,6 @@
 //! Asking engines for a verdict.
 
-ghost use Rattle.std.specs.Prelude.{◌≡◌, ◌<◌, IfOk, IfErr, MatchResult, OnOk, length};
+ghost use Rattle.std.specs.Prelude.{◌≡◌, ◌≢◌, ◌<◌, IfOk, IfErr, MatchResult, OnOk, length};
 ghost use Rattle.std.specs.List.{All};
 ghost use Rattle.base.specs.Budget.{Spends};
 ghost use Rattle.checker.specs.Accepted.{circuit_of};
@@ -9,7 +9,8 @@ ghost use Rattle.engine.specs.declared.finding.Reason.TheVariants.{NoEvidence};
 ghost use Rattle.verdict.specs.Asked.{AskedInOrder, Asks};
 ghost use Rattle.verdict.specs.Causes.{HasCause};
 ghost use Rattle.verdict.specs.Verdicts.{IsAsked, IsBacked, IsMeant};
-ghost use Rattle.verdict.specs.declared.decide_error.DecideError.TheVariants.{Limit};
+ghost use Rattle.verdict.specs.declared.decide_error.DecideError.TheVariants.{Limit, IdsTaken};
+ghost use Rattle.solver.specs.Full.{full};
 ghost use Rattle.verdict.specs.declared.verdict.Verdict.TheVariants.{Unknown};
 
 use crate::asking::hear;
@@ -28,6 +29,7 @@ fn circuit_for(alloc: Global, model: &Model, property: Property) -> Result<Model
     ensures exists { OnOk result (HasProperty model.now property) }
     ensures refused { IfErr result (HasCause model.now property) }
     ensures large { IfErr result (λ e. e ≡ Limit → 4194303 < (circuit_of model.now property).max_var) }
+    ensures own { IfErr result (λ e. e ≢ IdsTaken full) }
 {
     match property {
         Property::Bad(n) => {
@@ -76,7 +78,7 @@ fn hear_each(
     ensures honest { All (λ e. honest e) engines.old → 0 < length engines.old → IfOk result (IsMeant model.now property budget.new) }
     ensures asked { AskedInOrder (λ e. answers e circuit.now) model.now property engines.old engines.new budget.old result budget.new }
     ensures refused { IfErr result (HasCause model.now property) }
-    ensures none { length engines.old ≡ 0 → (budget.new ≡ budget.old) × MatchResult result (λ v. v ≡ Unknown NoEvidence) (λ e. e ≡ Limit → ⊥) }
+    ensures none { length engines.old ≡ 0 → (budget.new ≡ budget.old) × MatchResult result (λ v. v ≡ Unknown NoEvidence) (λ e. (e ≡ Limit → ⊥) × (e ≢ IdsTaken full)) }
 {
     let mut told = Reason::NoEvidence;
     for engine in engines.iter_mut() {
@@ -121,7 +123,7 @@ pub fn decide(
     ensures exists { OnOk result (HasProperty model.now property) }
     ensures refused { IfErr result (HasCause model.now property) }
     // Without engines nothing is spent, nothing is known, and no limit is met but that of the shadow circuit.
-    ensures none { length engines.old ≡ 0 → (budget.new ≡ budget.old) × MatchResult result (λ v. v ≡ Unknown NoEvidence) (λ e. e ≡ Limit → 4194303 < (circuit_of model.now property).max_var) }
+    ensures none { length engines.old ≡ 0 → (budget.new ≡ budget.old) × MatchResult result (λ v. v ≡ Unknown NoEvidence) (λ e. (e ≡ Limit → 4194303 < (circuit_of model.now property).max_var) × (e ≢ IdsTaken full)) }
 {
     let circuit = circuit_for(alloc, model, property)?;
     hear_each(alloc, model, property, &circuit, engines, budget)

@@ -12,7 +12,11 @@ loop-clause-preserved c =
     let long : c.len.result ≡ length (get_or inv i []) = c.len.ensures ∙ ap length item in
     let other : c.len.result ≤ c.max-most.result = search rules in
     let this : length (get_or inv i []) ≤ c.max-most.result = omega (arith, long, other) in
+    let few : length (get_or inv i []) ≤ 4194303 = c.requires i [] c.loop-clause-test.true in
+    let len : c.len.result ≤ 4194303 = omega (arith, long, few) in
+    let most : c.loop-clause.most ≤ 4194303 = c.loop-clause.invariant.few in
     record {
+      few = search rules;
       one = let one = c.loop-clause.invariant.one in omega (arith, one, more);
       all = All-more (λ x. length x ≤ c.max-most.result) inv i [] c.loop-clause-test.true (λ k d k_in. let at = c.loop-clause.invariant.all k d k_in in omega (arith, at, more)) this;
     }

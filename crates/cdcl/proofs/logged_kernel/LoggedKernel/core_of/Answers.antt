@@ -1,11 +1,17 @@
-use Rattle.std.proofs.Common.{◌≡◌, inr, map, neg_ℤ, Some, All, Contains, ap, subst}
+use Rattle.std.proofs.Common.{◌≡◌, inr, true, map, neg_ℤ, Some, All, Contains, ap, subst}
 use Rattle.cdcl_kernel.specs.Kept.{added}
 use Rattle.cdcl_kernel.specs.Known.{IsLearned}
 use Rattle.solver.specs.Answers.{IsCore}
 use Rattle.lrat.specs.declared.line.Line.{Line}
-use Rattle.cdcl.specs.Logged.{IsLog, clause_of}
+use Rattle.cdcl.specs.Logged.{IsLog, clause_of, is_wanted}
+use Rattle.cdcl.proofs.Ended.{room_of}
 use Rattle.cdcl.proofs.Logged.{core_open}
 use Rattle.cdcl.proofs.logged_kernel.LoggedKernel.core_of.Goals as goal
+
+pub next_id-requires : goal.next_id-requires
+next_id-requires c =
+    let wanted : is_wanted c.self.inside.log ≡ true = ap is_wanted c.in-Open.is in
+    room_of c.self.inside.log c.self.inside.numbering c.self.inside.kernel.vars c.self.inside.kernel.kept c.self.inside.lines.items c.self.inside.end wanted c.self.invariant
 
 pub invariant_of-self-2 : goal.invariant_of-self-2
 invariant_of-self-2 c =

@@ -1,8 +1,14 @@
-use Rattle.std.proofs.Common.{◌≡◌, ◌∙◌, ap, subst}
-use Rattle.cdcl.specs.Logged.{IsLog}
+use Rattle.std.proofs.Common.{◌≡◌, ◌∙◌, true, ap, subst}
+use Rattle.cdcl.specs.Logged.{IsLog, is_wanted}
 use Rattle.cdcl.specs.declared.logging.Logging.TheVariants.{Open}
+use Rattle.cdcl.proofs.Ended.{room_of}
 use Rattle.cdcl.proofs.Logged.{learned_of, learned_open, learned_closed, empty_is, nonempty_is, if_true, if_false}
 use Rattle.cdcl.proofs.logged_kernel.LoggedKernel.learn_logged.Goals as goal
+
+pub next_id-requires : goal.next_id-requires
+next_id-requires c =
+    let wanted : is_wanted c.self.inside.log ≡ true = ap (λ s. is_wanted s.log) c.self.view_is ∙ ap is_wanted c.requires in
+    room_of c.self.inside.log c.self.inside.numbering c.self.inside.kernel.vars c.self.inside.kernel.kept c.self.inside.lines.items c.self.inside.end wanted c.self.invariant
 
 pub invariant_of-self-then-closes : goal.invariant_of-self-then-closes
 invariant_of-self-then-closes c =

@@ -1,4 +1,4 @@
-use Rattle.std.proofs.Common.{◌≡◌, ◌∙◌, ◌+◌, ◌<◌, ◌++◌, ◌∷◌, [], true, All, length, get_or, unsigned_abs, sym, ap, subst}
+use Rattle.std.proofs.Common.{◌≡◌, ◌∙◌, ◌+◌, ◌<◌, ◌++◌, ◌∷◌, [], true, All, length, get_or, unsigned_abs, sym, ap, subst, arith}
 use Rattle.lrat.specs.Limits.{IsHint}
 use Rattle.lrat.specs.Stages.{GoAlong}
 use Rattle.lrat.specs.Trimming.{trimmed}
@@ -45,6 +45,6 @@ returns c =
     let wanted : is_wanted c.self.inside.log ≡ true = ap (λ (k : Logged). is_wanted k.log) c.self.view_is ∙ c.requires.wanted in
     let log = reached_by c.self.inside.log n v kept ls c.self.inside.end wanted c.self.invariant in
     let is : p ++ wanting hs ∷ [] ≡ trimmed (ls ++ wanting hs ∷ []) = subst (λ xs. p ++ wanting hs ∷ [] ≡ trimmed (xs ++ wanting hs ∷ [])) c.as_slice-lines.ensures.value c.in_ok-proof.ensures in
-    subst (λ (g : Logged). AreLemmas (refuting g) ks (record { proof = p; top = top })) c.self.view_is
-    (lemmas_are (formula_of v kept) n ls p log.1.0 ks hs top log.0 log.1.1 c.in_ok-hints.ensures is c.lines.ensures.are_lines (λ w s u begins added along.
+    subst (λ (g : Logged). AreLemmas (refuting g) ks (record { proof = p; top = top; taken = c.taken-taken.result })) c.self.view_is
+    (lemmas_are (formula_of v kept) n ls p log.1.0 ks hs top c.taken-taken.result log.0 log.1.1 (let few = log.1.2 in omega (arith, few, c.taken-taken.ensures)) c.in_ok-hints.ensures is c.lines.ensures.are_lines (λ w s u begins added along.
     c.greatest_id-top.ensures w s u begins (subst (All IsAddition) (sym c.lines.ensures.lines) added) (subst (λ xs. GoAlong w s xs u) (sym c.lines.ensures.lines) along)))

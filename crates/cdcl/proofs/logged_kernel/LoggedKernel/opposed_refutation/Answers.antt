@@ -2,9 +2,14 @@ use Rattle.std.proofs.Common.{◌≡◌, ◌∙◌, ◌≤◌, ◌<◌, ◌+◌,
 use Rattle.lrat.specs.Limits.{IsLine}
 use Rattle.lrat.specs.Proofs.{IsAcceptedProof}
 use Rattle.cdcl.specs.Logged.{Logged, added_to, formula_of, is_wanted, with_units}
-use Rattle.cdcl.proofs.Ended.{above_room, base_of, opposed_is_line}
+use Rattle.cdcl.proofs.Ended.{above_room, base_of, opposed_is_line, room_of}
 use Rattle.cdcl.proofs.Sections.{accepted_opposed}
 use Rattle.cdcl.proofs.logged_kernel.LoggedKernel.opposed_refutation.Goals as goal
+
+pub next_id-requires : goal.next_id-requires
+next_id-requires c =
+    let wanted : is_wanted c.self.inside.log ≡ true = ap (λ (k : Logged). is_wanted k.log) c.self.view_is ∙ c.requires.wanted in
+    room_of c.self.inside.log c.self.inside.numbering c.self.inside.kernel.vars c.self.inside.kernel.kept c.self.inside.lines.items c.self.inside.end wanted c.self.invariant
 
 pub push_line-requires : goal.push_line-requires
 push_line-requires c =

@@ -1,4 +1,4 @@
-use Rattle.std.proofs.Common.{◌≡◌, ◌∙◌, ap, Result, Ok, Err, OnErr, arith}
+use Rattle.std.proofs.Common.{◌≡◌, ◌∙◌, ap, length, Result, Ok, Err, OnErr, arith}
 use Rattle.cdcl_kernel.specs.Places.{kept_at}
 use Rattle.cdcl_kernel.proofs.Placed.{kept_push, kept_unchanged, inside_push}
 use Rattle.cdcl_kernel.proofs.store.Store.add.Goals as goal
@@ -9,7 +9,9 @@ give_err (Err e) p = p
 
 pub invariant_of-self-2 : goal.invariant_of-self-2
 invariant_of-self-2 c =
-    rw (c.in_ok-extend.ensures.items, c.in_ok-push.ensures.items, c.len-start.ensures, c.self.inside.literals.ok.0) (inside_push c.self.inside.vars c.self.inside.literals.items c.args.clause.now c.self.inside.places.items c.args.origin (omega arith) (rw (← c.self.view_is) at c.requires) c.self.invariant)
+    let few = c.in_ok-next_id.ensures.few in
+    let same : length c.as_slice.result.now ≡ length c.self.inside.places.items = ap length c.as_slice.ensures.value in
+    rw (c.in_ok-extend.ensures.items, c.in_ok-push.ensures.items, c.len-start.ensures, c.self.inside.literals.ok.0) (inside_push c.self.inside.vars c.self.inside.literals.items c.args.clause.now c.self.inside.places.items c.args.origin (omega (arith, few, c.by.ensures, same)) (rw (← c.self.view_is) at c.requires) c.self.invariant)
 
 pub returns-clause-ok : goal.returns-clause-ok
 returns-clause-ok c =

@@ -7,6 +7,9 @@ use Rattle.certify.proofs.closed_cases.ClosedCases.write.Goals as goal
 pub lemmas-requires : goal.lemmas-requires
 lemmas-requires c = rw c.as_slice.ensures (units_of c.args.self.now c.requires.closed)
 
+pub write_sections-requires-clause-counted : goal.write_sections-requires-clause-counted
+write_sections-requires-clause-counted c = c.in_ok-lemmas.ensures.lemmas.counted
+
 pub returns : goal.returns
 returns c =
     let s = c.args.self.now in

@@ -13,7 +13,7 @@ section-requires c =
     let i_in : i < length s.closings = search rules in
     let at_units : us ≡ get_or s.units i us = search rules in
     let at_closing : k ≡ get_or s.closings i k = search rules in
-    record { shown = (s.refuter, shown_at s i us k c.requires.closed i_in at_units at_closing) }
+    record { shown = (s.refuter, shown_at s i us k c.requires.closed i_in at_units at_closing); counted = c.requires.counted }
 
 pub loop-place-preserved : goal.loop-place-preserved
 loop-place-preserved c = λ b over cs are.

@@ -1,4 +1,4 @@
-use Rattle.std.proofs.Common.{rules, ◌≡◌, ◌≤◌, ◌<◌, All, sym, subst}
+use Rattle.std.proofs.Common.{rules, ◌≡◌, ◌≤◌, ◌<◌, ◌+◌, All, sym, subst}
 use Rattle.ic3_frames.specs.declared.frames.Entry.{Entry}
 use Rattle.ic3_frames.specs.Frames.{IsStateClause}
 use Rattle.ic3.specs.Sound.{HasFrames}
@@ -10,10 +10,11 @@ pub add_all-requires : goal.add_all-requires
 add_all-requires g c =
     let m = c.args.circuit.now in
     let levels = c.args.levels in
-    let fits : levels ≤ c.in-Some.room = search rules in
-    let small : c.in-Some.room ≤ 4294967295 = search rules in
+    let room = levels + c.queries-room.result in
+    let fits : levels ≤ room = search rules in
+    let small : room ≤ 4294967295 = search rules in
     record {
-      has = has_none m c.entries.result.now c.load.new.self levels c.in-Some.room c.in_ok-load.ensures fits small;
+      has = has_none m c.entries.result.now c.load.new.self levels room c.in_ok-load.ensures fits c.requires.few small;
       clauses = subst (All (λ (e : Entry). IsStateClause m e.clause)) (sym c.entries.ensures) c.requires.laws.clauses;
       below = subst (All (λ (e : Entry). e.level < levels)) (sym c.entries.ensures) c.requires.below;
     }

@@ -3,24 +3,19 @@ use Rattle.cnf.specs.Formulas.{bad_literal}
 use Rattle.ic3.proofs.Joining.{opened_sound}
 use Rattle.ic3.proofs.frame_solver.FrameSolver.open_next.Goals as goal
 
-pub returns-then-top-self : goal.returns-then-top-self
-returns-then-top-self g c =
+pub returns-then-top-self-clause-sound : goal.returns-then-top-self-clause-sound
+returns-then-top-self-clause-sound g c =
     let m = c.args.circuit.now in
     let sound = c.requires.sound in
     let room : c.args.frames.now.top + 1 < c.args.self.now.levels = omega (arith, c.top.ensures, c.if-top-self.true) in
-    record {
-      sound = opened_sound m c.args.self.now c.args.frames.now c.open.new.self sound c.open.ensures.entries c.open.ensures.top room
-          (c.open.ensures.laws m (bad_literal m 0) sound.laws c.requires.excluded);
-    }
+    opened_sound m c.args.self.now c.args.frames.now c.open.new.self sound c.open.ensures.entries c.open.ensures.top room
+    (c.open.ensures.laws m (bad_literal m 0) sound.laws c.requires.excluded)
 
-pub returns : goal.returns
-returns g c =
+pub returns-clause-sound : goal.returns-clause-sound
+returns-clause-sound g c =
     let m = c.args.circuit.now in
     let sound = c.in_ok-load.ensures.sound in
     let top = c.requires.sound.top in
-    let twice : c.in-Some.levels ≡ c.args.self.now.levels * 2 = search rules in
-    let room : c.args.frames.now.top + 1 < c.load.new.self.levels = omega (arith, top, twice, c.in_ok-load.ensures.levels) in
-    record {
-      sound = opened_sound m c.load.new.self c.args.frames.now c.open-2.new.self sound c.open-2.ensures.entries c.open-2.ensures.top room
-          (c.open-2.ensures.laws m (bad_literal m 0) sound.laws c.requires.excluded);
-    }
+    let room : c.args.frames.now.top + 1 < c.load.new.self.levels = omega (arith, top, c.in_ok-load.ensures.levels) in
+    opened_sound m c.load.new.self c.args.frames.now c.open-2.new.self sound c.open-2.ensures.entries c.open-2.ensures.top room
+    (c.open-2.ensures.laws m (bad_literal m 0) sound.laws c.requires.excluded)
