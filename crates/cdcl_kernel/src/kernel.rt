@@ -109,6 +109,7 @@ impl Kernel {
     }
 
     /// The clause with this id, where it was not taken out.
+    #[inline]
     pub fn clause(&self, id: u32) -> Option<&[i32]>
         ensures value { option_map (λ c. c.now) result ≡ find_in self.now.kept id }
         ensures in_range { IfSome result (λ c. All (IsLiteral self.now.vars) c.now) }
@@ -124,6 +125,7 @@ impl Kernel {
     }
 
     /// Whether the literal is on the trail: no where the number is not a literal.
+    #[inline]
     pub fn is_true(&self, literal: i32) -> bool
         ensures { IsTrue result ↔ Contains self.now.literals literal }
     {
@@ -131,6 +133,7 @@ impl Kernel {
     }
 
     /// Whether the literal's negation is on the trail: no where the number is not a literal.
+    #[inline]
     pub fn is_false(&self, literal: i32) -> bool
         ensures { IsTrue result ↔ Contains self.now.literals (neg_ℤ literal) }
     {
@@ -138,6 +141,7 @@ impl Kernel {
     }
 
     /// Whether this is a literal of one of the variables, as those of the trail are.
+    #[inline]
     fn is_literal(&self, literal: i32) -> bool
         ensures value { IsTrue result ↔ IsLiteral self.now.vars literal }
         ensures held { All (IsLiteral self.now.vars) self.now.literals }
@@ -154,6 +158,7 @@ impl Kernel {
     }
 
     /// The literal at a place of the trail.
+    #[inline]
     pub fn literal(&self, place: usize) -> Option<i32>
         ensures { result ≡ slice_get self.now.literals place }
     {
@@ -161,6 +166,7 @@ impl Kernel {
     }
 
     /// The reason at a place of the trail, where it has one.
+    #[inline]
     pub fn reason(&self, place: usize) -> Option<u32>
         ensures { result ≡ slice_index_or self.now.reasons place None }
     {
@@ -171,6 +177,7 @@ impl Kernel {
     }
 
     /// A literal of the clause that is not false, besides one.
+    #[inline]
     pub fn replacement(&self, id: u32, other: i32) -> Option<i32>
         ensures some { IfSome result (λ l. (c : List ℤ) × (find_in self.now.kept id ≡ Some c) × IsReplacement self.now.literals c other l) }
         ensures none { result ≡ None → (c : List ℤ) → find_in self.now.kept id ≡ Some c → (l : ℤ) → IsReplacement self.now.literals c other l → ⊥ }
@@ -196,6 +203,7 @@ impl Kernel {
 
     /// Looks what the trail leaves of the clause, and puts its literal on the trail where one is
     /// left that is open. A refusal changes nothing.
+    #[inline]
     pub fn imply(&mut self, id: u32) -> Result<Found, SatError>
         ensures vars { self.new.vars ≡ self.old.vars }
         ensures kept { self.new.kept ≡ self.old.kept }

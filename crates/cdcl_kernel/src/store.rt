@@ -226,6 +226,7 @@ impl Lookup for Store {
         self.vars
     }
 
+    #[inline]
     fn get(&self, id: u32) -> Option<&[i32]> {
         let index = id as usize;
         if index == 0 || index > self.places.len() {

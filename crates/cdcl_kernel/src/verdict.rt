@@ -26,6 +26,7 @@ pub fn holds_one(trail: &Trail, clause: &[i32]) -> bool
 }
 
 /// A literal of the clause that the trail doesn't deny, besides another one.
+#[inline]
 pub fn replacement(trail: &Trail, clause: &[i32], other: i32) -> Option<i32>
     requires { All (IsLiteral trail.now.vars) clause.now }
     ensures { MatchOption result ((l : ℤ) → IsReplacement trail.now.literals clause.now other l → ⊥) (IsReplacement trail.now.literals clause.now other) }
