@@ -1,7 +1,6 @@
 //! The layout in which a circuit is to be written.
 
-use clap::{Arg, ArgAction, ArgMatches, Command};
-use std::alloc::{AllocError, Global};
+use clap::ArgMatches;
 
 /// The layout that is asked for.
 #[derive(Clone, Copy, Debug, PartialEq, Eq)]
@@ -12,19 +11,6 @@ pub enum AskedLayout {
     Ascii,
     /// Binary.
     Binary,
-}
-
-/// A command with the options that say the layout.
-pub fn with_layout<'a>(alloc: Global, command: Command<'a>) -> Result<Command<'a>, AllocError> {
-    let ascii = Arg::new(alloc, "ascii")
-        .help("Writes ASCII, whatever OUT ends in")
-        .long("ascii")
-        .action(ArgAction::SetTrue);
-    let binary = Arg::new(alloc, "binary")
-        .help("Writes binary, whatever OUT ends in")
-        .long("binary")
-        .action(ArgAction::SetTrue);
-    command.arg(ascii)?.arg(binary)
 }
 
 /// The layout that the words ask for, or nothing where they ask for both.

@@ -7,7 +7,7 @@ use crate::witnessing::{Counterexample, asked_witness};
 use crate::words::word;
 use crate::wrong::Wrong;
 use clap::ArgMatches;
-use std::alloc::{AllocError, Global};
+use std::alloc::Global;
 
 /// What looks for evidence.
 #[derive(Clone, Copy, Debug, PartialEq, Eq)]
@@ -50,34 +50,34 @@ pub struct Search {
 }
 
 /// What is to be done. Files go by their names.
-#[derive(Drop)]
-pub enum Request {
+#[derive(Clone, Copy)]
+pub enum Request<'a> {
     /// Write a circuit in another layout.
     Convert {
         /// the circuit's file
-        file: String,
+        file: &'a str,
         /// the file to make
-        out: String,
+        out: &'a str,
         /// its layout
         layout: AskedLayout,
     },
     /// Print the values in a stimulus's replay.
     Sim {
         /// the circuit's file
-        file: String,
+        file: &'a str,
         /// the stimulus's file
-        stimulus: String,
+        stimulus: &'a str,
     },
     /// Print a stimulus's replay by the names of its signals, or make a waveform of it.
     Trace {
         /// the circuit's file
-        file: String,
+        file: &'a str,
         /// the stimulus's file
-        stimulus: String,
+        stimulus: &'a str,
         /// whether signals whose names begin with `$` are shown too
         all: bool,
         /// the file to make of the waveform, where one is named
-        waveform: Option<String>,
+        waveform: Option<&'a str>,
     },
     /// Say what the number of a fault means.
     Explain {
@@ -87,26 +87,26 @@ pub enum Request {
     /// Look for evidence about a property.
     Check {
         /// the circuit's file
-        file: String,
+        file: &'a str,
         /// the property's name
-        property: String,
+        property: &'a str,
         /// the file to make of a certificate, where one is named
-        certificate: Option<String>,
+        certificate: Option<&'a str>,
         /// how the search is to go
         search: Search,
     },
     /// Make a certificate of clauses.
-    Certify(Claim),
+    Certify(Claim<'a>),
     /// Write the shadow circuit of a justice property.
-    ToSafety(Shadow),
+    ToSafety(Shadow<'a>),
     /// Make a strict stimulus of a counterexample.
-    Witness(Counterexample),
+    Witness(Counterexample<'a>),
     /// Look for evidence about all properties.
     All {
         /// the circuit's file
-        file: String,
+        file: &'a str,
         /// the folder for the evidence, where one is named
-        folder: Option<String>,
+        folder: Option<&'a str>,
         /// how the search is to go
         search: Search,
     },
@@ -136,89 +136,82 @@ fn asked_search(words: &ArgMatches<'_>) -> Search {
     }
 }
 
-/// The word given for an argument, where there is one.
-fn given(alloc: Global, words: &ArgMatches<'_>, name: &str) -> Result<Option<String>, AllocError> {
-    match words.get_str(name) {
-        Some(word) => Ok(Some(String::from_str(alloc, word)?)),
-        None => Ok(None),
+/// What `check` asks for.
+fn asked_check<'a>(words: &ArgMatches<'a>) -> Request<'a> {
+    Request::Check {
+        file: word(words, "FILE"),
+        property: word(words, "property"),
+        certificate: words.get_str("cert"),
+        search: asked_search(words),
     }
 }
 
-/// What `check` asks for.
-fn asked_check(alloc: Global, words: &ArgMatches<'_>) -> Result<Request, AllocError> {
-    Ok(Request::Check {
-        file: word(alloc, words, "FILE")?,
-        property: word(alloc, words, "property")?,
-        certificate: given(alloc, words, "cert")?,
-        search: asked_search(words),
-    })
-}
-
 /// What `all` asks for.
-fn asked_all(alloc: Global, words: &ArgMatches<'_>) -> Result<Request, AllocError> {
-    Ok(Request::All {
-        file: word(alloc, words, "FILE")?,
-        folder: given(alloc, words, "out")?,
+fn asked_all<'a>(words: &ArgMatches<'a>) -> Request<'a> {
+    Request::All {
+        file: word(words, "FILE"),
+        folder: words.get_str("out"),
         search: asked_search(words),
-    })
+    }
 }
 
-/// What `convert` asks for.
-fn asked_convert(
-    alloc: Global,
-    words: &ArgMatches<'_>,
-    layout: AskedLayout,
-) -> Result<Request, AllocError> {
-    Ok(Request::Convert {
-        file: word(alloc, words, "FILE")?,
-        out: word(alloc, words, "OUT")?,
+/// What `convert` asks for, or nothing where it asks for two layouts.
+fn asked_convert<'a>(words: &ArgMatches<'a>) -> Option<Request<'a>> {
+    let layout = asked_layout(words)?;
+    Some(Request::Convert {
+        file: word(words, "FILE"),
+        out: word(words, "OUT"),
         layout,
     })
 }
 
 /// What `sim` asks for.
-fn asked_sim(alloc: Global, words: &ArgMatches<'_>) -> Result<Request, AllocError> {
-    Ok(Request::Sim {
-        file: word(alloc, words, "FILE")?,
-        stimulus: word(alloc, words, "STIM")?,
-    })
+fn asked_sim<'a>(words: &ArgMatches<'a>) -> Request<'a> {
+    Request::Sim {
+        file: word(words, "FILE"),
+        stimulus: word(words, "STIM"),
+    }
 }
 
 /// What `trace` asks for.
-fn asked_trace(alloc: Global, words: &ArgMatches<'_>) -> Result<Request, AllocError> {
-    Ok(Request::Trace {
-        file: word(alloc, words, "FILE")?,
-        stimulus: word(alloc, words, "STIM")?,
+fn asked_trace<'a>(words: &ArgMatches<'a>) -> Request<'a> {
+    Request::Trace {
+        file: word(words, "FILE"),
+        stimulus: word(words, "STIM"),
         all: words.get_flag("all"),
-        waveform: given(alloc, words, "vcd")?,
-    })
+        waveform: words.get_str("vcd"),
+    }
 }
 
 /// What `explain` asks for.
-fn asked_explanation(words: &ArgMatches<'_>) -> Request {
+fn asked_explanation<'a>(words: &ArgMatches<'a>) -> Request<'a> {
     Request::Explain {
         number: words.get_one::<u8>("NUMBER").unwrap_or(0),
     }
 }
 
+/// What the words of a command ask for, where there is such a command.
+fn asked<'a>(name: &str, words: &ArgMatches<'a>) -> Option<Request<'a>> {
+    match name {
+        "check" => Some(asked_check(words)),
+        "all" => Some(asked_all(words)),
+        "certify" => Some(Request::Certify(asked_certify(words))),
+        "to-safety" => Some(Request::ToSafety(asked_to_safety(words))),
+        "witness" => Some(Request::Witness(asked_witness(words))),
+        "convert" => asked_convert(words),
+        "sim" => Some(asked_sim(words)),
+        "trace" => Some(asked_trace(words)),
+        "explain" => Some(asked_explanation(words)),
+        _ => None,
+    }
+}
+
 /// What a command line's words ask for, of which the first is the program's name. There is nothing
 /// where they name no command.
-pub fn parse(alloc: Global, words: &[String]) -> Result<Option<Request>, Wrong> {
+pub fn parse<'a>(alloc: Global, words: &'a [String]) -> Result<Option<Request<'a>>, Wrong> {
     let matches = command(alloc)?.try_get_matches_from(words)?;
-    let request = match matches.subcommand() {
-        Some(("check", words)) => asked_check(alloc, words)?,
-        Some(("all", words)) => asked_all(alloc, words)?,
-        Some(("certify", words)) => Request::Certify(asked_certify(alloc, words)?),
-        Some(("to-safety", words)) => Request::ToSafety(asked_to_safety(alloc, words)?),
-        Some(("witness", words)) => Request::Witness(asked_witness(alloc, words)?),
-        Some(("convert", words)) => match asked_layout(words) {
-            Some(layout) => asked_convert(alloc, words, layout)?,
-            None => return Ok(None),
-        },
-        Some(("sim", words)) => asked_sim(alloc, words)?,
-        Some(("trace", words)) => asked_trace(alloc, words)?,
-        Some(("explain", words)) => asked_explanation(words),
-        _ => return Ok(None),
+    let Some((name, words)) = matches.subcommand() else {
+        return Ok(None);
     };
-    Ok(Some(request))
+    Ok(asked(name, words))
 }

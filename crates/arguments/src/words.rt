@@ -1,25 +1,154 @@
-//! Words that several commands take.
+//! The arguments of commands: rows of plain values, what clap is told of a row, and how a word is read back.
 
+use clap::builder::ValueParser;
 use clap::{Arg, ArgAction, ArgMatches};
-use std::alloc::{AllocError, Global};
+use std::alloc::Global;
 
-/// A file that has to be named.
-pub fn file<'a>(alloc: Global, name: &'a str, about: &'a str) -> Arg<'a> {
-    Arg::new(alloc, name)
-        .help(about)
-        .required(true)
-        .action(ArgAction::Set)
+/// What an argument takes.
+#[derive(Clone, Copy)]
+pub enum Takes {
+    /// Nothing: it is there or not.
+    Nothing,
+    /// A text.
+    Text,
+    /// A number below 256.
+    SmallNumber,
+    /// A number below 2^64.
+    Number,
+    /// The name of an engine.
+    Engine,
 }
 
-/// An option with a value that is given where it is left out.
-pub fn option<'a>(alloc: Global, name: &'a str, about: &'a str, value: &'a str) -> Arg<'a> {
+/// The engines that may be asked for.
+static ENGINES: [&str; 4] = ["all", "bmc", "ic3", "random"];
+
+/// An argument of a command.
+#[derive(Clone, Copy)]
+pub struct Argument {
+    /// what it is read back by, and what stands behind `--` where it is `long`
+    pub name: &'static str,
+    /// what `--help` says of it
+    pub help: &'static str,
+    /// its letter behind `-`, where it has one
+    pub short: Option<char>,
+    /// whether it is given by its name behind `--`
+    pub long: bool,
+    /// whether it has to be there
+    pub required: bool,
+    /// what `--help` calls its value, if not its name
+    pub value: &'static str,
+    /// its value where it is left out, if it has one then
+    pub default: &'static str,
+    /// what its value has to be
+    pub takes: Takes,
+}
+
+/// A file that has to be named, in its place.
+pub const FILE: Argument = Argument {
+    name: "FILE",
+    help: "The circuit (AIGER 1.9, ASCII or binary)",
+    short: None,
+    long: false,
+    required: true,
+    value: "",
+    default: "",
+    takes: Takes::Text,
+};
+
+/// An option with a text that may be left out.
+pub const OPTION: Argument = Argument {
+    long: true,
+    required: false,
+    ..FILE
+};
+
+/// An option that is there or not.
+pub const FLAG: Argument = Argument {
+    takes: Takes::Nothing,
+    ..OPTION
+};
+
+/// The property, which has to be named.
+pub const PROPERTY: Argument = Argument {
+    name: "property",
+    help: "The property: b, j or o and its position",
+    short: Some('p'),
+    value: "P",
+    ..FILE
+};
+
+/// The argument with its letter, where it has one.
+fn with_short<'a>(arg: Arg<'a>, short: Option<char>) -> Arg<'a> {
+    match short {
+        Some(letter) => arg.short(letter),
+        None => arg,
+    }
+}
+
+/// The argument with its name behind `--`, where it is given by that.
+fn with_long<'a>(arg: Arg<'a>, name: &'a str, is_long: bool) -> Arg<'a> {
+    if is_long { arg.long(name) } else { arg }
+}
+
+/// The argument with what `--help` calls its value, where that is not its name.
+fn with_value_name<'a>(arg: Arg<'a>, name: &'a str) -> Arg<'a> {
+    if name.is_empty() {
+        arg
+    } else {
+        arg.value_name(name)
+    }
+}
+
+/// The argument with its value where it is left out, where it has one.
+fn with_default<'a>(arg: Arg<'a>, value: &'a str) -> Arg<'a> {
+    if value.is_empty() {
+        arg
+    } else {
+        arg.default_value(value)
+    }
+}
+
+impl Takes {
+    /// What a value has to be.
+    fn parser<'a>(self) -> ValueParser<'a> {
+        match self {
+            Takes::Nothing => ValueParser::Bool,
+            Takes::Text => ValueParser::String,
+            Takes::SmallNumber => ValueParser::Signed(0, 255),
+            Takes::Number => ValueParser::Unsigned(0, u64::MAX),
+            Takes::Engine => ValueParser::Names(ENGINES.as_slice()),
+        }
+    }
+
+    /// What is done where the argument is there.
+    fn action(self) -> ArgAction {
+        match self {
+            Takes::Nothing => ArgAction::SetTrue,
+            _ => ArgAction::Set,
+        }
+    }
+}
+
+/// An argument with what it takes.
+fn taking<'a>(alloc: Global, name: &'a str, help: &'a str, takes: Takes) -> Arg<'a> {
     Arg::new(alloc, name)
-        .help(about)
-        .long(name)
-        .default_value(value)
+        .help(help)
+        .value_parser(takes.parser())
+        .action(takes.action())
+}
+
+impl Argument {
+    /// What clap is told of the argument.
+    pub fn arg<'a>(self, alloc: Global) -> Arg<'a> {
+        let arg = taking(alloc, self.name, self.help, self.takes).required(self.required);
+        let arg = with_short(arg, self.short);
+        let arg = with_long(arg, self.name, self.long);
+        let arg = with_value_name(arg, self.value);
+        with_default(arg, self.default)
+    }
 }
 
 /// The word given for an argument that has to be there.
-pub fn word(alloc: Global, words: &ArgMatches<'_>, name: &str) -> Result<String, AllocError> {
-    String::from_str(alloc, words.get_str(name).unwrap_or(""))
+pub fn word<'a>(words: &ArgMatches<'a>, name: &str) -> &'a str {
+    words.get_str(name).unwrap_or("")
 }
