@@ -19,3 +19,7 @@ three_more old a b c x y z p q r = r ∙ ap (λ u. u ++ z ∷ []) (two_more old 
 pub then_both : {T E P Q R : Type 0} (r : Result T E) → OnOk r P → OnOk r Q → (P → Q → R) → OnOk r R
 then_both (Ok x) p q f = f p q
 then_both (Err e) p q f = tt
+
+pub then_pair : {T E : Type 0} (P Q : Type 0) (r : Result T E) → OnOk r P → OnOk r Q → OnOk r (P × Q)
+then_pair P Q (Ok x) p q = (p, q)
+then_pair P Q (Err e) p q = tt

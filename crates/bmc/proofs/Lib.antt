@@ -3,7 +3,9 @@ pub mod Negated
 pub mod Satisfied
 pub mod Added
 pub mod Encoded
+pub mod Completed
 pub mod Tabled
+pub mod Demanded
 pub mod Closed
 pub mod Coned
 pub mod Unrolled

@@ -11,13 +11,12 @@ use Rattle.graph.specs.WellFormed.{IsWellFormed}
 use Rattle.graph.proofs.Evaluation.{All-left, latches_in_range, lefts_even}
 use Rattle.graph.proofs.Gates.{value_of-even}
 use Rattle.lrat.specs.Literals.{is_true, IsLiteral}
-use Rattle.cnf.specs.Meaning.{AreSatisfied}
 use Rattle.cnf.specs.Formulas.{IsGateIn}
 use Rattle.cnf.proofs.Frames.{gates_in_range}
 use Rattle.bmc.specs.declared.cone.Cone.{Cone}
 use Rattle.bmc.specs.declared.encoder.Encoder.{Encoder}
 use Rattle.bmc.specs.Cones.{IsConeOf, IsFilled, gate_at, no_gate, no_latch}
-use Rattle.bmc.specs.Encodings.{IsConjunctionIn, IsEncoding}
+use Rattle.bmc.specs.Encodings.{IsConjunctionIn, IsEncoding, Told, AreKept}
 use Rattle.bmc.specs.Unrollings.{Leaves, Follows, Stands, IsTable, AreFresh, AreStates, literal_at, literal_of, input_of, latch_of}
 use Rattle.bmc.proofs.Negated.{negation_literal, negation_true, literal_up}
 
@@ -39,10 +38,10 @@ literal_true table v w a nz e = elim (cases_eq (a.0 % 2) 1) [
 ]
 
 -- more clauses, and more variables
-pub stands_weaker : (m : Parts) (c : Cone) (s : Leaves) (cs ds : List (List ℤ)) (t x : ℕ) (l : ℤ) → ((v : ℕ → Bool) → AreSatisfied v ds → AreSatisfied v cs) → Stands m c s cs t x l → Stands m c s ds t x l
+pub stands_weaker : (m : Parts) (c : Cone) (s : Leaves) (cs ds : Told) (t x : ℕ) (l : ℤ) → ((v : ℕ → Bool) → AreKept v ds → AreKept v cs) → Stands m c s cs t x l → Stands m c s ds t x l
 stands_weaker m c s cs ds t x l weaker stands r v follows all t_in = stands r v follows (weaker v all) t_in
 
-pub table_weaker : (m : Parts) (c : Cone) (s : Leaves) (cs ds : List (List ℤ)) (t n k i j g : ℕ) (table : List ℤ) → ((v : ℕ → Bool) → AreSatisfied v ds → AreSatisfied v cs) → n ≤ k →
+pub table_weaker : (m : Parts) (c : Cone) (s : Leaves) (cs ds : Told) (t n k i j g : ℕ) (table : List ℤ) → ((v : ℕ → Bool) → AreKept v ds → AreKept v cs) → n ≤ k →
     IsTable m c s cs t n i j g table → IsTable m c s ds t k i j g table
 table_weaker m c s cs ds t n k i j g table weaker le is = record {
   whole = is.whole;
@@ -51,7 +50,7 @@ table_weaker m c s cs ds t n k i j g table weaker le is = record {
 }
 
 -- one more variable
-table_set : (m : Parts) (c : Cone) (s : Leaves) (cs : List (List ℤ)) (t n i j g i2 j2 g2 x : ℕ) (l : ℤ) (table : List ℤ) → IsTable m c s cs t n i j g table → x < m.max_var + 1 →
+table_set : (m : Parts) (c : Cone) (s : Leaves) (cs : Told) (t n i j g i2 j2 g2 x : ℕ) (l : ℤ) (table : List ℤ) → IsTable m c s cs t n i j g table → x < m.max_var + 1 →
     IsLiteral n l → Stands m c s cs t x l → ((y : ℕ) → IsFilled m c i2 j2 g2 y → IsFilled m c i j g y ⊎ (y ≡ x)) → IsTable m c s cs t n i2 j2 g2 (set table x l)
 table_set m c s cs t n i j g i2 j2 g2 x l table is x_in l_in stands filled =
     let inside : x < length table = omega (arith, x_in, is.whole) in
@@ -99,7 +98,7 @@ filled_gate m c i j g y (inr (inr (inr (k, k_in, is)))) = elim (cases_lt k g) [
   | inr last ↦ let same : k ≡ g = omega (arith, k_in, last) in inr (sym is ∙ ap (λ q. variable (gate_at c.gates.items q).lhs) same)
 ]
 
-pub table_input : (m : Parts) (c : Cone) (s : Leaves) (cs : List (List ℤ)) (t n first i : ℕ) (l : ℤ) (table : List ℤ) → IsTable m c s cs t n i 0 0 table → input_of m c i < m.max_var + 1 →
+pub table_input : (m : Parts) (c : Cone) (s : Leaves) (cs : Told) (t n first i : ℕ) (l : ℤ) (table : List ℤ) → IsTable m c s cs t n i 0 0 table → input_of m c i < m.max_var + 1 →
     i < length c.inputs.items → first + length c.inputs.items ≤ n → l ≡ pos (first + (i + 1)) → AreFresh m c s t first → IsTable m c s cs t n (i + 1) 0 0 (set table (input_of m c i) l)
 table_input m c s cs t n first i l table is x_in i_in room l_is fresh =
     let e : first + (i + 1) ≡ suc (first + i) = omega arith in
@@ -109,22 +108,22 @@ table_input m c s cs t n first i l table is x_in i_in room l_is fresh =
     (subst (Stands m c s cs t (input_of m c i)) (sym l_suc) (λ r v follows all t_in. ap v (sym e) ∙ fresh r v follows t_in i i_in))
     (filled_input m c i)
 
-pub table_latch : (m : Parts) (c : Cone) (s : Leaves) (cs : List (List ℤ)) (t n i j : ℕ) (state table : List ℤ) → IsTable m c s cs t n i j 0 table → variable (latch_of m c j) < m.max_var + 1 →
+pub table_latch : (m : Parts) (c : Cone) (s : Leaves) (cs : Told) (t n i j : ℕ) (state table : List ℤ) → IsTable m c s cs t n i j 0 table → variable (latch_of m c j) < m.max_var + 1 →
     j < length c.latches.items → length state ≡ length c.latches.items → AreStates m c s cs t n state → IsTable m c s cs t n i (j + 1) 0 (set table (variable (latch_of m c j)) (literal_at state j))
 table_latch m c s cs t n i j state table is x_in j_in whole states =
     table_set m c s cs t n i j 0 i (j + 1) 0 (variable (latch_of m c j)) (literal_at state j) table is x_in (states.literals j (negsuc 0) (omega (arith, j_in, whole))) (states.stands j j_in)
     (filled_latch m c i j)
 
 -- a literal of the table stands for a literal of the circuit
-pub literal_stands : (m : Parts) (c : Cone) (s : Leaves) (cs : List (List ℤ)) (t n i j g : ℕ) (table : List ℤ) (a : Lit) → IsTable m c s cs t n i j g table → IsFilled m c i j g (variable a) →
-    variable a < m.max_var + 1 → (r : List (List Bool)) (v : ℕ → Bool) → Follows m c s r v → AreSatisfied v cs → t < length r → is_true v (literal_of table a) ≡ value_of (at r t) a
+pub literal_stands : (m : Parts) (c : Cone) (s : Leaves) (cs : Told) (t n i j g : ℕ) (table : List ℤ) (a : Lit) → IsTable m c s cs t n i j g table → IsFilled m c i j g (variable a) →
+    variable a < m.max_var + 1 → (r : List (List Bool)) (v : ℕ → Bool) → Follows m c s r v → AreKept v cs → t < length r → is_true v (literal_of table a) ≡ value_of (at r t) a
 literal_stands m c s cs t n i j g table a is filled a_in r v follows all t_in =
     literal_true table v (at r t) a (is.literals (variable a) (negsuc 0) (omega (arith, a_in, is.whole))).0 (is.stands (variable a) filled r v follows all t_in)
 
-pub table_gate : (m : Parts) (c : Cone) (s : Leaves) (cs ds : List (List ℤ)) (t n k g : ℕ) (l : ℤ) (table : List ℤ) → IsWellFormed m → IsConeOf m c → g < length c.gates.items →
-    IsTable m c s cs t n (length c.inputs.items) (length c.latches.items) g table → ((v : ℕ → Bool) → AreSatisfied v ds → AreSatisfied v cs) → n ≤ k → IsLiteral k l →
+pub table_gate : (m : Parts) (c : Cone) (s : Leaves) (cs ds : Told) (t n k g : ℕ) (l : ℤ) (table : List ℤ) → IsWellFormed m → IsConeOf m c → g < length c.gates.items →
+    IsTable m c s cs t n (length c.inputs.items) (length c.latches.items) g table → ((v : ℕ → Bool) → AreKept v ds → AreKept v cs) → n ≤ k → IsLiteral k l →
     variable (gate_at c.gates.items g).lhs < m.max_var + 1 → variable (gate_at c.gates.items g).rhs0 < m.max_var + 1 → variable (gate_at c.gates.items g).rhs1 < m.max_var + 1 →
-    IsConjunctionIn ds (literal_of table (gate_at c.gates.items g).rhs0) (literal_of table (gate_at c.gates.items g).rhs1) l →
+    IsConjunctionIn ds.rights (literal_of table (gate_at c.gates.items g).rhs0) (literal_of table (gate_at c.gates.items g).rhs1) l →
     IsTable m c s ds t k (length c.inputs.items) (length c.latches.items) (g + 1) (set table (variable (gate_at c.gates.items g).lhs) l)
 table_gate m c s cs ds t n k g l table well cone g_in is weaker le l_in x_in a_in b_in made =
     let gate : Gate = gate_at c.gates.items g in
@@ -138,7 +137,7 @@ table_gate m c s cs ds t n k g l table well cone g_in is weaker le l_in x_in a_i
     let one = literal_stands m c s cs t n (length c.inputs.items) (length c.latches.items) g table gate.rhs0 is reads.0 a_in r v follows before t_in in
     let other = literal_stands m c s cs t n (length c.inputs.items) (length c.latches.items) g table gate.rhs1 is reads.1 b_in r v follows before t_in in
     let fires : Fires (at r t) gate = All-contains (Fires (at r t)) m.gates gate (follows.runs.agrees t [] t_in).gates among in
-    made v all ∙ (rw (one, other) refl) ∙ sym fires ∙ value_of-even (at r t) gate.lhs even.1)
+    made v all.0 ∙ (rw (one, other) refl) ∙ sym fires ∙ value_of-even (at r t) gate.lhs even.1)
     (filled_gate m c (length c.inputs.items) (length c.latches.items) g)
 
 -- what the cone has is in range

@@ -27,9 +27,10 @@ use Rattle.cnf.proofs.Listed.{satisfied-unit, unit-satisfied}
 use Rattle.bmc.specs.declared.cone.Cone.{Cone}
 use Rattle.bmc.specs.declared.encoder.Encoder.{Encoder}
 use Rattle.bmc.specs.Cones.{IsConeOf, IsIn, IsFilled, latch_at, no_latch}
-use Rattle.bmc.specs.Encodings.{IsEncoding, IsExtended, IsGrown, same_pair}
+use Rattle.bmc.specs.Encodings.{rights_at, AreBelow, IsConjunctionIn, IsGate, IsDefined, IsEncoding, IsExtended, IsGrown, same_pair, Told, told, AreKept}
+use Rattle.bmc.specs.Demands.{IsMore, AreOver}
 use Rattle.bmc.specs.Unrollings.{Leaves, Follows, Stands, IsTable, AreFresh, AreStates, AreInitial, IsUnrolled, later, literal_at, literal_of, input_of, latch_of}
-use Rattle.bmc.proofs.Encoded.{AgreeUpTo, agree_true, agree_satisfied, literals_up}
+use Rattle.bmc.proofs.Encoded.{AgreeUpTo, agree_true, agree_satisfied, defined_agree, literals_up}
 use Rattle.bmc.proofs.Closed.{next_range, no_some}
 use Rattle.bmc.proofs.Negated.{literal_up}
 use Rattle.bmc.proofs.Tabled.{latch_range, literal_in_range, literal_stands, stands_weaker, table_weaker}
@@ -51,39 +52,36 @@ pub fresh_later : (m : Parts) (c : Cone) (s : Leaves) (first : ℕ) → AreFresh
 fresh_later m c s first r v h t_r k k_in =
     ap (λ q. v (q + (k + 1))) (sym (first_new s first)) ∙ h.inputs (length s.firsts) k (omega (arith, length-append s.firsts (first ∷ []))) t_r k_in
 
-pub states_later : (m : Parts) (c : Cone) (s : Leaves) (cs : List (List ℤ)) (t n k first : ℕ) (state : List ℤ) → n ≤ k → AreStates m c s cs t n state → AreStates m c (later s first) cs t k state
+pub states_later : (m : Parts) (c : Cone) (s : Leaves) (cs : Told) (t n k first : ℕ) (state : List ℤ) → n ≤ k → AreStates m c s cs t n state → AreStates m c (later s first) cs t k state
 states_later m c s cs t n k first state le h = record {
   literals = All-weaker (IsLiteral n) (IsLiteral k) (λ l is. literal_up n k l is le) state h.literals;
   stands = λ i i_in r v follows all t_in. h.stands i i_in r v (follows_before m c s first r v follows) all t_in;
 }
 
-pub encoding_later : (e f : Encoder) (cs : List (List ℤ)) → e.variables ≤ f.variables → f.conjunctions ≡ e.conjunctions → IsEncoding e cs → IsEncoding f cs
-encoding_later e f cs le same h = record {
-  some = omega (arith, h.some, le);
-  literals = literals_up e.variables f.variables cs le h.literals;
-  truth = h.truth;
-  conjunctions = λ a b x found. let old = h.conjunctions a b x (subst (λ q. get same_pair q (a, b) ≡ Some x) same found) in (literal_up e.variables f.variables (pos x) old.0 le, old.1);
-}
-
-pub encoding_weaker : (e : Encoder) (cs ds : List (List ℤ)) → All (All (IsLiteral e.variables)) ds → ((v : ℕ → Bool) → AreSatisfied v ds → AreSatisfied v cs) → IsEncoding e cs → IsEncoding e ds
-encoding_weaker e cs ds range weaker h = record {
-  some = h.some;
-  literals = range;
-  truth = λ v all. h.truth v (weaker v all);
-  conjunctions = λ a b x found. let old = h.conjunctions a b x found in (old.0, λ v all. old.1 v (weaker v all));
-}
+pub encoding_later : (e f : Encoder) → e.variables ≤ f.variables → f.conjunctions ≡ e.conjunctions → f.rights ≡ e.rights → IsEncoding e → IsEncoding f
+encoding_later e f le same rights h =
+    let is : f.rights.items ≡ e.rights.items = ap (λ q. q.items) rights in
+    record {
+      some = omega (arith, h.some, le);
+      places = omega (arith, h.places, le, ap length is);
+      below = subst (λ (q : List (ℤ × ℤ)). AreBelow q) (sym is) h.below;
+      used = λ x gate. let old = h.used x (subst (λ (q : List (ℤ × ℤ)). IsGate q x) is gate) in omega (arith, old, le);
+      conjunctions = λ a b x found.
+          let old = h.conjunctions a b x (subst (λ q. get same_pair q (a, b) ≡ Some x) same found) in
+          (literal_up e.variables f.variables (pos x) old.0 le, subst (λ (q : List (ℤ × ℤ)). IsConjunctionIn q a b (pos x)) (sym is) old.1);
+    }
 
 -- what is false is the constant
-false_stands : (m : Parts) (c : Cone) (s : Leaves) (cs : List (List ℤ)) (t : ℕ) (e : Encoder) → IsEncoding e cs → Stands m c s cs t 0 (negsuc 0)
-false_stands m c s cs t e encoding r v follows all t_in = ap not (encoding.truth v all) ∙ sym (follows.runs.agrees t [] t_in).valuation.constant
+false_stands : (m : Parts) (c : Cone) (s : Leaves) (cs : Told) (t : ℕ) → Stands m c s cs t 0 (negsuc 0)
+false_stands m c s cs t r v follows all t_in = ap not all.0.truth ∙ sym (follows.runs.agrees t [] t_in).valuation.constant
 
-pub table_begins : (m : Parts) (c : Cone) (s : Leaves) (cs : List (List ℤ)) (t : ℕ) (e : Encoder) (table : List ℤ) → IsEncoding e cs → length table ≡ m.max_var + 1 → All (IsLiteral e.variables) table →
+pub table_begins : (m : Parts) (c : Cone) (s : Leaves) (cs : Told) (t : ℕ) (e : Encoder) (table : List ℤ) → length table ≡ m.max_var + 1 → All (IsLiteral e.variables) table →
     literal_at table 0 ≡ negsuc 0 → IsTable m c s cs t e.variables 0 0 0 table
-table_begins m c s cs t e table encoding whole literals zero_is = record {
+table_begins m c s cs t e table whole literals zero_is = record {
   whole = whole;
   literals = literals;
   stands = λ x filled. elim filled [
-    | inl none ↦ subst (λ q. Stands m c s cs t q (literal_at table q)) (sym none) (subst (Stands m c s cs t 0) (sym zero_is) (false_stands m c s cs t e encoding))
+    | inl none ↦ subst (λ q. Stands m c s cs t q (literal_at table q)) (sym none) (subst (Stands m c s cs t 0) (sym zero_is) (false_stands m c s cs t))
     | inr (inl (k, k_in, is)) ↦ absurd (omega (arith, k_in))
     | inr (inr (inl (k, k_in, is))) ↦ absurd (omega (arith, k_in))
     | inr (inr (inr (k, k_in, is))) ↦ absurd (omega (arith, k_in))
@@ -105,7 +103,7 @@ units_true v table lits all k d k_in = satisfied-unit v (literal_of table (get_o
     (All-unmap (λ l. IsSatisfied v (l ∷ [])) (literal_of table) lits (All-unmap (IsSatisfied v) (λ l. l ∷ []) (map (literal_of table) lits) all) k d k_in)
 
 -- the literals of the next state
-pub states_next : (m : Parts) (c : Cone) (s : Leaves) (cs : List (List ℤ)) (t n : ℕ) (table : List ℤ) → IsWellFormed m → IsConeOf m c →
+pub states_next : (m : Parts) (c : Cone) (s : Leaves) (cs : Told) (t n : ℕ) (table : List ℤ) → IsWellFormed m → IsConeOf m c →
     IsTable m c s cs t n (length c.inputs.items) (length c.latches.items) (length c.gates.items) table → ((k : ℕ) → k < length c.latches.items → variable (next_of m.latches (latch_of m c k)) < m.max_var + 1) →
     AreStates m c s cs (t + 1) n (map (λ i. literal_of table (next_of m.latches (latch_at m.latches i).lit)) c.latches.items)
 states_next m c s cs t n table well cone is range =
@@ -170,9 +168,11 @@ follows_opened m c s n r v cone initial some inputs h =
 
 -- the parts of one time, put together
 pub record IsNext (m : Parts) (c : Cone) (s : Leaves) (e f : Encoder) (cs ds : List (List ℤ)) (table : List ℤ) : Type 0 where
-  pub grown : IsExtended (e.variables + length c.inputs.items) cs f.variables ds
-  pub encoding : IsEncoding f ds
-  pub stands : IsTable m c (later s e.variables) ds (length s.firsts) f.variables (length c.inputs.items) (length c.latches.items) (length c.gates.items) table
+  pub grown : IsExtended (e.variables + length c.inputs.items) e.rights.items f.variables f.rights.items
+  pub encoding : IsEncoding f
+  pub range : All (All (IsLiteral f.variables)) ds
+  pub more : IsMore f.rights.items cs ds
+  pub stands : IsTable m c (later s e.variables) (told f cs) (length s.firsts) f.variables (length c.inputs.items) (length c.latches.items) (length c.gates.items) table
 
 constraints_small : (m : Parts) → IsWellFormed m → All (λ a. variable a < m.max_var + 1) m.constraints
 constraints_small m well k d k_in = let p = constraints_in_range m well k d k_in in omega (arith, p)
@@ -181,50 +181,73 @@ pub unrolled_more : (m : Parts) (c : Cone) (s : Leaves) (state table : List ℤ)
     IsNext m c s e f cs ds table → es ≡ ds ++ unit_clauses (map (literal_of table) m.constraints) →
     ((k : ℕ) → k < length c.latches.items → variable (next_of m.latches (latch_of m c k)) < m.max_var + 1) →
     IsUnrolled m c (later s e.variables) (map (λ i. literal_of table (next_of m.latches (latch_at m.latches i).lit)) c.latches.items) f es
-    × IsTable m c (later s e.variables) es (length s.firsts) f.variables (length c.inputs.items) (length c.latches.items) (length c.gates.items) table
+    × IsTable m c (later s e.variables) (told f es) (length s.firsts) f.variables (length c.inputs.items) (length c.latches.items) (length c.gates.items) table
 unrolled_more m c s state table e f cs ds es well cone h next es_is range =
     let t : ℕ = length s.firsts in
     let n : ℕ = e.variables in
     let s1 : Leaves = later s n in
+    let rs : List (ℤ × ℤ) = e.rights.items in
+    let qs : List (ℤ × ℤ) = f.rights.items in
     let units : List (List ℤ) = unit_clauses (map (literal_of table) m.constraints) in
     let small : All (λ a. variable a < length table) m.constraints = λ k d k_in. let p = constraints_small m well k d k_in in omega (arith, p, next.stands.whole) in
     let to_ds : (v : ℕ → Bool) → AreSatisfied v es → AreSatisfied v ds = λ v all. All-left (IsSatisfied v) ds units (subst (AreSatisfied v) es_is all) in
     let to_units : (v : ℕ → Bool) → AreSatisfied v es → AreSatisfied v units = λ v all. All-right (IsSatisfied v) ds units (subst (AreSatisfied v) es_is all) in
-    let to_cs : (v : ℕ → Bool) → AreSatisfied v es → AreSatisfied v cs = λ v all. next.grown.weaker v (to_ds v all) in
+    let to_made : (v : ℕ → Bool) → AreKept v (told f es) → AreKept v (told f cs) = λ v all. (all.0, next.more.weaker v (to_ds v all.1)) in
+    let to_old : (v : ℕ → Bool) → AreKept v (told f es) → AreKept v (told e cs) = λ v all. (next.grown.weaker v all.0, next.more.weaker v (to_ds v all.1)) in
     let es_range : All (All (IsLiteral f.variables)) es = subst (All (All (IsLiteral f.variables))) (sym es_is)
-    (All-append (All (IsLiteral f.variables)) ds units next.encoding.literals (units_literals f.variables table m.constraints next.stands.literals small)) in
-    let whole : IsTable m c s1 es t f.variables (length c.inputs.items) (length c.latches.items) (length c.gates.items) table =
-    table_weaker m c s1 ds es t f.variables f.variables (length c.inputs.items) (length c.latches.items) (length c.gates.items) table to_ds (omega arith) next.stands in
-    let true_now : (r : List (List Bool)) (v : ℕ → Bool) → Follows m c s1 r v → AreSatisfied v ds → t < length r → (k : ℕ) (d : Lit) → k < length m.constraints →
+    (All-append (All (IsLiteral f.variables)) ds units next.range (units_literals f.variables table m.constraints next.stands.literals small)) in
+    let whole : IsTable m c s1 (told f es) t f.variables (length c.inputs.items) (length c.latches.items) (length c.gates.items) table =
+    table_weaker m c s1 (told f cs) (told f es) t f.variables f.variables (length c.inputs.items) (length c.latches.items) (length c.gates.items) table to_made (omega arith) next.stands in
+    let true_now : (r : List (List Bool)) (v : ℕ → Bool) → Follows m c s1 r v → AreKept v (told f cs) → t < length r → (k : ℕ) (d : Lit) → k < length m.constraints →
     is_true v (literal_of table (get_or m.constraints k d)) ≡ value_of (at r t) (get_or m.constraints k d) = λ r v follows all t_in k d k_in.
-    literal_stands m c s1 ds t f.variables (length c.inputs.items) (length c.latches.items) (length c.gates.items) table (get_or m.constraints k d) next.stands (cone.constraints k d k_in) (constraints_small m well k d k_in) r v follows all t_in in
-    let states = states_next m c s1 es t f.variables table well cone whole range in
-    let more : length (s.firsts ++ n ∷ []) ≡ t + 1 = omega (arith, length-append s.firsts (n ∷ [])) in (
+    literal_stands m c s1 (told f cs) t f.variables (length c.inputs.items) (length c.latches.items) (length c.gates.items) table (get_or m.constraints k d) next.stands (cone.constraints k d k_in) (constraints_small m well k d k_in) r v follows all t_in in
+    let states = states_next m c s1 (told f es) t f.variables table well cone whole range in
+    let more : length (s.firsts ++ n ∷ []) ≡ t + 1 = omega (arith, length-append s.firsts (n ∷ [])) in
+    let same_gate : (x : ℕ) → x ≤ n + length c.inputs.items → IsGate qs x → IsGate rs x = λ x x_in. subst (λ (q : ℤ × ℤ). q.0 ≢ pos 0) (next.grown.same x x_in) in (
       record {
-        encoding = encoding_weaker f ds es es_range to_ds next.encoding;
+        encoding = next.encoding;
+        range = es_range;
         initial = h.initial;
         opened = omega (arith, h.opened, next.grown.more);
         inputs = All-push (λ first. first + length c.inputs.items ≤ f.variables) s.firsts n (λ k d k_in. let p = h.inputs k d k_in in omega (arith, p, next.grown.more)) (omega (arith, next.grown.more));
+        free = λ x x_in gate. h.free x x_in (same_gate x (omega (arith, x_in, h.opened)) gate);
+        free_inputs = λ i k i_in k_in gate. elim (cases_lt i t) [
+          | inl before ↦
+              let room = h.inputs i 0 before in
+              let old : IsGate qs (get_or s.firsts i 0 + (k + 1)) = subst (λ q. IsGate qs (q + (k + 1))) (first_old s n i before) gate in
+              h.free_inputs i k before k_in (same_gate (get_or s.firsts i 0 + (k + 1)) (omega (arith, room, k_in)) old)
+          | inr last ↦
+              let i_is : i ≡ t = omega (arith, i_in, last, more) in
+              let new : IsGate qs (n + (k + 1)) = subst (λ q. IsGate qs (q + (k + 1))) (ap (λ q. get_or (s.firsts ++ n ∷ []) q 0) i_is ∙ first_new s n) gate in
+              let le = h.encoding.used (n + (k + 1)) (same_gate (n + (k + 1)) (omega (arith, k_in)) new) in
+              absurd (omega (arith, le))
+        ];
         whole = length-map c.latches.items _;
-        states = subst (λ q. AreStates m c s1 es q f.variables (map (λ i. literal_of table (next_of m.latches (latch_at m.latches i).lit)) c.latches.items)) (sym more) states;
+        states = subst (λ q. AreStates m c s1 (told f es) q f.variables (map (λ i. literal_of table (next_of m.latches (latch_at m.latches i).lit)) c.latches.items)) (sym more) states;
         keeps = λ r v follows all i i_in i_r. elim (cases_lt i t) [
-          | inl before ↦ h.keeps r v (follows_before m c s n r v follows) (to_cs v all) i before i_r
+          | inl before ↦ h.keeps r v (follows_before m c s n r v follows) (to_old v all) i before i_r
           | inr last ↦
               let i_is : i ≡ t = omega (arith, last, i_in, more) in
               let t_r : t < length r = omega (arith, i_r, i_is) in
-              subst (λ q. KeepsNow m (at r q)) (sym i_is) (λ k d k_in. sym (true_now r v follows (to_ds v all) t_r k d k_in) ∙ units_true v table m.constraints (to_units v all) k d k_in)
+              subst (λ q. KeepsNow m (at r q)) (sym i_is) (λ k d k_in. sym (true_now r v follows (to_made v all) t_r k d k_in) ∙ units_true v table m.constraints (to_units v all.1) k d k_in)
         ];
         exists = λ r run keeps long.
             let t_r : t < length r = omega (arith, long, more) in
             let first = h.exists r run keeps (omega (arith, t_r)) in
-            let u : ℕ → Bool = opened n first.0 (λ k. place (at r t) (input_of m c k)) in
+            let f0 : ℕ → Bool = λ k. place (at r t) (input_of m c k) in
+            let u : ℕ → Bool = opened n first.0 f0 in
             let u_follows : Follows m c s1 r u = follows_opened m c s n r first.0 cone h.initial h.opened h.inputs first.1 in
-            let u_cs : AreSatisfied u cs = agree_satisfied n u first.0 cs h.encoding.literals (opened_old n first.0 (λ k. place (at r t) (input_of m c k))) first.2 in
-            let second = next.grown.extends u u_cs in
+            let u_agrees : AgreeUpTo n u first.0 = opened_old n first.0 f0 in
+            let u_cs : AreSatisfied u cs = agree_satisfied n u first.0 cs h.range u_agrees first.2.1 in
+            let u_defined : IsDefined rs u = defined_agree n u first.0 rs h.encoding.some h.encoding.used h.encoding.below u_agrees first.2.0 in
+            let second = next.grown.extends u u_defined in
+            let cs_up : All (All (IsLiteral (n + length c.inputs.items))) cs = literals_up n (n + length c.inputs.items) cs (omega arith) h.range in
+            let z_cs : AreSatisfied second.0 cs = agree_satisfied (n + length c.inputs.items) second.0 u cs cs_up second.2 u_cs in
+            let z_ds : AreSatisfied second.0 ds = next.more.stronger second.0 second.1 z_cs in
             let inputs_now : All (λ p. p + length c.inputs.items ≤ n + length c.inputs.items) (s.firsts ++ n ∷ []) = All-push (λ p. p + length c.inputs.items ≤ n + length c.inputs.items) s.firsts n (λ k d k_in. let p = h.inputs k d k_in in omega (arith, p)) (omega arith) in
             let follows : Follows m c s1 r second.0 = follows_agree m c s1 (n + length c.inputs.items) r second.0 u cone h.initial (omega (arith, h.opened)) inputs_now second.2 u_follows in
-            let units_on : AreSatisfied second.0 units = units_satisfied second.0 table m.constraints (λ k d k_in. true_now r second.0 follows second.1 t_r k d k_in ∙ keeps t [] t_r k d k_in) in
-            (second.0, follows, subst (AreSatisfied second.0) (sym es_is) (All-append (IsSatisfied second.0) ds units second.1 units_on));
+            let units_on : AreSatisfied second.0 units = units_satisfied second.0 table m.constraints (λ k d k_in. true_now r second.0 follows (second.1, z_cs) t_r k d k_in ∙ keeps t [] t_r k d k_in) in
+            (second.0, follows, (second.1, subst (AreSatisfied second.0) (sym es_is) (All-append (IsSatisfied second.0) ds units z_ds units_on)));
       },
       whole,
     )
@@ -249,8 +272,8 @@ begun_true f k = let e : k + 2 ≡ suc (suc k) = omega arith in ap (λ q. is_tru
 
 -- before the first time
 pub unrolled_begins : (m : Parts) (c : Cone) (initial : List ℤ) (e : Encoder) (cs : List (List ℤ)) → IsWellFormed m → IsConeOf m c → AreInitial m c initial → e.variables ≡ length c.latches.items + 1 →
-    ((a b : ℤ) → get same_pair e.conjunctions (a, b) ≡ None) → cs ≡ (pos 1 ∷ []) ∷ [] → IsUnrolled m c (record { initial = initial; firsts = [] }) (map (literal_at initial) c.latches.items) e cs
-unrolled_begins m c initial e cs well cone are count none cs_is =
+    ((a b : ℤ) → get same_pair e.conjunctions (a, b) ≡ None) → length e.rights.items ≤ suc e.variables → ((x : ℕ) → IsGate e.rights.items x → ⊥) → cs ≡ (pos 1 ∷ []) ∷ [] → IsUnrolled m c (record { initial = initial; firsts = [] }) (map (literal_at initial) c.latches.items) e cs
+unrolled_begins m c initial e cs well cone are count none room free cs_is =
     let one : List (List ℤ) = (pos 1 ∷ []) ∷ [] in
     let s : Leaves = record { initial = initial; firsts = [] } in
     let one_in : IsLiteral e.variables (pos 1) = (λ z. cc, omega (arith, count)) in
@@ -259,10 +282,14 @@ unrolled_begins m c initial e cs well cone are count none cs_is =
     record {
       encoding = record {
         some = omega (arith, count);
-        literals = subst (All (All (IsLiteral e.variables))) (sym cs_is) (All-cons (All (IsLiteral e.variables)) (pos 1 ∷ []) [] (All-cons (IsLiteral e.variables) (pos 1) [] one_in (All-nil (IsLiteral e.variables))) (All-nil (All (IsLiteral e.variables))));
-        truth = λ v all. satisfied-unit v (pos 1) (All-head (IsSatisfied v) (pos 1 ∷ []) [] (subst (AreSatisfied v) cs_is all));
+        places = room;
+        below = λ x gate. absurd (free x gate);
+        used = λ x gate. absurd (free x gate);
         conjunctions = λ a b x found. absurd (no_some x (sym (none a b) ∙ found));
       };
+      range = subst (All (All (IsLiteral e.variables))) (sym cs_is) (All-cons (All (IsLiteral e.variables)) (pos 1 ∷ []) [] (All-cons (IsLiteral e.variables) (pos 1) [] one_in (All-nil (IsLiteral e.variables))) (All-nil (All (IsLiteral e.variables))));
+      free = λ x x_in. free x;
+      free_inputs = λ t k t_in k_in. absurd (omega (arith, t_in));
       initial = are;
       opened = omega (arith, count);
       inputs = All-nil (λ first. first + length c.inputs.items ≤ e.variables);
@@ -293,6 +320,6 @@ unrolled_begins m c initial e cs well cone are count none cs_is =
                   ];
               inputs = λ t k t_in t_r k_in. absurd (omega (arith, t_in));
             },
-            subst (AreSatisfied v) (sym cs_is) (All-cons (IsSatisfied v) (pos 1 ∷ []) [] (unit-satisfied v (pos 1) first) (All-nil (IsSatisfied v))),
+            (record { truth = first; gates = λ x gate. absurd (free x gate) }, subst (AreSatisfied v) (sym cs_is) (All-cons (IsSatisfied v) (pos 1 ∷ []) [] (unit-satisfied v (pos 1) first) (All-nil (IsSatisfied v)))),
           );
     }

@@ -1,5 +1,5 @@
--- Literals that are made of others in clauses (Tseitin 1968), and clauses that say more of new variables alone.
-use Rattle.std.specs.Prelude.{◌≡◌, ℕ, ◌+◌, ◌≤◌, ◌&&◌, Bool, true, List, [], ◌∷◌, All, ℤ, pos, neg_ℤ, Some}
+-- Literals that are made of others (Tseitin 1968): each variable has a value of its own, or is the conjunction of two literals.
+use Rattle.std.specs.Prelude.{◌≡◌, ◌≢◌, ℕ, suc, ◌+◌, ◌<◌, ◌≤◌, ◌&&◌, Bool, true, List, [], ◌∷◌, length, slice_index_or, All, ℤ, pos, neg_ℤ, unsigned_abs, Some}
 use Rattle.std.specs.HashMap.{get}
 use Rattle.std.specs.Ordering.{int_eq}
 use Rattle.lrat.specs.Literals.{is_true, IsLiteral}
@@ -10,28 +10,62 @@ use Rattle.bmc.specs.declared.encoder.Encoder.{Encoder}
 abbrev pub conjunction_clauses : ℤ → ℤ → ℤ → List (List ℤ)
 conjunction_clauses l one other = (neg_ℤ l ∷ one ∷ []) ∷ (neg_ℤ l ∷ other ∷ []) ∷ (l ∷ neg_ℤ one ∷ neg_ℤ other ∷ []) ∷ []
 
--- in each assignment that satisfies the clauses the literal is the conjunction of two
-abbrev pub IsConjunctionIn : List (List ℤ) → ℤ → ℤ → ℤ → Type 0
-IsConjunctionIn cs a b l = (v : ℕ → Bool) → AreSatisfied v cs → is_true v l ≡ (is_true v a && is_true v b)
+-- the two literals of which a variable is the conjunction, or zeros
+abbrev pub rights_at : List (ℤ × ℤ) → ℕ → ℤ × ℤ
+rights_at rs x = slice_index_or rs x (pos 0, pos 0)
+
+abbrev pub IsGate : List (ℤ × ℤ) → ℕ → Type 0
+IsGate rs x = (rights_at rs x).0 ≢ pos 0
+
+-- the first variable is true, and each conjunction has its value
+pub record IsDefined (rs : List (ℤ × ℤ)) (v : ℕ → Bool) : Type 0 where
+  pub truth : v 1 ≡ true
+  pub gates : (x : ℕ) → IsGate rs x → v x ≡ (is_true v (rights_at rs x).0 && is_true v (rights_at rs x).1)
+
+-- in each assignment in which the conjunctions have their values the literal is that of two
+abbrev pub IsConjunctionIn : List (ℤ × ℤ) → ℤ → ℤ → ℤ → Type 0
+IsConjunctionIn rs a b l = (v : ℕ → Bool) → IsDefined rs v → is_true v l ≡ (is_true v a && is_true v b)
 
 abbrev pub same_pair : ℤ × ℤ → ℤ × ℤ → Bool
 same_pair p q = int_eq p.0 q.0 && int_eq p.1 q.1
 
--- the clauses are over the variables in use, the first of which is true, and the tables have literals that they name rightly
-pub record IsEncoding (e : Encoder) (cs : List (List ℤ)) : Type 0 where
-  pub some : 1 ≤ e.variables
-  pub literals : All (All (IsLiteral e.variables)) cs
-  pub truth : (v : ℕ → Bool) → AreSatisfied v cs → v 1 ≡ true
-  pub conjunctions : (a b : ℤ) (x : ℕ) → get same_pair e.conjunctions (a, b) ≡ Some x → IsLiteral e.variables (pos x) × IsConjunctionIn cs a b (pos x)
+-- a literal of a variable before this one
+abbrev pub IsBelow : ℕ → ℤ → Type 0
+IsBelow x l = (l ≢ pos 0) × (unsigned_abs l < x)
 
--- the later clauses, of k variables, say no more of the first n variables
-pub record IsExtended (n : ℕ) (cs : List (List ℤ)) (k : ℕ) (ds : List (List ℤ)) : Type 0 where
+-- each conjunction is of literals before it
+abbrev pub AreBelow : List (ℤ × ℤ) → Type 0
+AreBelow rs = (x : ℕ) → IsGate rs x → IsBelow x (rights_at rs x).0 × IsBelow x (rights_at rs x).1
+
+-- the conjunctions are of variables in use, and the table has literals that it names rightly
+pub record IsEncoding (e : Encoder) : Type 0 where
+  pub some : 1 ≤ e.variables
+  pub places : length e.rights.items ≤ suc e.variables
+  pub below : AreBelow e.rights.items
+  pub used : (x : ℕ) → IsGate e.rights.items x → x ≤ e.variables
+  pub conjunctions : (a b : ℤ) (x : ℕ) → get same_pair e.conjunctions (a, b) ≡ Some x → IsLiteral e.variables (pos x) × IsConjunctionIn e.rights.items a b (pos x)
+
+-- the later conjunctions, of k variables, say no more of the first n variables
+pub record IsExtended (n : ℕ) (rs : List (ℤ × ℤ)) (k : ℕ) (qs : List (ℤ × ℤ)) : Type 0 where
   pub more : n ≤ k
-  pub weaker : (v : ℕ → Bool) → AreSatisfied v ds → AreSatisfied v cs
-  pub extends : (v : ℕ → Bool) → AreSatisfied v cs → (u : ℕ → Bool) × AreSatisfied u ds × ((x : ℕ) → x ≤ n → u x ≡ v x)
+  pub same : (x : ℕ) → x ≤ n → rights_at qs x ≡ rights_at rs x
+  pub weaker : (v : ℕ → Bool) → IsDefined qs v → IsDefined rs v
+  pub extends : (v : ℕ → Bool) → IsDefined rs v → (u : ℕ → Bool) × IsDefined qs u × ((x : ℕ) → x ≤ n → u x ≡ v x)
 
 -- the encoding is one still, with at most this number of variables more
-pub record IsGrown (most : ℕ) (e : Encoder) (cs : List (List ℤ)) (f : Encoder) (ds : List (List ℤ)) : Type 0 where
-  pub encoding : IsEncoding f ds
-  pub extended : IsExtended e.variables cs f.variables ds
+pub record IsGrown (most : ℕ) (e f : Encoder) : Type 0 where
+  pub encoding : IsEncoding f
+  pub extended : IsExtended e.variables e.rights.items f.variables f.rights.items
   pub few : f.variables ≤ e.variables + most
+
+-- what was made, and the clauses that a solver has
+pub record Told : Type 0 where
+  pub rights : List (ℤ × ℤ)
+  pub clauses : List (List ℤ)
+
+abbrev pub told : Encoder → List (List ℤ) → Told
+told e cs = record { rights = e.rights.items; clauses = cs }
+
+-- the conjunctions have their values, and the clauses are satisfied
+abbrev pub AreKept : (ℕ → Bool) → Told → Type 0
+AreKept v d = IsDefined d.rights v × AreSatisfied v d.clauses

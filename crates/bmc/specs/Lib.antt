@@ -1,5 +1,6 @@
 pub mod Depths
 pub mod Encodings
+pub mod Demands
 pub mod Cones
 pub mod Unrollings
 pub mod Times

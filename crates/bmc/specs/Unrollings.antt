@@ -7,11 +7,11 @@ use Rattle.graph.specs.Valuation.{Valuation, variable, place, value_of}
 use Rattle.graph.specs.Runs.{IsRun, KeepsConstraints}
 use Rattle.graph.specs.Justice.{at}
 use Rattle.lrat.specs.Literals.{is_true, IsLiteral}
-use Rattle.cnf.specs.Meaning.{AreSatisfied, KeepsNow}
+use Rattle.cnf.specs.Meaning.{KeepsNow}
 use Rattle.bmc.specs.declared.cone.Cone.{Cone}
 use Rattle.bmc.specs.declared.encoder.Encoder.{Encoder}
 use Rattle.bmc.specs.Cones.{IsFilled, IsIn, input_at, latch_at}
-use Rattle.bmc.specs.Encodings.{IsEncoding}
+use Rattle.bmc.specs.Encodings.{IsEncoding, IsGate, Told, told, AreKept}
 
 -- the literal at a place of a table
 abbrev pub literal_at : List ℤ → ℕ → ℤ
@@ -44,23 +44,23 @@ pub record Follows (m : Parts) (c : Cone) (s : Leaves) (r : List Valuation) (v :
   pub inputs : (t k : ℕ) → t < length s.firsts → t < length r → k < length c.inputs.items → v (slice_index_or s.firsts t 0 + (k + 1)) ≡ place (at r t) (input_of m c k)
 
 -- where the clauses are satisfied, the literal has the value that the variable has at that time of the run that the assignment follows
-abbrev pub Stands : Parts → Cone → Leaves → List (List ℤ) → ℕ → ℕ → ℤ → Type 0
-Stands m c s cs t x l = (r : List Valuation) (v : ℕ → Bool) → Follows m c s r v → AreSatisfied v cs → t < length r → is_true v l ≡ place (at r t) x
+abbrev pub Stands : Parts → Cone → Leaves → Told → ℕ → ℕ → ℤ → Type 0
+Stands m c s d t x l = (r : List Valuation) (v : ℕ → Bool) → Follows m c s r v → AreKept v d → t < length r → is_true v l ≡ place (at r t) x
 
 -- the variables behind the first ones have the values of the cone's inputs at that time
 abbrev pub AreFresh : Parts → Cone → Leaves → ℕ → ℕ → Type 0
 AreFresh m c s t first = (r : List Valuation) (v : ℕ → Bool) → Follows m c s r v → t < length r → (k : ℕ) → k < length c.inputs.items → v (first + (k + 1)) ≡ place (at r t) (input_of m c k)
 
 -- literals of the first n variables that stand for the cone's latches at that time
-pub record AreStates (m : Parts) (c : Cone) (s : Leaves) (cs : List (List ℤ)) (t n : ℕ) (state : List ℤ) : Type 0 where
+pub record AreStates (m : Parts) (c : Cone) (s : Leaves) (d : Told) (t n : ℕ) (state : List ℤ) : Type 0 where
   pub literals : All (IsLiteral n) state
-  pub stands : (k : ℕ) → k < length c.latches.items → Stands m c s cs t (variable (latch_of m c k)) (literal_at state k)
+  pub stands : (k : ℕ) → k < length c.latches.items → Stands m c s d t (variable (latch_of m c k)) (literal_at state k)
 
 -- literals of the first n variables, those of the first i inputs, j latches and g gates of the cone as they stand for these at a time
-pub record IsTable (m : Parts) (c : Cone) (s : Leaves) (cs : List (List ℤ)) (t n i j g : ℕ) (table : List ℤ) : Type 0 where
+pub record IsTable (m : Parts) (c : Cone) (s : Leaves) (d : Told) (t n i j g : ℕ) (table : List ℤ) : Type 0 where
   pub whole : length table ≡ m.max_var + 1
   pub literals : All (IsLiteral n) table
-  pub stands : (x : ℕ) → IsFilled m c i j g x → Stands m c s cs t x (literal_at table x)
+  pub stands : (x : ℕ) → IsFilled m c i j g x → Stands m c s d t x (literal_at table x)
 
 -- the constant that the latch is reset to, or what is false
 abbrev pub constant_of : Latch → ℤ
@@ -78,11 +78,14 @@ pub record AreInitial (m : Parts) (c : Cone) (initial : List ℤ) : Type 0 where
 -- the clauses of the times so far: they keep the constraints at these, every run that does is followed by an assignment
 -- that satisfies them, and the state has the literals of the cone's latches at the next time
 pub record IsUnrolled (m : Parts) (c : Cone) (s : Leaves) (state : List ℤ) (e : Encoder) (cs : List (List ℤ)) : Type 0 where
-  pub encoding : IsEncoding e cs
+  pub encoding : IsEncoding e
+  pub range : All (All (IsLiteral e.variables)) cs
   pub initial : AreInitial m c s.initial
   pub opened : length c.latches.items + 1 ≤ e.variables
   pub inputs : All (λ first. first + length c.inputs.items ≤ e.variables) s.firsts
+  pub free : (x : ℕ) → x ≤ length c.latches.items + 1 → IsGate e.rights.items x → ⊥
+  pub free_inputs : (t k : ℕ) → t < length s.firsts → k < length c.inputs.items → IsGate e.rights.items (slice_index_or s.firsts t 0 + (k + 1)) → ⊥
   pub whole : length state ≡ length c.latches.items
-  pub states : AreStates m c s cs (length s.firsts) e.variables state
-  pub keeps : (r : List Valuation) (v : ℕ → Bool) → Follows m c s r v → AreSatisfied v cs → (t : ℕ) → t < length s.firsts → t < length r → KeepsNow m (at r t)
-  pub exists : (r : List Valuation) → IsRun m r → KeepsConstraints m r → length s.firsts ≤ length r → (v : ℕ → Bool) × Follows m c s r v × AreSatisfied v cs
+  pub states : AreStates m c s (told e cs) (length s.firsts) e.variables state
+  pub keeps : (r : List Valuation) (v : ℕ → Bool) → Follows m c s r v → AreKept v (told e cs) → (t : ℕ) → t < length s.firsts → t < length r → KeepsNow m (at r t)
+  pub exists : (r : List Valuation) → IsRun m r → KeepsConstraints m r → length s.firsts ≤ length r → (v : ℕ → Bool) × Follows m c s r v × AreKept v (told e cs)

@@ -5,7 +5,7 @@ ghost use Rattle.lrat.specs.Literals.{IsLiteral};
 ghost use Rattle.lrat.specs.Shared.{unit_clauses};
 ghost use Rattle.graph.specs.Valuation.{variable};
 ghost use Rattle.bmc.specs.Cones.{IsConeOf};
-ghost use Rattle.bmc.specs.Encodings.{IsEncoding, IsGrown};
+ghost use Rattle.bmc.specs.Encodings.{IsEncoding, IsGrown, Told, told};
 ghost use Rattle.bmc.specs.Unrollings.{Leaves, IsTable, AreFresh, AreStates, literal_of};
 ghost use Rattle.engine.specs.declared.engine_error.EngineError.TheVariants.{Limit};
 ghost use Rattle.solver.specs.Full.{full};
@@ -13,6 +13,7 @@ ghost use Rattle.solver.specs.Full.{full};
 use crate::clauses::{add_one, negated, positive};
 use crate::cone::Cone;
 use crate::encoder::Encoder;
+use base::Refused;
 use engine::EngineError;
 use graph::{Lit, Model};
 use solver::Sat;
@@ -37,8 +38,8 @@ pub fn fill_inputs(circuit: &Model, cone: &Cone, first: u32, table: &mut [i32])
     requires cone { IsConeOf circuit.now cone.now }
     requires small { first + length cone.now.inputs.items ≤ 2147483647 }
     requires whole { length table.old ≡ circuit.now.max_var + 1 }
-    ensures table { (s : Leaves) (cs : List (List ℤ)) (t n : ℕ) → first + length cone.now.inputs.items ≤ n → AreFresh circuit.now cone.now s t first →
-        IsTable circuit.now cone.now s cs t n 0 0 0 table.old → IsTable circuit.now cone.now s cs t n (length cone.now.inputs.items) 0 0 table.new }
+    ensures table { (s : Leaves) (d : Told) (t n : ℕ) → first + length cone.now.inputs.items ≤ n → AreFresh circuit.now cone.now s t first →
+        IsTable circuit.now cone.now s d t n 0 0 0 table.old → IsTable circuit.now cone.now s d t n (length cone.now.inputs.items) 0 0 table.new }
     ensures whole { length table.new ≡ length table.old }
     ensures literals { (n : ℕ) → first + length cone.now.inputs.items ≤ n → All (IsLiteral n) table.old → All (IsLiteral n) table.new }
 {
@@ -54,9 +55,9 @@ pub fn fill_latches(circuit: &Model, cone: &Cone, state: &[i32], table: &mut [i3
     requires cone { IsConeOf circuit.now cone.now }
     requires lengths { length state.now ≡ length cone.now.latches.items }
     requires whole { length table.old ≡ circuit.now.max_var + 1 }
-    ensures table { (s : Leaves) (cs : List (List ℤ)) (t n : ℕ) → AreStates circuit.now cone.now s cs t n state.now →
-        IsTable circuit.now cone.now s cs t n (length cone.now.inputs.items) 0 0 table.old →
-        IsTable circuit.now cone.now s cs t n (length cone.now.inputs.items) (length cone.now.latches.items) 0 table.new }
+    ensures table { (s : Leaves) (d : Told) (t n : ℕ) → AreStates circuit.now cone.now s d t n state.now →
+        IsTable circuit.now cone.now s d t n (length cone.now.inputs.items) 0 0 table.old →
+        IsTable circuit.now cone.now s d t n (length cone.now.inputs.items) (length cone.now.latches.items) 0 table.new }
     ensures whole { length table.new ≡ length table.old }
     ensures literals { (n : ℕ) → All (IsLiteral n) state.now → All (IsLiteral n) table.old → All (IsLiteral n) table.new }
 {
@@ -68,63 +69,53 @@ pub fn fill_latches(circuit: &Model, cone: &Cone, state: &[i32], table: &mut [i3
 }
 
 /// Makes the literal of the cone's gate at this place.
-fn encode_gate<S: Sat>(
-    solver: &mut S,
-    alloc: Global,
+fn encode_gate(
     circuit: &Model,
     cone: &Cone,
     encoder: &mut Encoder,
     table: &mut [i32],
     place: usize,
-) -> Result<(), EngineError>
+) -> Result<(), Refused>
     requires cone { IsConeOf circuit.now cone.now }
     requires inside { place < length cone.now.gates.items }
     requires whole { length table.old ≡ circuit.now.max_var + 1 }
     requires literals { All (IsLiteral encoder.old.variables) table.old }
-    requires encoding { IsEncoding encoder.old (S.clauses solver.old) }
-    requires room { encoder.old.variables < S.vars solver.old }
-    requires small { S.vars solver.old ≤ 2147483647 }
-    ensures vars { S.vars solver.new ≡ S.vars solver.old }
-    ensures grown { OnOk result (IsGrown 1 encoder.old (S.clauses solver.old) encoder.new (S.clauses solver.new)) }
+    requires encoding { IsEncoding encoder.old }
+    requires room { encoder.old.variables < 2147483647 }
+    ensures grown { OnOk result (IsGrown 1 encoder.old encoder.new) }
     ensures whole { length table.new ≡ length table.old }
     ensures literals { OnOk result (All (IsLiteral encoder.new.variables) table.new) }
-    ensures table { (s : Leaves) (t : ℕ) → IsTable circuit.now cone.now s (S.clauses solver.old) t encoder.old.variables (length cone.now.inputs.items) (length cone.now.latches.items) place table.old →
-        OnOk result (IsTable circuit.now cone.now s (S.clauses solver.new) t encoder.new.variables (length cone.now.inputs.items) (length cone.now.latches.items) (place + 1) table.new) }
-    ensures limit { IfErr result (λ e. e ≡ Limit full → S.is_full solver.new) }
+    ensures table { (s : Leaves) (cs : List (List ℤ)) (t : ℕ) → IsTable circuit.now cone.now s (told encoder.old cs) t encoder.old.variables (length cone.now.inputs.items) (length cone.now.latches.items) place table.old →
+        OnOk result (IsTable circuit.now cone.now s (told encoder.new cs) t encoder.new.variables (length cone.now.inputs.items) (length cone.now.latches.items) (place + 1) table.new) }
 {
     circuit.parts();
     let gate = cone.gates[place];
     let one = literal(table, gate.rhs0);
     let other = literal(table, gate.rhs1);
-    table[gate.lhs.variable() as usize] = encoder.and(solver, alloc, one, other)?;
+    table[gate.lhs.variable() as usize] = encoder.and(one, other)?;
     Ok(())
 }
 
 /// Makes the literals of the cone's gates.
-pub fn encode_gates<S: Sat>(
-    solver: &mut S,
-    alloc: Global,
+pub fn encode_gates(
     circuit: &Model,
     cone: &Cone,
     encoder: &mut Encoder,
     table: &mut [i32],
-) -> Result<(), EngineError>
+) -> Result<(), Refused>
     requires cone { IsConeOf circuit.now cone.now }
     requires whole { length table.old ≡ circuit.now.max_var + 1 }
     requires literals { All (IsLiteral encoder.old.variables) table.old }
-    requires encoding { IsEncoding encoder.old (S.clauses solver.old) }
-    requires room { encoder.old.variables + length cone.now.gates.items ≤ S.vars solver.old }
-    requires small { S.vars solver.old ≤ 2147483647 }
-    ensures vars { S.vars solver.new ≡ S.vars solver.old }
-    ensures grown { OnOk result (IsGrown (length cone.now.gates.items) encoder.old (S.clauses solver.old) encoder.new (S.clauses solver.new)) }
+    requires encoding { IsEncoding encoder.old }
+    requires room { encoder.old.variables + length cone.now.gates.items ≤ 2147483647 }
+    ensures grown { OnOk result (IsGrown (length cone.now.gates.items) encoder.old encoder.new) }
     ensures whole { length table.new ≡ length table.old }
     ensures literals { OnOk result (All (IsLiteral encoder.new.variables) table.new) }
-    ensures table { (s : Leaves) (t : ℕ) → IsTable circuit.now cone.now s (S.clauses solver.old) t encoder.old.variables (length cone.now.inputs.items) (length cone.now.latches.items) 0 table.old →
-        OnOk result (IsTable circuit.now cone.now s (S.clauses solver.new) t encoder.new.variables (length cone.now.inputs.items) (length cone.now.latches.items) (length cone.now.gates.items) table.new) }
-    ensures limit { IfErr result (λ e. e ≡ Limit full → S.is_full solver.new) }
+    ensures table { (s : Leaves) (cs : List (List ℤ)) (t : ℕ) → IsTable circuit.now cone.now s (told encoder.old cs) t encoder.old.variables (length cone.now.inputs.items) (length cone.now.latches.items) 0 table.old →
+        OnOk result (IsTable circuit.now cone.now s (told encoder.new cs) t encoder.new.variables (length cone.now.inputs.items) (length cone.now.latches.items) (length cone.now.gates.items) table.new) }
 {
     for place in 0..cone.gates.len() {
-        encode_gate(solver, alloc, circuit, cone, encoder, table, place)?;
+        encode_gate(circuit, cone, encoder, table, place)?;
     }
     Ok(())
 }

@@ -14,6 +14,7 @@
 
 mod clauses;
 mod cone;
+mod demand;
 mod encoder;
 mod frame;
 mod reading;

@@ -80,11 +80,13 @@ fn reach<S: Sat>(
     requires at { IsAt circuit.now cone.now unrolling.old (S.clauses solver.old) }
     requires times { length unrolling.old.firsts.items ≡ steps }
     requires room { HasRoom cone.now 1 unrolling.old (S.vars solver.old) }
+    requires places { length unrolling.old.given.items ≡ S.vars solver.old + 1 }
     requires small { S.vars solver.old ≤ 2147483647 }
     ensures vars { S.vars solver.new ≡ S.vars solver.old }
     ensures spends { Spends budget.old budget.new }
     ensures at { IfOk result (λ found. found ≡ None → IsAt circuit.now cone.now unrolling.new (S.clauses solver.new)) }
     ensures times { IfOk result (λ found. found ≡ None → length unrolling.new.firsts.items ≡ steps + 1) }
+    ensures places { IfOk result (λ found. found ≡ None → length unrolling.new.given.items ≡ length unrolling.old.given.items) }
     ensures few { IfOk result (λ found. found ≡ None →
         unrolling.new.encoder.variables ≤ unrolling.old.encoder.variables + (length cone.now.inputs.items + length cone.now.gates.items)) }
     ensures lawful { IfOk result (IsOfSteps circuit.now steps budget.new) }

@@ -1,11 +1,13 @@
 //! The times of a circuit in a solver, one after the other.
 
-ghost use Rattle.std.specs.Prelude.{◌≡◌, ◌+◌, ◌<◌, ◌≤◌, [], length, map, All, IfOk, OnOk, IfErr};
+ghost use Rattle.std.specs.Prelude.{◌≡◌, ◌+◌, ◌<◌, ◌≤◌, [], false, true, length, map, replicate, set, All, IfOk, OnOk, IfErr, unsigned_abs};
 ghost use Rattle.lrat.specs.Literals.{IsLiteral};
 ghost use Rattle.cnf.specs.Clauses.{next_of};
 ghost use Rattle.cnf.specs.Tables.{IsTableOf};
 ghost use Rattle.bmc.specs.Cones.{IsConeOf, latch_at};
-ghost use Rattle.bmc.specs.Encodings.{IsEncoding};
+ghost use Rattle.bmc.specs.Encodings.{IsEncoding, told};
+ghost use Rattle.bmc.specs.Demands.{AreGiven};
+ghost use Rattle.cones.specs.Marks.{IsMarked};
 ghost use Rattle.bmc.specs.Unrollings.{Leaves, IsTable, IsUnrolled, later, constant_of, AreInitial, literal_at, literal_of};
 ghost use Rattle.bmc.specs.Times.{IsAt, HasRoom, leaves_of};
 ghost use Rattle.engine.specs.declared.engine_error.EngineError.TheVariants.{Limit};
@@ -13,6 +15,7 @@ ghost use Rattle.solver.specs.Full.{full};
 
 use crate::clauses::{add_one, positive};
 use crate::cone::Cone;
+use crate::demand::give;
 use crate::encoder::Encoder;
 use crate::frame::{add_units, encode_gates, fill_inputs, fill_latches, literal};
 use base::{Refused, filled, push};
@@ -34,6 +37,8 @@ pub struct Unrolling {
     pub state: Vec<i32>,
     /// the literals of the cone's variables at the time that was encoded last
     pub table: Vec<i32>,
+    /// for each variable whether the solver has the clauses of what it depends on
+    pub given: Vec<bool>,
 }
 
 /// The constant that the latch is reset to, or what is false.
@@ -117,6 +122,18 @@ fn next_state(circuit: &Model, cone: &Cone, nexts: &NextTable, table: &[i32], st
     }
 }
 
+/// The variables that were given before the first time: the one that is true.
+fn given_first(alloc: Global, places: usize) -> Result<Vec<bool>, Refused>
+    requires some { 1 < places }
+    requires few { places ≤ 2147483648 }
+    ensures marks { IfOk result (λ given. given.items ≡ set (replicate places false) 1 true) }
+    ensures len { IfOk result (λ given. length given.items ≡ places) }
+{
+    let mut given = filled(alloc, false, places)?;
+    given[1] = true;
+    Ok(given)
+}
+
 /// No time yet. The solver begins anew with room for `times` of them.
 pub fn begin<S: Sat>(
     solver: &mut S,
@@ -130,28 +147,33 @@ pub fn begin<S: Sat>(
     ensures at { IfOk result (λ u. IsAt circuit.now cone.now u (S.clauses solver.new)) }
     ensures none { IfOk result (λ u. u.firsts.items ≡ []) }
     ensures room { IfOk result (λ u. HasRoom cone.now times u (S.vars solver.new)) }
+    ensures places { IfOk result (λ u. length u.given.items ≡ S.vars solver.new + 1) }
     ensures small { OnOk result (S.vars solver.new ≤ 2147483647) }
     ensures limit { IfErr result (λ e. e ≡ Limit full → S.is_full solver.new) }
 {
     circuit.parts();
     let used = cone.latches.len() as u32 + 1;
     let each = cone.inputs.len() as u32 + cone.gates.len() as u32;
-    solver.reset(alloc, used + times * each)?;
+    let places = used + times * each;
+    solver.reset(alloc, places)?;
     add_one(solver, alloc, 1)?;
     let initial = initial_of(alloc, circuit, cone)?;
     let state = first_state(alloc, cone, &initial)?;
     let table = filled(alloc, -1, circuit.max_var() as usize + 1)?;
     let encoder = Encoder::new(alloc, used);
+    let given = given_first(alloc, places as usize + 1)?;
     Ok(Unrolling {
         encoder,
         initial,
         firsts: Vec::new(alloc),
         state,
         table,
+        given,
     })
 }
 
-/// Makes the literals of one time and adds its constraints. The state is then that of the next time.
+/// Makes the literals of one time, and gives the solver its constraints and what these and the bad
+/// literals depend on. The state is then that of the next time.
 fn encode_frame<S: Sat>(
     solver: &mut S,
     alloc: Global,
@@ -161,6 +183,7 @@ fn encode_frame<S: Sat>(
     encoder: &mut Encoder,
     state: &mut [i32],
     table: &mut [i32],
+    given: &mut [bool],
 ) -> Result<(), EngineError>
     requires cone { IsConeOf circuit.now cone.now }
     requires nexts { IsTableOf circuit.now.latches nexts.now }
@@ -168,17 +191,22 @@ fn encode_frame<S: Sat>(
     requires literals { All (IsLiteral encoder.old.variables) table.old }
     requires lengths { length state.old ≡ length cone.now.latches.items }
     requires states { All (IsLiteral encoder.old.variables) state.old }
-    requires encoding { IsEncoding encoder.old (S.clauses solver.old) }
+    requires encoding { IsEncoding encoder.old }
+    requires given { AreGiven encoder.old given.old (S.clauses solver.old) }
     requires room { encoder.old.variables + (length cone.now.inputs.items + length cone.now.gates.items) ≤ S.vars solver.old }
+    requires places { length given.old ≡ S.vars solver.old + 1 }
     requires small { S.vars solver.old ≤ 2147483647 }
     ensures vars { S.vars solver.new ≡ S.vars solver.old }
     ensures whole { length table.new ≡ length table.old }
     ensures lengths { length state.new ≡ length state.old }
+    ensures marks { length given.new ≡ length given.old }
     ensures literals { OnOk result (All (IsLiteral encoder.new.variables) table.new) }
     ensures few { OnOk result (encoder.new.variables ≤ encoder.old.variables + (length cone.now.inputs.items + length cone.now.gates.items)) }
+    ensures given { OnOk result (AreGiven encoder.new given.new (S.clauses solver.new)) }
+    ensures bad { OnOk result (All (λ a. IsMarked given.new (unsigned_abs (literal_of table.new a))) circuit.now.bad) }
     ensures next { (s : Leaves) → IsUnrolled circuit.now cone.now s state.old encoder.old (S.clauses solver.old) →
         OnOk result (IsUnrolled circuit.now cone.now (later s encoder.old.variables) state.new encoder.new (S.clauses solver.new)
-        × IsTable circuit.now cone.now (later s encoder.old.variables) (S.clauses solver.new) (length s.firsts) encoder.new.variables
+        × IsTable circuit.now cone.now (later s encoder.old.variables) (told encoder.new (S.clauses solver.new)) (length s.firsts) encoder.new.variables
         (length cone.now.inputs.items) (length cone.now.latches.items) (length cone.now.gates.items) table.new) }
     ensures limit { IfErr result (λ e. e ≡ Limit full → S.is_full solver.new) }
 {
@@ -188,7 +216,16 @@ fn encode_frame<S: Sat>(
     table[0] = -1;
     fill_inputs(circuit, cone, first, table);
     fill_latches(circuit, cone, state, table);
-    encode_gates(solver, alloc, circuit, cone, encoder, table)?;
+    encode_gates(circuit, cone, encoder, table)?;
+    give(
+        solver,
+        alloc,
+        encoder,
+        given,
+        table,
+        circuit.constraints(),
+        circuit.bad(),
+    )?;
     add_units(solver, alloc, table, circuit.constraints())?;
     next_state(circuit, cone, nexts, table, state);
     Ok(())
@@ -208,13 +245,16 @@ impl Unrolling {
         requires nexts { IsTableOf circuit.now.latches nexts.now }
         requires at { IsAt circuit.now cone.now self.old (S.clauses solver.old) }
         requires room { HasRoom cone.now 1 self.old (S.vars solver.old) }
+        requires places { length self.old.given.items ≡ S.vars solver.old + 1 }
         requires small { S.vars solver.old ≤ 2147483647 }
         ensures vars { S.vars solver.new ≡ S.vars solver.old }
         ensures at { OnOk result (IsAt circuit.now cone.now self.new (S.clauses solver.new)) }
-        ensures stands { OnOk result (IsTable circuit.now cone.now (leaves_of self.new) (S.clauses solver.new) (length self.old.firsts.items) self.new.encoder.variables
+        ensures bad { OnOk result (All (λ a. IsMarked self.new.given.items (unsigned_abs (literal_of self.new.table.items a))) circuit.now.bad) }
+        ensures stands { OnOk result (IsTable circuit.now cone.now (leaves_of self.new) (told self.new.encoder (S.clauses solver.new)) (length self.old.firsts.items) self.new.encoder.variables
             (length cone.now.inputs.items) (length cone.now.latches.items) (length cone.now.gates.items) self.new.table.items) }
         ensures more { OnOk result (length self.new.firsts.items ≡ length self.old.firsts.items + 1) }
         ensures few { OnOk result (self.new.encoder.variables ≤ self.old.encoder.variables + (length cone.now.inputs.items + length cone.now.gates.items)) }
+        ensures places { OnOk result (length self.new.given.items ≡ length self.old.given.items) }
         ensures limit { IfErr result (λ e. e ≡ Limit full → S.is_full solver.new) }
     {
         push(&mut self.firsts, self.encoder.variables)?;
@@ -227,6 +267,7 @@ impl Unrolling {
             &mut self.encoder,
             self.state.as_mut_slice(),
             self.table.as_mut_slice(),
+            self.given.as_mut_slice(),
         )
     }
 }

@@ -1,21 +1,20 @@
 use Rattle.std.proofs.Common.{◌≡◌, ◌+◌, length, ◌∙◌, refl, subst, arith}
+use Rattle.bmc.specs.Encodings.{told}
 use Rattle.bmc.specs.Unrollings.{IsTable}
 use Rattle.bmc.proofs.Encoded.{grown_then}
 use Rattle.bmc.proofs.frame.encode_gates.Goals as goal
 
 pub loop-place-preserved : goal.loop-place-preserved
-loop-place-preserved g c = record {
-  vars = c.in_ok-encode_gate.ensures.vars ∙ c.loop-place.invariant.vars;
-  grown = grown_then c.loop-place.place 1 (c.loop-place.place + 1) c.args.encoder.now c.loop-place.encoder c.encode_gate.new.encoder (g.S.Sat.clauses c.args.solver.now) (g.S.Sat.clauses c.loop-place.solver)
-      (g.S.Sat.clauses c.encode_gate.new.solver) refl c.loop-place.invariant.grown c.in_ok-encode_gate.ensures.grown;
+loop-place-preserved c = record {
+  grown = grown_then c.loop-place.place 1 (c.loop-place.place + 1) c.args.encoder.now c.loop-place.encoder c.encode_gate.new.encoder refl c.loop-place.invariant.grown c.in_ok-encode_gate.ensures.grown;
   whole = c.in_ok-encode_gate.ensures.whole ∙ c.loop-place.invariant.whole;
   literals = c.in_ok-encode_gate.ensures.literals;
-  table = λ s t is. c.in_ok-encode_gate.ensures.table s t (c.loop-place.invariant.table s t is);
+  table = λ s cs t is. c.in_ok-encode_gate.ensures.table s cs t (c.loop-place.invariant.table s cs t is);
 }
 
 pub returns-clause-table : goal.returns-clause-table
-returns-clause-table g c = λ s t is.
+returns-clause-table c = λ s cs t is.
     let cone = c.args.cone.now in
     let last : c.loop-place.place ≡ length cone.gates.items = omega arith in
-    subst (λ q. IsTable c.args.circuit.now cone s (g.S.Sat.clauses c.loop-place.solver) t c.loop-place.encoder.variables (length cone.inputs.items) (length cone.latches.items) q c.loop-place.table) last
-    (c.loop-place.invariant.table s t is)
+    subst (λ q. IsTable c.args.circuit.now cone s (told c.loop-place.encoder cs) t c.loop-place.encoder.variables (length cone.inputs.items) (length cone.latches.items) q c.loop-place.table) last
+    (c.loop-place.invariant.table s cs t is)

@@ -4,6 +4,7 @@ use Rattle.graph.specs.Valuation.{variable}
 use Rattle.lrat.specs.Literals.{IsLiteral}
 use Rattle.cnf.specs.Formulas.{bad_literal}
 use Rattle.solver.specs.Answers.{IsModel, IsCore}
+use Rattle.bmc.specs.Encodings.{told}
 use Rattle.bmc.specs.Unrollings.{literal_of}
 use Rattle.bmc.specs.Times.{StandsForBad, leaves_of}
 use Rattle.bmc.proofs.Depths.{bad_range, some_bad}
@@ -49,8 +50,8 @@ run_of-requires-clause-model g c =
     let p = bad_range m c.parts.ensures.well_formed c.requires.for_bad in
     let inside : variable (bad_literal m 0) < m.max_var + 1 = omega (arith, p) in
     let table = rw c.requires.times at c.in_ok-encode.ensures.stands in
-    let stands : StandsForBad m cone (leaves_of u) cs steps l =
-    literal_stands m cone (leaves_of u) cs steps n (length cone.inputs.items) (length cone.latches.items) (length cone.gates.items) u.table.items (bad_literal m 0) table (c.requires.cone.bad 0 (record { 0 = 0 }) (some_bad m c.requires.for_bad)) inside in
+    let stands : StandsForBad m cone (leaves_of u) (told u.encoder cs) steps l =
+    literal_stands m cone (leaves_of u) (told u.encoder cs) steps n (length cone.inputs.items) (length cone.latches.items) (length cone.gates.items) u.table.items (bad_literal m 0) table (c.requires.cone.bad 0 (record { 0 = 0 }) (some_bad m c.requires.for_bad)) inside in
     let model : IsModel vars cs (l ∷ []) c.in-Model.values.items = rw (c.in-Model.is, read_as _ _ f l_is) at c.in_ok-values.ensures.lawful in
     record {
       clauses = cs;
@@ -59,6 +60,8 @@ run_of-requires-clause-model g c =
       unrolled = c.in_ok-encode.ensures.at.unrolled;
       times = c.in_ok-encode.ensures.more ∙ ap (λ q. q + 1) c.requires.times;
       few = omega (arith, c.in_ok-encode.ensures.few, c.requires.room, c.in_ok-encode.ensures.vars);
+      given = c.in_ok-encode.ensures.at.given;
+      marked = c.in_ok-encode.ensures.bad 0 (record { 0 = 0 }) (some_bad m c.requires.for_bad);
       stands = stands;
       model = rw c.as_slice-in-Model.ensures.value model;
     }
@@ -77,7 +80,7 @@ returns-in-Core-clause-lawful g c =
     let p = bad_range m c.parts.ensures.well_formed c.requires.for_bad in
     let inside : variable (bad_literal m 0) < m.max_var + 1 = omega (arith, p) in
     let table = rw c.requires.times at c.in_ok-encode.ensures.stands in
-    let stands : StandsForBad m cone (leaves_of u) cs steps l =
-    literal_stands m cone (leaves_of u) cs steps n (length cone.inputs.items) (length cone.latches.items) (length cone.gates.items) u.table.items (bad_literal m 0) table (c.requires.cone.bad 0 (record { 0 = 0 }) (some_bad m c.requires.for_bad)) inside in
+    let stands : StandsForBad m cone (leaves_of u) (told u.encoder cs) steps l =
+    literal_stands m cone (leaves_of u) (told u.encoder cs) steps n (length cone.inputs.items) (length cone.latches.items) (length cone.gates.items) u.table.items (bad_literal m 0) table (c.requires.cone.bad 0 (record { 0 = 0 }) (some_bad m c.requires.for_bad)) inside in
     let core : IsCore cs (l ∷ []) c.in-Core.field-0.items = rw (c.in-Core.is, read_as _ _ f l_is) at c.in_ok-values.ensures.lawful in
     core_unset m cone (leaves_of u) u.state.items u.encoder cs steps l c.in-Core.field-0.items c.in_ok-encode.ensures.at.unrolled (c.in_ok-encode.ensures.more ∙ ap (λ q. q + 1) c.requires.times) stands core

@@ -28,6 +28,7 @@ deepening-preserved g c =
       small = subst (λ q. q ≤ 2147483647) (sym c.reach.ensures.vars) c.deepening.invariant.small;
       room = subst (λ q. b + (c.args.depth + 1 - (c.deepening.steps + 1)) * each ≤ q) (sym c.reach.ensures.vars) now;
       at = c.in_ok-finding.ensures.at c.in-None.is;
+      places = c.in_ok-finding.ensures.places c.in-None.is ∙ c.deepening.invariant.places ∙ ap (λ q. q + 1) (sym c.reach.ensures.vars);
       times = c.in_ok-finding.ensures.times c.in-None.is;
       spends = search rules;
       unset = unset_more m c.deepening.steps c.deepening.invariant.unset (subst (IsOfSteps m c.deepening.steps c.reach.new.budget) c.in-None.is c.in_ok-finding.ensures.lawful);
@@ -41,6 +42,7 @@ deepening-init g c = record {
       let all : c.args.depth + 1 ≡ c.args.depth + 1 - 0 = omega arith in
       subst (λ q. c.in_ok-unrolling.unrolling.encoder.variables + q * each ≤ g.S.Sat.vars c.begin.new.solver) all c.in_ok-unrolling.ensures.room;
   at = c.in_ok-unrolling.ensures.at;
+  places = c.in_ok-unrolling.ensures.places;
   times = ap length c.in_ok-unrolling.ensures.none;
   spends = search rules;
   unset = unset_none c.args.circuit.now;

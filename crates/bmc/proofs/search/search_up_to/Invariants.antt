@@ -10,6 +10,7 @@ invariant-deepening g l = record {
   small : g.S.Sat.vars l.solver ≤ 2147483647;
   room : HasRoom l.cone (l.depth + 1 - l.steps) l.unrolling (g.S.Sat.vars l.solver);
   at : IsAt l.circuit l.cone l.unrolling (g.S.Sat.clauses l.solver);
+  places : length l.unrolling.given.items ≡ g.S.Sat.vars l.solver + 1;
   times : length l.unrolling.firsts.items ≡ l.steps;
   spends : Spends l.initial.budget l.budget;
   unset : IsUnsetFor l.circuit (Bad 0) l.steps;

@@ -1,0 +1,123 @@
+//! Conjunctions that are given to a solver where they are asked for.
+
+ghost use Rattle.std.specs.Prelude.{◌≡◌, ◌+◌, ◌-◌, ◌<◌, ◌≤◌, ◌∷◌, [], length, map, slice_index, All, OnOk, IfErr, unsigned_abs};
+ghost use Rattle.lrat.specs.Literals.{IsLiteral};
+ghost use Rattle.graph.specs.Valuation.{variable};
+ghost use Rattle.cones.specs.Marks.{IsMarked};
+ghost use Rattle.cones.specs.Reach.{Grows, IsFrom};
+ghost use Rattle.bmc.specs.Encodings.{IsEncoding};
+ghost use Rattle.bmc.specs.Demands.{AreGiven, IsGivenOne, IsMore};
+ghost use Rattle.bmc.specs.Unrollings.{literal_of};
+ghost use Rattle.engine.specs.declared.engine_error.EngineError.TheVariants.{Limit};
+ghost use Rattle.solver.specs.Full.{full};
+
+use crate::clauses::{add_conjunction, positive};
+use crate::encoder::Encoder;
+use crate::frame::literal;
+use base::{Refused, push};
+use engine::EngineError;
+use graph::Lit;
+use solver::Sat;
+use std::alloc::Global;
+
+/// Marks the literal's variable, and adds it to the list where it was not marked.
+fn want(marks: &mut [bool], list: &mut Vec<u32>, literal: i32) -> Result<(), Refused>
+    requires { unsigned_abs literal < length marks.old }
+    ensures grows { OnOk result (Grows (unsigned_abs literal ∷ []) marks.old list.old.items marks.new list.new.items) }
+    ensures from { OnOk result (IsFrom (unsigned_abs literal ∷ []) marks.old marks.new) }
+{
+    let variable = literal.unsigned_abs();
+    if !marks[variable as usize] {
+        marks[variable as usize] = true;
+        push(list, variable)?;
+    }
+    Ok(())
+}
+
+/// Marks the variables of the table's literals for these.
+fn want_all(
+    marks: &mut [bool],
+    list: &mut Vec<u32>,
+    table: &[i32],
+    lits: &[Lit],
+) -> Result<(), Refused>
+    requires some { 0 < length marks.old }
+    requires small { length marks.old ≤ 2147483648 }
+    requires literals { All (IsLiteral (length marks.old - 1)) table.now }
+    requires range { All (λ a. variable a < length table.now) lits.now }
+    ensures grows { OnOk result (Grows (map (λ a. unsigned_abs (literal_of table.now a)) lits.now) marks.old list.old.items marks.new list.new.items) }
+    ensures from { OnOk result (IsFrom (map (λ a. unsigned_abs (literal_of table.now a)) lits.now) marks.old marks.new) }
+{
+    for lit in lits {
+        want(marks, list, literal(table, *lit))?;
+    }
+    Ok(())
+}
+
+/// Gives the solver the clauses of the listed variable, and marks what it depends on.
+fn give_one<S: Sat>(
+    solver: &mut S,
+    alloc: Global,
+    encoder: &Encoder,
+    marks: &mut [bool],
+    list: &mut Vec<u32>,
+    place: usize,
+) -> Result<(), EngineError>
+    requires encoding { IsEncoding encoder.now }
+    requires places { length marks.old ≡ S.vars solver.old + 1 }
+    requires small { S.vars solver.old ≤ 2147483647 }
+    requires inside { place < length list.old.items }
+    requires only { All (λ v. (v < length marks.old) × IsMarked marks.old v) list.old.items }
+    requires range { encoder.now.variables < length marks.old }
+    ensures vars { S.vars solver.new ≡ S.vars solver.old }
+    ensures grows { OnOk result (Grows [] marks.old list.old.items marks.new list.new.items) }
+    ensures given { OnOk result (IsGivenOne encoder.now marks.old marks.new (S.clauses solver.old) (S.clauses solver.new) (slice_index list.old.items place)) }
+    ensures limit { IfErr result (λ e. e ≡ Limit full → S.is_full solver.new) }
+{
+    let variable = list[place];
+    let (one, other) = encoder.rights_of(variable);
+    if one == 0 {
+        return Ok(());
+    }
+    add_conjunction(solver, alloc, positive(variable), one, other)?;
+    want(marks, list, one)?;
+    want(marks, list, other)?;
+    Ok(())
+}
+
+/// Gives the solver the conjunctions on which the constraints and the bad literals depend, where it
+/// has not got them.
+pub fn give<S: Sat>(
+    solver: &mut S,
+    alloc: Global,
+    encoder: &Encoder,
+    marks: &mut [bool],
+    table: &[i32],
+    constraints: &[Lit],
+    bad: &[Lit],
+) -> Result<(), EngineError>
+    requires encoding { IsEncoding encoder.now }
+    requires given { AreGiven encoder.now marks.old (S.clauses solver.old) }
+    requires places { length marks.old ≡ S.vars solver.old + 1 }
+    requires small { S.vars solver.old ≤ 2147483647 }
+    requires literals { All (IsLiteral encoder.now.variables) table.now }
+    requires constraints { All (λ a. variable a < length table.now) constraints.now }
+    requires bad { All (λ a. variable a < length table.now) bad.now }
+    ensures vars { S.vars solver.new ≡ S.vars solver.old }
+    ensures places { length marks.new ≡ length marks.old }
+    ensures given { OnOk result (AreGiven encoder.now marks.new (S.clauses solver.new)) }
+    ensures more { OnOk result (IsMore encoder.now.rights.items (S.clauses solver.old) (S.clauses solver.new)) }
+    ensures constraints { OnOk result (All (λ a. IsMarked marks.new (unsigned_abs (literal_of table.now a))) constraints.now) }
+    ensures bad { OnOk result (All (λ a. IsMarked marks.new (unsigned_abs (literal_of table.now a))) bad.now) }
+    ensures limit { IfErr result (λ e. e ≡ Limit full → S.is_full solver.new) }
+{
+    let mut list = Vec::new(alloc);
+    want_all(marks, &mut list, table, constraints)?;
+    want_all(marks, &mut list, table, bad)?;
+    let mut next: usize = 0;
+    'giving: while next < list.len() {
+        give_one(solver, alloc, encoder, marks, &mut list, next)?;
+        next += 1;
+    }
+    Ok(())
+}
