@@ -417,8 +417,7 @@ learned_closed old new n ls end c hints id small few is log l nil =
     let line : Line = Add id c (in_log n hints) in
     let next : IsNext (formula_of old.vars old.kept) n ls c line = next_line old.vars n old.kept ls c hints id small few is log.1 l.0.literals l.0.accepted in
     subst (λ (k : Known). IsLog Closed n k.vars k.kept ls (Some line)) (sym l.1)
-    (subst (λ (f : Formula). AreLines f n ls × ((l : Line) × (Some line ≡ Some l) × IsNext f n ls [] l) × Reaches f n (with_clause old Learned c).kept ls) (sym same)
-    (
+    (subst (λ (f : Formula). AreLines f n ls × ((l : Line) × (Some line ≡ Some l) × IsNext f n ls [] l) × Reaches f n (with_clause old Learned c).kept ls) (sym same) (
       log.0,
       (line, refl, subst (λ d. IsNext (formula_of old.vars old.kept) n ls d line) nil next),
       reaches_more (formula_of old.vars old.kept) n old.kept (with_clause old Learned c).kept ls (omega (arith, length_learned old.kept c)) (reaches_by (formula_of old.vars old.kept) n old.kept ls log.1),

@@ -105,7 +105,7 @@ pub fn see_clause(
             push(&mut guide.hints, unit)?;
             continue;
         }
-        guide.heap.bump(literal.unsigned_abs());
+        guide.heap.bump(*literal);
         if at >= level {
             count = count.saturating_add(1);
         } else {

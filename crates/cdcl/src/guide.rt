@@ -103,7 +103,7 @@ impl Guide {
     pub fn take_in(&mut self, clause: &[i32]) -> Result<(), Refused> {
         self.grow_to(clause)?;
         for literal in clause {
-            self.heap.insert(literal.unsigned_abs())?;
+            self.heap.insert(*literal)?;
         }
         Ok(())
     }

@@ -2,7 +2,8 @@
 //!
 //! Each variable that a conflict rests on gains activity, and what a conflict adds grows from one
 //! to the next, so that old conflicts fade (EVSIDS, as in MiniSat by Eén and Sörensson 2003). A
-//! binary heap has the most active variable at its top. A heap out of order costs time alone.
+//! binary heap has the most active variable at its top. Its entries have the activities beside the
+//! variables, so that comparing two entries reads the heap alone. A heap out of order costs time alone.
 
 use crate::table::Table;
 use base::{Refused, push};
@@ -17,10 +18,17 @@ const GROWTH: f64 = 1.0526315789473684;
 /// Above this all activities are made small again.
 const GREATEST: f64 = 1e100;
 
+/// A variable in the heap, as its positive literal.
+#[derive(Clone, Copy)]
+struct Entry {
+    variable: i32,
+    activity: f64,
+}
+
 /// The variables that may be open, the most active first.
 #[derive(Drop)]
 pub struct Heap {
-    variables: Vec<u32>,
+    entries: Vec<Entry>,
     /// of each variable one more than its place in the heap, or 0
     places: Table<u32>,
     activities: Table<f64>,
@@ -28,11 +36,17 @@ pub struct Heap {
     increment: f64,
 }
 
+/// The index of a variable in tables.
+#[inline]
+fn index_of(literal: i32) -> usize {
+    literal.unsigned_abs() as usize
+}
+
 impl Heap {
     /// No variables.
     pub fn new(alloc: Global) -> Heap {
         Heap {
-            variables: Vec::new(alloc),
+            entries: Vec::new(alloc),
             places: Table::new(alloc),
             activities: Table::new(alloc),
             increment: 1.0,
@@ -45,108 +59,117 @@ impl Heap {
         self.activities.push(0.0)
     }
 
-    fn activity(&self, variable: u32) -> f64 {
-        self.activities.at(variable as usize, 0.0)
-    }
-
-    fn set(&mut self, place: usize, variable: u32) {
-        if place < self.variables.len() && place < 4_294_967_295 {
-            self.variables[place] = variable;
-            self.places.put(variable as usize, place as u32 + 1);
+    /// The variable of the literal, as an entry.
+    #[inline]
+    fn entry(&self, literal: i32) -> Entry {
+        Entry {
+            variable: literal.wrapping_abs(),
+            activity: self.activities.at(index_of(literal), 0.0),
         }
     }
 
-    fn get(&self, place: usize) -> Option<u32> {
-        self.variables.get(place).copied()
+    #[inline]
+    fn set(&mut self, place: usize, entry: Entry) {
+        if place < self.entries.len() && place < 4_294_967_295 {
+            self.entries[place] = entry;
+            self.places.put(index_of(entry.variable), place as u32 + 1);
+        }
     }
 
-    /// Puts the variable at the place, or above it where those above are less active.
-    fn rise(&mut self, place: usize, variable: u32) {
-        let activity = self.activity(variable);
+    /// Puts the entry at the place, or above it where those above are less active.
+    fn rise(&mut self, place: usize, entry: Entry) {
         let mut place = place;
         for _ in 0..DEPTH {
             if place == 0 {
                 break;
             }
             let above = (place - 1) / 2;
-            let Some(parent) = self.get(above) else {
+            let Some(parent) = self.entries.get(above).copied() else {
                 break;
             };
-            if self.activity(parent) >= activity {
+            if parent.activity >= entry.activity {
                 break;
             }
             self.set(place, parent);
             place = above;
         }
-        self.set(place, variable);
+        self.set(place, entry);
     }
 
     /// The more active one of the two below a place, with its place.
-    fn child(&self, place: usize) -> Option<(usize, u32)> {
-        let left = place.checked_mul(2)?.checked_add(1)?;
-        let right = left.checked_add(1)?;
-        let first = self.get(left)?;
-        match self.get(right) {
-            Some(second) if self.activity(second) > self.activity(first) => Some((right, second)),
+    #[inline]
+    fn child(&self, place: usize) -> Option<(usize, Entry)> {
+        let left = place.wrapping_mul(2).wrapping_add(1);
+        let right = left.wrapping_add(1);
+        let first = self.entries.get(left).copied()?;
+        match self.entries.get(right).copied() {
+            Some(second) if second.activity > first.activity => Some((right, second)),
             _ => Some((left, first)),
         }
     }
 
-    /// Puts the variable at the place, or below it where those below are more active.
-    fn sink(&mut self, place: usize, variable: u32) {
-        let activity = self.activity(variable);
+    /// Puts the entry at the place, or below it where those below are more active.
+    fn sink(&mut self, place: usize, entry: Entry) {
         let mut place = place;
         for _ in 0..DEPTH {
             let Some((below, child)) = self.child(place) else {
                 break;
             };
-            if activity >= self.activity(child) {
+            if entry.activity >= child.activity {
                 break;
             }
             self.set(place, child);
             place = below;
         }
-        self.set(place, variable);
+        self.set(place, entry);
     }
 
-    /// Puts the variable into the heap, where it isn't there.
-    pub fn insert(&mut self, variable: u32) -> Result<(), Refused> {
-        if self.places.at(variable as usize, 1) == 0 {
-            let place = self.variables.len();
-            push(&mut self.variables, variable)?;
-            self.rise(place, variable);
+    /// Puts the literal's variable into the heap, where it isn't there.
+    #[inline]
+    pub fn insert(&mut self, literal: i32) -> Result<(), Refused> {
+        if self.places.at(index_of(literal), 1) == 0 {
+            let place = self.entries.len();
+            let entry = self.entry(literal);
+            push(&mut self.entries, entry)?;
+            self.rise(place, entry);
         }
         Ok(())
     }
 
     /// Takes the most active variable out.
-    pub fn pop(&mut self) -> Option<u32> {
-        let top = self.get(0)?;
-        let last = self.variables.pop()?;
-        self.places.put(top as usize, 0);
-        if last != top {
+    pub fn pop(&mut self) -> Option<i32> {
+        let top = self.entries.first().copied()?;
+        let last = self.entries.pop()?;
+        self.places.put(index_of(top.variable), 0);
+        if last.variable != top.variable {
             self.sink(0, last);
         }
-        Some(top)
+        Some(top.variable)
     }
 
-    /// A conflict rests on the variable.
-    pub fn bump(&mut self, variable: u32) {
-        let activity = self.activity(variable) + self.increment;
-        self.activities.put(variable as usize, activity);
+    /// A conflict rests on the literal's variable.
+    pub fn bump(&mut self, literal: i32) {
+        let index = index_of(literal);
+        let activity = self.activities.at(index, 0.0) + self.increment;
+        self.activities.put(index, activity);
         if activity > GREATEST {
             self.rescale();
         }
-        let place = self.places.at(variable as usize, 0);
+        let place = self.places.at(index, 0);
         if place > 0 {
-            self.rise(place as usize - 1, variable);
+            let entry = self.entry(literal);
+            self.rise(place as usize - 1, entry);
         }
     }
 
+    /// Makes all activities small again.
     fn rescale(&mut self) {
         for variable in 0..self.activities.len() {
             let activity = self.activities.at(variable, 0.0);
             self.activities.put(variable, activity * 1e-100);
+        }
+        for place in 0..self.entries.len() {
+            self.entries[place].activity *= 1e-100;
         }
         self.increment *= 1e-100;
     }

@@ -127,10 +127,9 @@ fn give_up(
     let start = *start;
     for place in start..kernel.known().len() {
         if let Some(literal) = kernel.known().literal(place) {
-            let variable = literal.unsigned_abs();
             let phase = phases == Phases::Kept && literal > 0;
-            guide.phases.put(variable as usize, phase);
-            guide.heap.insert(variable)?;
+            guide.phases.put(literal.unsigned_abs() as usize, phase);
+            guide.heap.insert(literal)?;
         }
     }
     kernel.backtrack(start);

@@ -155,11 +155,8 @@ fn choose(kernel: &Kernel, guide: &mut Guide, assume: &[i32]) -> Next {
         let Some(variable) = guide.heap.pop() else {
             return Next::Full;
         };
-        if variable < 2_147_483_648 {
-            let literal = variable as i32;
-            if !kernel.is_true(literal) && !kernel.is_false(literal) {
-                return Next::Decide(guide.phased(literal));
-            }
+        if !kernel.is_true(variable) && !kernel.is_false(variable) {
+            return Next::Decide(guide.phased(variable));
         }
     }
     Next::Full
