@@ -78,7 +78,7 @@ fn clauses_of(
 /// Looks by IC3 for an invariant, beginning with the clauses, of which nothing is believed.
 fn strengthened(
     rt: &HostRuntime,
-    asked: &Claim,
+    asked: Claim<'_>,
     property: Property,
     file: &AigerFile,
     clauses: Seq<Seq<Lit>>,
@@ -93,7 +93,7 @@ fn strengthened(
     let verdict = ask(rt, file, property, search, clauses)?;
     match &verdict {
         Verdict::Safe(_) => {
-            keep(rt, asked.certificate.as_str(), property, &verdict)?;
+            keep(rt, asked.certificate, property, &verdict)?;
             Ok(DONE)
         }
         Verdict::Unsafe(_) => {
@@ -110,7 +110,7 @@ fn strengthened(
 /// Makes a certificate of the clauses, each case of which is proved. Where none was made, standard error says why.
 fn certified(
     rt: &HostRuntime,
-    asked: &Claim,
+    asked: Claim<'_>,
     property: Property,
     file: &AigerFile,
     clauses: Seq<Seq<Lit>>,
@@ -125,12 +125,7 @@ fn certified(
     )?;
     match outcome {
         Certified::Certificate(certificate) => {
-            keep(
-                rt,
-                asked.certificate.as_str(),
-                property,
-                &Verdict::Safe(certificate),
-            )?;
+            keep(rt, asked.certificate, property, &Verdict::Safe(certificate))?;
             Ok(DONE)
         }
         Certified::NotInvariant(_) if asked.strengthen => {
@@ -150,24 +145,24 @@ fn certified(
 /// Makes a certificate of the clauses in the file that is named, of which each case is proved over the circuit.
 fn certified_clauses(
     rt: &HostRuntime,
-    asked: &Claim,
+    asked: Claim<'_>,
     property: Property,
     file: &AigerFile,
 ) -> Result<u8, Stop> {
-    let clauses = clauses_of(rt, asked.invariant.as_str(), file, property)?;
+    let clauses = clauses_of(rt, asked.invariant, file, property)?;
     about(Role::Circuit, certified(rt, asked, property, file, clauses))
 }
 
 /// Makes a certificate of the clauses in a file, in the file of that name.
-pub fn certify_clauses(rt: &HostRuntime, asked: &Claim) -> Result<u8, Stop> {
-    let property = property_named(asked.property.as_str()).ok_or(Stop::BadArgument)?;
-    if is_standard(asked.file.as_str()) && is_standard(asked.invariant.as_str()) {
+pub fn certify_clauses(rt: &HostRuntime, asked: Claim<'_>) -> Result<u8, Stop> {
+    let property = property_named(asked.property).ok_or(Stop::BadArgument)?;
+    if is_standard(asked.file) && is_standard(asked.invariant) {
         return Err(Stop::BadArgument);
     }
-    if is_taken(rt, asked.file.as_str(), asked.certificate.as_str()) {
+    if is_taken(rt, asked.file, asked.certificate) {
         return Err(Stop::BadArgument);
     }
-    let file = circuit(rt, asked.file.as_str())?;
+    let file = circuit(rt, asked.file)?;
     certified_clauses(rt, asked, property, &file)
 }
 
@@ -178,19 +173,24 @@ fn shadow_of(rt: &HostRuntime, name: &str, position: u32) -> Result<AigerFile, S
 }
 
 /// Makes the file of that name, in its layout.
-fn make_fitting(rt: &HostRuntime, out: &str, file: AigerFile, layout: Layout) -> Result<(), Stop> {
+pub fn make_fitting(
+    rt: &HostRuntime,
+    out: &str,
+    file: AigerFile,
+    layout: Layout,
+) -> Result<(), Stop> {
     let file = fitting(rt.alloc(), file, layout)?;
     make(rt, out, &file, layout)
 }
 
 /// Makes the file of that name with the shadow circuit of a justice property.
-pub fn make_shadow(rt: &HostRuntime, asked: &Shadow) -> Result<u8, Stop> {
-    let Some(Property::Justice(position)) = property_named(asked.property.as_str()) else {
+pub fn make_shadow(rt: &HostRuntime, asked: Shadow<'_>) -> Result<u8, Stop> {
+    let Some(Property::Justice(position)) = property_named(asked.property) else {
         return Err(Stop::BadArgument);
     };
-    let out = asked.out.as_str();
+    let out = asked.out;
     let layout = Layout::of_name(out).ok_or(Stop::BadArgument)?;
-    let shadow = shadow_of(rt, asked.file.as_str(), position)?;
+    let shadow = shadow_of(rt, asked.file, position)?;
     make_fitting(rt, out, shadow, layout)?;
     Ok(DONE)
 }

@@ -113,6 +113,36 @@ fn print_verdict(
     Ok(status)
 }
 
+/// Prints a verdict. A certificate goes to the file of that name first, where one is named.
+fn keep_and_print(
+    rt: &HostRuntime,
+    certificate: Option<&str>,
+    property: Property,
+    verdict: &Verdict,
+    search: Search,
+) -> Result<u8, Stop> {
+    if let (Verdict::Safe(_), Some(out)) = (verdict, certificate) {
+        keep(rt, out, property, verdict)?;
+    }
+    print_verdict(rt, property, verdict, search)
+}
+
+/// Looks for evidence about the property of the circuit, and prints the verdict. A certificate goes to the
+/// file of that name first, where one is named.
+fn check_in(
+    rt: &HostRuntime,
+    file: &AigerFile,
+    property: Property,
+    certificate: Option<&str>,
+    search: Search,
+) -> Result<u8, Stop> {
+    let candidates = Seq::new(rt.alloc());
+    match about(Role::Circuit, ask(rt, file, property, search, candidates)) {
+        Ok(verdict) => keep_and_print(rt, certificate, property, &verdict, search),
+        Err(stop) => Err(fault_of(rt.alloc(), file.model(), property, stop)),
+    }
+}
+
 /// Looks for evidence about the property of this name, and prints the verdict. A certificate goes to the
 /// file of that name first, where one is named.
 pub fn check(
@@ -127,16 +157,7 @@ pub fn check(
         return Err(Stop::BadArgument);
     }
     let file = circuit(rt, name)?;
-    let candidates = Seq::new(rt.alloc());
-    let asked = about(Role::Circuit, ask(rt, &file, property, search, candidates));
-    let verdict = match asked {
-        Ok(verdict) => verdict,
-        Err(stop) => return Err(fault_of(rt.alloc(), file.model(), property, stop)),
-    };
-    if let (Verdict::Safe(_), Some(out)) = (&verdict, certificate) {
-        keep(rt, out, property, &verdict)?;
-    }
-    print_verdict(rt, property, &verdict, search)
+    check_in(rt, &file, property, certificate, search)
 }
 
 /// Makes the folder's file with the verdict's evidence, where it has some.
@@ -159,6 +180,21 @@ fn keep_in(
         return Err(Stop::BadArgument);
     }
     keep(rt, out.as_str(), property, verdict)
+}
+
+/// Prints a verdict. Its evidence goes to the folder of that name first, where one is named.
+fn keep_in_and_print(
+    rt: &HostRuntime,
+    circuit: &str,
+    folder: Option<&str>,
+    property: Property,
+    verdict: &Verdict,
+    search: Search,
+) -> Result<u8, Stop> {
+    if let Some(folder) = folder {
+        keep_in(rt, circuit, folder, property, verdict)?;
+    }
+    print_verdict(rt, property, verdict, search)
 }
 
 /// The status of two verdicts: that of a violation, else that of an unknown.
@@ -193,10 +229,7 @@ fn check_next(
 ) -> Result<u8, Stop> {
     let candidates = relevant_clauses(rt.alloc(), file.model(), property, clauses.as_slice())?;
     let verdict = about(Role::Circuit, ask(rt, file, property, search, candidates))?;
-    if let Some(folder) = folder {
-        keep_in(rt, name, folder, property, &verdict)?;
-    }
-    let status = print_verdict(rt, property, &verdict, search)?;
+    let status = keep_in_and_print(rt, name, folder, property, &verdict, search)?;
     if let Some(found) = clauses_of(property, verdict) {
         *clauses = found;
     }

@@ -7,35 +7,33 @@ use arguments::Request;
 use graph::Property;
 
 /// The name of the file with this role, where the command has one.
-fn name_of(request: &Request, role: Role) -> Option<&str> {
+fn name_of<'a>(request: Request<'a>, role: Role) -> Option<&'a str> {
     match (request, role) {
-        (Request::Convert { file, .. }, Role::Circuit) => Some(file.as_str()),
-        (Request::Convert { out, .. }, Role::Made) => Some(out.as_str()),
-        (Request::Sim { file, .. }, Role::Circuit) => Some(file.as_str()),
-        (Request::Sim { stimulus, .. }, Role::Stimulus) => Some(stimulus.as_str()),
-        (Request::Trace { file, .. }, Role::Circuit) => Some(file.as_str()),
-        (Request::Trace { stimulus, .. }, Role::Stimulus) => Some(stimulus.as_str()),
-        (Request::Trace { waveform, .. }, Role::Made) => waveform.as_ref().map(|out| out.as_str()),
-        (Request::Check { file, .. }, Role::Circuit) => Some(file.as_str()),
-        (Request::Check { certificate, .. }, Role::Made) => {
-            certificate.as_ref().map(|out| out.as_str())
-        }
-        (Request::All { file, .. }, Role::Circuit) => Some(file.as_str()),
-        (Request::All { folder, .. }, Role::Made) => folder.as_ref().map(|out| out.as_str()),
-        (Request::Certify(asked), Role::Circuit) => Some(asked.file.as_str()),
-        (Request::Certify(asked), Role::Invariant) => Some(asked.invariant.as_str()),
-        (Request::Certify(asked), Role::Made) => Some(asked.certificate.as_str()),
-        (Request::Witness(asked), Role::Circuit) => Some(asked.file.as_str()),
-        (Request::Witness(asked), Role::Stimulus) => Some(asked.stimulus.as_str()),
-        (Request::Witness(asked), Role::Made) => Some(asked.out.as_str()),
-        (Request::ToSafety(asked), Role::Circuit) => Some(asked.file.as_str()),
-        (Request::ToSafety(asked), Role::Made) => Some(asked.out.as_str()),
+        (Request::Convert { file, .. }, Role::Circuit) => Some(file),
+        (Request::Convert { out, .. }, Role::Made) => Some(out),
+        (Request::Sim { file, .. }, Role::Circuit) => Some(file),
+        (Request::Sim { stimulus, .. }, Role::Stimulus) => Some(stimulus),
+        (Request::Trace { file, .. }, Role::Circuit) => Some(file),
+        (Request::Trace { stimulus, .. }, Role::Stimulus) => Some(stimulus),
+        (Request::Trace { waveform, .. }, Role::Made) => waveform,
+        (Request::Check { file, .. }, Role::Circuit) => Some(file),
+        (Request::Check { certificate, .. }, Role::Made) => certificate,
+        (Request::All { file, .. }, Role::Circuit) => Some(file),
+        (Request::All { folder, .. }, Role::Made) => folder,
+        (Request::Certify(asked), Role::Circuit) => Some(asked.file),
+        (Request::Certify(asked), Role::Invariant) => Some(asked.invariant),
+        (Request::Certify(asked), Role::Made) => Some(asked.certificate),
+        (Request::Witness(asked), Role::Circuit) => Some(asked.file),
+        (Request::Witness(asked), Role::Stimulus) => Some(asked.stimulus),
+        (Request::Witness(asked), Role::Made) => Some(asked.out),
+        (Request::ToSafety(asked), Role::Circuit) => Some(asked.file),
+        (Request::ToSafety(asked), Role::Made) => Some(asked.out),
         _ => None,
     }
 }
 
 /// Whether the words ask for more than the line of a fault.
-fn is_verbose(request: &Request) -> bool {
+fn is_verbose(request: Request<'_>) -> bool {
     match request {
         Request::Check { search, .. } | Request::All { search, .. } => search.verbose,
         _ => false,
@@ -75,7 +73,7 @@ fn tell_properties(rt: &HostRuntime, name: &str, property: Property, has: Has) {
 }
 
 /// Says which file a fault is about, and why, where that is asked for or standard error is a terminal.
-pub fn tell_detail(rt: &HostRuntime, request: &Request, stop: Stop) {
+pub fn tell_detail(rt: &HostRuntime, request: Request<'_>, stop: Stop) {
     if !is_verbose(request) && !is_terminal(rt) {
         return;
     }

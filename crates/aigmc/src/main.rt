@@ -66,14 +66,14 @@ mod stop;
 mod tracing;
 mod witnessing;
 
-use adopting::{certify_clauses, make_shadow};
+use adopting::{certify_clauses, make_fitting, make_shadow};
 use arguments::{AskedLayout, Request, Wrong, parse};
 use base::push;
 use checking::{check, check_all};
 use cli::{CliError, Layout, ready};
 use detail::tell_detail;
 use explaining::explain;
-use files::{circuit, make, print_table, stimulus_of};
+use files::{circuit, print_table, stimulus_of};
 use graph::AigerFile;
 use inputs::is_standard;
 use std::alloc::Global;
@@ -104,8 +104,7 @@ fn layout_of(asked: AskedLayout, out: &str) -> Option<Layout> {
 fn convert(rt: &HostRuntime, name: &str, out: &str, asked: AskedLayout) -> Result<u8, Stop> {
     let layout = layout_of(asked, out).ok_or(Stop::BadArgument)?;
     let file = circuit(rt, name)?;
-    let file = fitting(rt.alloc(), file, layout)?;
-    make(rt, out, &file, layout)?;
+    make_fitting(rt, out, file, layout)?;
     Ok(DONE)
 }
 
@@ -121,22 +120,17 @@ fn sim(rt: &HostRuntime, name: &str, stimulus: &str) -> Result<u8, Stop> {
 }
 
 /// Does what is asked for.
-fn done(rt: &HostRuntime, request: &Request) -> Result<u8, Stop> {
+fn done(rt: &HostRuntime, request: Request<'_>) -> Result<u8, Stop> {
     match request {
-        Request::Convert { file, out, layout } => {
-            convert(rt, file.as_str(), out.as_str(), *layout)
-        }
-        Request::Sim { file, stimulus } => sim(rt, file.as_str(), stimulus.as_str()),
+        Request::Convert { file, out, layout } => convert(rt, file, out, layout),
+        Request::Sim { file, stimulus } => sim(rt, file, stimulus),
         Request::Trace {
             file,
             stimulus,
             all,
             waveform,
-        } => {
-            let waveform = waveform.as_ref().map(|name| name.as_str());
-            trace(rt, file.as_str(), stimulus.as_str(), *all, waveform)
-        }
-        Request::Explain { number } => explain(rt, *number),
+        } => trace(rt, file, stimulus, all, waveform),
+        Request::Explain { number } => explain(rt, number),
         Request::Certify(asked) => certify_clauses(rt, asked),
         Request::ToSafety(asked) => make_shadow(rt, asked),
         Request::Witness(asked) => make_witness(rt, asked),
@@ -145,18 +139,12 @@ fn done(rt: &HostRuntime, request: &Request) -> Result<u8, Stop> {
             property,
             certificate,
             search,
-        } => {
-            let certificate = certificate.as_ref().map(|name| name.as_str());
-            check(rt, file.as_str(), property.as_str(), certificate, *search)
-        }
+        } => check(rt, file, property, certificate, search),
         Request::All {
             file,
             folder,
             search,
-        } => {
-            let folder = folder.as_ref().map(|name| name.as_str());
-            check_all(rt, file.as_str(), folder, *search)
-        }
+        } => check_all(rt, file, folder, search),
     }
 }
 
@@ -180,11 +168,11 @@ fn answer(rt: &HostRuntime, words: &[String]) -> ExitCode {
         Ok(None) => return tell(rt, Stop::BadArgument),
         Err(error) => return refuse(rt, &error),
     };
-    match done(rt, &request) {
+    match done(rt, request) {
         Ok(status) => ExitCode::from(status),
         Err(stop) => {
             let status = tell(rt, stop);
-            tell_detail(rt, &request, stop);
+            tell_detail(rt, request, stop);
             status
         }
     }

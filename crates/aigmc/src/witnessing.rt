@@ -15,9 +15,9 @@ use witness::{Loose, WitnessError, asked_of, clear, strict, text_of};
 const NOT_SHOWN: u8 = 1;
 
 /// The property that is chosen, where one is.
-fn chosen(asked: &Counterexample) -> Result<Option<Property>, Stop> {
-    match &asked.property {
-        Some(name) => match property_named(name.as_str()) {
+fn chosen(asked: Counterexample<'_>) -> Result<Option<Property>, Stop> {
+    match asked.property {
+        Some(name) => match property_named(name) {
             Some(property) => Ok(Some(property)),
             None => Err(Stop::BadArgument),
         },
@@ -51,14 +51,14 @@ fn make_cleared(rt: &HostRuntime, out: &str, model: &Model, shown: &Stimulus) ->
 /// Makes the file that is asked for, and says which property is violated.
 fn keep_shown(
     rt: &HostRuntime,
-    asked: &Counterexample,
+    asked: Counterexample<'_>,
     model: &Model,
     shown: &Stimulus,
 ) -> Result<u8, Stop> {
     if asked.clear {
-        make_cleared(rt, asked.out.as_str(), model, shown)?;
+        make_cleared(rt, asked.out, model, shown)?;
     } else {
-        make_stimulus(rt, asked.out.as_str(), shown)?;
+        make_stimulus(rt, asked.out, shown)?;
     }
     let Ok(name) = property_name(rt.alloc(), shown.property()) else {
         return Err(Stop::Memory);
@@ -70,7 +70,7 @@ fn keep_shown(
 /// Makes the stimulus of what was read. Where no choice shows a violation, standard error says why the last was refused.
 fn witnessed(
     rt: &HostRuntime,
-    asked: &Counterexample,
+    asked: Counterexample<'_>,
     file: &AigerFile,
     loose: &Loose,
     property: Option<Property>,
@@ -89,17 +89,28 @@ fn witnessed(
     }
 }
 
+/// Makes the stimulus of the counterexample in the file that is named, of the circuit.
+fn witnessed_of(
+    rt: &HostRuntime,
+    asked: Counterexample<'_>,
+    file: &AigerFile,
+    property: Option<Property>,
+) -> Result<u8, Stop> {
+    let read = read_loose(rt, asked.stimulus, file.model());
+    let loose = read_of(Role::Stimulus, read)?;
+    witnessed(rt, asked, file, &loose, property)
+}
+
 /// Makes the file of that name with the strict stimulus of a counterexample.
-pub fn make_witness(rt: &HostRuntime, asked: &Counterexample) -> Result<u8, Stop> {
+pub fn make_witness(rt: &HostRuntime, asked: Counterexample<'_>) -> Result<u8, Stop> {
     let property = chosen(asked)?;
-    let (circuit_name, name) = (asked.file.as_str(), asked.stimulus.as_str());
+    let (circuit_name, name) = (asked.file, asked.stimulus);
     if is_standard(circuit_name) && is_standard(name) {
         return Err(Stop::BadArgument);
     }
-    if is_taken(rt, circuit_name, asked.out.as_str()) || is_taken(rt, name, asked.out.as_str()) {
+    if is_taken(rt, circuit_name, asked.out) || is_taken(rt, name, asked.out) {
         return Err(Stop::BadArgument);
     }
     let file = circuit(rt, circuit_name)?;
-    let loose = read_of(Role::Stimulus, read_loose(rt, name, file.model()))?;
-    witnessed(rt, asked, &file, &loose, property)
+    witnessed_of(rt, asked, &file, property)
 }

@@ -3,7 +3,7 @@
 use clap::ArgMatches;
 
 /// The layout that is asked for.
-#[derive(Clone, Copy, Debug, PartialEq, Eq)]
+#[derive(Clone, Copy)]
 pub enum AskedLayout {
     /// The one that the file's name ends in.
     Named,

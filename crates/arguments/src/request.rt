@@ -10,7 +10,7 @@ use clap::ArgMatches;
 use std::alloc::Global;
 
 /// What looks for evidence.
-#[derive(Clone, Copy, Debug, PartialEq, Eq)]
+#[derive(Clone, Copy, PartialEq, Eq)]
 pub enum EngineKind {
     /// Bounded search, and then IC3.
     All,
@@ -35,7 +35,7 @@ impl EngineKind {
 }
 
 /// How a search is to go.
-#[derive(Clone, Copy, Debug)]
+#[derive(Clone, Copy)]
 pub struct Search {
     /// what looks for evidence
     pub engine: EngineKind,
