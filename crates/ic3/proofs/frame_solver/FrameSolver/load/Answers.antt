@@ -10,7 +10,7 @@ pub add_all-requires : goal.add_all-requires
 add_all-requires g c =
     let m = c.args.circuit.now in
     let levels = c.args.levels in
-    let room = levels + c.queries-room.result in
+    let room = levels + c.queries.result in
     let fits : levels ≤ room = search rules in
     let small : room ≤ 4294967295 = search rules in
     record {

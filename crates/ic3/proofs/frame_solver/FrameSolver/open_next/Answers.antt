@@ -1,5 +1,6 @@
-use Rattle.std.proofs.Common.{rules, ◌≡◌, ◌+◌, ◌*◌, ◌<◌, arith}
+use Rattle.std.proofs.Common.{rules, ◌≡◌, ◌+◌, ◌*◌, ◌<◌, ◌≤◌, arith}
 use Rattle.cnf.specs.Formulas.{bad_literal}
+use Rattle.ic3.proofs.Clear.{is_deep}
 use Rattle.ic3.proofs.Joining.{opened_sound}
 use Rattle.ic3.proofs.frame_solver.FrameSolver.open_next.Goals as goal
 
@@ -19,3 +20,9 @@ returns-clause-sound g c =
     let room : c.args.frames.now.top + 1 < c.load.new.self.levels = omega (arith, top, c.in_ok-load.ensures.levels) in
     opened_sound m c.load.new.self c.args.frames.now c.open-2.new.self sound c.open-2.ensures.entries c.open-2.ensures.top room
     (c.open-2.ensures.laws m (bad_literal m 0) sound.laws c.requires.excluded)
+
+pub returns-then-self-gt-MOST_DOUBLED-clause-deep : goal.returns-then-self-gt-MOST_DOUBLED-clause-deep
+returns-then-self-gt-MOST_DOUBLED-clause-deep g c = λ none.
+    let more : 1000000000 < c.args.self.now.levels = c.if-self-gt-MOST_DOUBLED.true in
+    let all : c.args.self.now.levels ≤ c.top.result + 1 = omega (arith, c.if-top-self.false) in
+    is_deep c.args.circuit.now c.args.frames.now c.requires.sound.laws c.requires.excluded (omega (arith, more, all, c.top.ensures))
