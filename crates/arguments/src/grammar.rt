@@ -282,7 +282,7 @@ Examples:
 ];
 
 impl Row {
-    /// What clap is told of the command.
+    /// The clap command of a row.
     fn command<'a>(&self, alloc: Global) -> Result<Command<'a>, AllocError> {
         let mut command = Command::new(alloc, self.name)
             .about(self.about)

@@ -1,4 +1,4 @@
-//! The arguments of commands: rows of plain values, what clap is told of a row, and how a word is read back.
+//! The arguments of commands: rows of plain values, the clap argument of a row, and how a word is read back.
 
 use clap::builder::ValueParser;
 use clap::{Arg, ArgAction, ArgMatches};
@@ -138,7 +138,7 @@ fn taking<'a>(alloc: Global, name: &'a str, help: &'a str, takes: Takes) -> Arg<
 }
 
 impl Argument {
-    /// What clap is told of the argument.
+    /// The clap argument of a row.
     pub fn arg<'a>(self, alloc: Global) -> Arg<'a> {
         let arg = taking(alloc, self.name, self.help, self.takes).required(self.required);
         let arg = with_short(arg, self.short);
