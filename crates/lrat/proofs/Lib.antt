@@ -16,6 +16,7 @@ pub mod Maps
 pub mod Rising
 pub mod Kept
 pub mod Layering
+pub mod Listing
 pub mod Halting
 pub mod Refusing
 pub mod Extending

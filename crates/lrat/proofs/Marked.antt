@@ -1,5 +1,5 @@
 -- What one mark for each variable says, as literals come and go.
-use Rattle.std.proofs.Common.{◌≡◌, ℕ, suc, zero, ◌+◌, ◌<◌, ◌≢◌, ◌⊎◌, ◌↔◌, ◌==◌, true, false, List, [], ◌∷◌, ◌++◌, length, get_or, take, drop, set, All, Contains, IsTrue, ℤ, pos, negsuc, neg_ℤ, unsigned_abs, refl, sym, ◌∙◌, ap, subst, inl, inr, arith, get_or-set_other, get_or-set_same}
+use Rattle.std.proofs.Common.{◌≡◌, Bool, ℕ, suc, zero, ◌+◌, ◌<◌, ◌≢◌, ◌⊎◌, ◌↔◌, ◌==◌, true, false, List, [], ◌∷◌, ◌++◌, length, get_or, take, drop, set, All, Contains, IsTrue, ℤ, pos, negsuc, neg_ℤ, unsigned_abs, refl, sym, ◌∙◌, ap, subst, inl, inr, arith, get_or-set_other, get_or-set_same}
 use Rattle.std.proofs.lemmas.List.{get_or_default, length-set, length-take, length-drop, get_or-take, get_or-drop, take-append-drop}
 use Rattle.std.proofs.lemmas.Bool.Decides.{nat_tests}
 use Rattle.std.proofs.lemmas.List.Elements.{All-push, All-nil, Contains-push, Contains-push_cases, Contains-append_left, Contains-append_right, Contains-append_cases, Contains-get_or, All-weaker, All-more, All-contains, All-cons, All-take}
@@ -8,38 +8,44 @@ use Rattle.lrat.proofs.Looks.{take_more}
 use Rattle.lrat.specs.Literals.{IsLiteral}
 use Rattle.lrat.specs.Marks.{Says, AreMarked, AreApart, IsUnmarked, mark_of}
 use Rattle.lrat.specs.declared.mark.Mark.{Mark}
+use Rattle.lrat.specs.contracts.mark.Mark.{the_type}
 use Rattle.lrat.specs.declared.mark.Mark.TheVariants.{Neither, Positive, Negative}
-use lib.Signed.{lt_z}
+use denote.Enum.Bare.{sameb}
 
-pub holds_neither : (t : List ℤ) (l : ℤ) → Says t (unsigned_abs l) Neither → Contains t l → ⊥
-holds_neither t (pos n) says at = says.0 at
-holds_neither t (negsuc n) says at = says.1 at
+-- the mark of a literal's variable is the literal's own where the literal is held
+pub held_mark : (t : List ℤ) (l : ℤ) (m : Mark) → l ≢ pos 0 → Says t (unsigned_abs l) m → (m ≡ mark_of l) ↔ Contains t l
+held_mark t (pos zero) m ne says = absurd (ne refl)
+held_mark t (pos (suc n)) Neither ne says = (λ e. cc, λ h. absurd (says.0 h))
+held_mark t (pos (suc n)) Positive ne says = (λ e. says.0, λ h. refl)
+held_mark t (pos (suc n)) Negative ne says = (λ e. cc, λ h. absurd (says.0 h))
+held_mark t (negsuc n) Neither ne says = (λ e. cc, λ h. absurd (says.1 h))
+held_mark t (negsuc n) Positive ne says = (λ e. cc, λ h. absurd (says.1 h))
+held_mark t (negsuc n) Negative ne says = (λ e. says.1, λ h. refl)
 
-positive : (n : ℕ) → lt_z (pos 0) (pos (suc n)) ≡ true
-positive n = grind (arith, nat_tests)
+-- and its negation's where the negation is held
+pub denied_mark : (t : List ℤ) (l : ℤ) (m : Mark) → l ≢ pos 0 → Says t (unsigned_abs l) m → (m ≡ mark_of (neg_ℤ l)) ↔ Contains t (neg_ℤ l)
+denied_mark t (pos zero) m ne says = absurd (ne refl)
+denied_mark t (pos (suc n)) Neither ne says = (λ e. cc, λ h. absurd (says.1 h))
+denied_mark t (pos (suc n)) Positive ne says = (λ e. cc, λ h. absurd (says.1 h))
+denied_mark t (pos (suc n)) Negative ne says = (λ e. says.1, λ h. refl)
+denied_mark t (negsuc n) Neither ne says = (λ e. cc, λ h. absurd (says.0 h))
+denied_mark t (negsuc n) Positive ne says = (λ e. says.0, λ h. refl)
+denied_mark t (negsuc n) Negative ne says = (λ e. cc, λ h. absurd (says.0 h))
 
-not_below : (n : ℕ) → lt_z (pos (suc n)) (pos 0) ≡ true → ⊥
-not_below n h = grind (arith, nat_tests)
+same_marks : (a b : Mark) → IsTrue (sameb the_type a b) ↔ (a ≡ b)
+same_marks Neither Neither = (λ h. refl, λ e. refl)
+same_marks Neither Positive = (λ h. cc, λ e. cc)
+same_marks Neither Negative = (λ h. cc, λ e. cc)
+same_marks Positive Neither = (λ h. cc, λ e. cc)
+same_marks Positive Positive = (λ h. refl, λ e. refl)
+same_marks Positive Negative = (λ h. cc, λ e. cc)
+same_marks Negative Neither = (λ h. cc, λ e. cc)
+same_marks Negative Positive = (λ h. cc, λ e. cc)
+same_marks Negative Negative = (λ h. refl, λ e. refl)
 
-pub holds_positive : (t : List ℤ) (l : ℤ) → l ≢ pos 0 → Says t (unsigned_abs l) Positive → IsTrue (lt_z (pos 0) l) ↔ Contains t l
-holds_positive t (pos zero) ne says = absurd (ne refl)
-holds_positive t (pos (suc n)) ne says = (λ h. says.0, λ h. positive n)
-holds_positive t (negsuc n) ne says = (λ h. cc, λ h. absurd (says.1 h))
-
-pub holds_negative : (t : List ℤ) (l : ℤ) → l ≢ pos 0 → Says t (unsigned_abs l) Negative → IsTrue (lt_z l (pos 0)) ↔ Contains t l
-holds_negative t (pos zero) ne says = absurd (ne refl)
-holds_negative t (pos (suc n)) ne says = (λ h. absurd (not_below n h), λ h. absurd (says.0 h))
-holds_negative t (negsuc n) ne says = (λ h. says.1, λ h. refl)
-
-pub denies_positive : (t : List ℤ) (l : ℤ) → l ≢ pos 0 → Says t (unsigned_abs l) Positive → IsTrue (lt_z l (pos 0)) ↔ Contains t (neg_ℤ l)
-denies_positive t (pos zero) ne says = absurd (ne refl)
-denies_positive t (pos (suc n)) ne says = (λ h. absurd (not_below n h), λ h. absurd (says.1 h))
-denies_positive t (negsuc n) ne says = (λ h. says.0, λ h. refl)
-
-pub denies_negative : (t : List ℤ) (l : ℤ) → l ≢ pos 0 → Says t (unsigned_abs l) Negative → IsTrue (lt_z (pos 0) l) ↔ Contains t (neg_ℤ l)
-denies_negative t (pos zero) ne says = absurd (ne refl)
-denies_negative t (pos (suc n)) ne says = (λ h. says.1, λ h. positive n)
-denies_negative t (negsuc n) ne says = (λ h. cc, λ h. absurd (says.0 h))
+-- a test whether a mark is the one that is wanted
+pub tested : {P : Type 0} (m wanted w : Mark) (r : Bool) → r ≡ sameb the_type m wanted → wanted ≡ w → (m ≡ w) ↔ P → IsTrue r ↔ P
+tested m wanted w r is same says = rw (is, same) (λ h. says.0 ((same_marks m w).0 h), λ p. (same_marks m w).1 (says.1 p))
 
 -- what the mark at the literal's variable was read as
 pub read_mark : (n : ℕ) (marks : List Mark) (t : List ℤ) (l : ℤ) (i : ℕ) (x m : Mark) → AreMarked n marks t → IsLiteral n l → i ≡ unsigned_abs l → x ≡ get_or marks i x → x ≡ m → Says t (unsigned_abs l) m

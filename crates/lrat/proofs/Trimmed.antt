@@ -19,24 +19,6 @@ use Rattle.lrat.specs.declared.line.Line.{Line}
 use Rattle.lrat.specs.declared.line.Line.TheVariants.{Add, Delete}
 use Rattle.lrat.proofs.Numbered.{get_new}
 
--- ---- the lines are of the proof
-
-kept_among : (b : Bool) (l : Line) (ks ls : List Line) → IsSublist ks ls → IsSublist (cond b (l ∷ ks) ks) (l ∷ ls)
-kept_among true l ks ls among = inr (ks, refl, among)
-kept_among false l ks ls among = inl among
-
-pub trimmed_among : (ls : List Line) → IsSublist (trimmed ls) ls
-trimmed_among [] = refl
-trimmed_among (l ∷ ls) = kept_among (is_needed l (trimmed ls)) l (trimmed ls) ls (trimmed_among ls)
-
-kept_all : (P : Line → Type 0) (b : Bool) (l : Line) (ks : List Line) → P l → All P ks → All P (cond b (l ∷ ks) ks)
-kept_all P true l ks p all = All-cons P l ks p all
-kept_all P false l ks p all = all
-
-pub trimmed_all : (P : Line → Type 0) (ls : List Line) → All P ls → All P (trimmed ls)
-trimmed_all P [] all = all
-trimmed_all P (l ∷ ls) all = kept_all P (is_needed l (trimmed ls)) l (trimmed ls) (All-head P l ls all) (trimmed_all P ls (All-tail P l ls all))
-
 -- ---- hints show the same where they name the same clauses
 
 -- what these ids name in the first, they name in the second

@@ -15,9 +15,11 @@ pub mod Halts
 pub mod Proofs
 pub mod Shared
 pub mod Layers
+pub mod Listed
 pub mod Lemmas
 pub mod Courses
 pub mod Trimming
 pub mod Hinted
 pub mod Texts
 pub mod Reading
+pub mod Buffered

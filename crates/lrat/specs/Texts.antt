@@ -41,7 +41,7 @@ SpellsProof text lines = Each SpellsLine text lines
 abbrev pub IsRead : {V : Type 0} → Result V LratError → V → Type 0
 IsRead result value = MatchResult result (λ v. v ≡ value) (λ e. e ≡ OutOfMemory witness)
 
--- the error for a fault in a text of so many bytes
+-- the error for a fault in a text of this number of bytes
 abbrev pub error_of : ℕ → Fault Refusal → LratError
 error_of length (Memory refused) = (OutOfMemory witness)
 error_of length (Text NoNumber left) = Number (length - left)

@@ -36,7 +36,7 @@ pub fn extends(alloc: Global, formula: &Formula, proof: &Proof) -> Result<Refute
     };
     let lines = proof.lines();
     for (i, line) in lines.iter().enumerate() {
-        match refuter.lemma(line) {
+        match refuter.lemma(line.as_ref()) {
             Ok(()) => {}
             Err(fault) => return Err(StepError::at(fault, i as u64)),
         }

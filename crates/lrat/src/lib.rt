@@ -8,8 +8,6 @@
 //!   where the line is accepted; then whatever satisfies the clauses satisfies the line's clause.
 //! - `refutes` checks a proof of a formula. It answers Ok exactly where the proof is accepted;
 //!   then nothing satisfies the formula. Each refusal has its first cause and that line.
-//! - `Proof::trimmed` leaves out of a proof what its empty clause does not rest on. The rest refutes
-//!   what the proof refutes.
 //! - `Refuter` does the same line by line, for many refutations that begin with one formula, or
 //!   with one formula and lemmas.
 //! - `extends` checks lines that follow from a formula, as lemmas that many refutations share.
@@ -21,12 +19,15 @@
 #![tactic(auto)]
 
 mod clause;
+mod clause_row;
 mod clauses;
 mod derivation;
 mod extension;
 mod fault;
 mod formula;
 mod line;
+mod line_buffer;
+mod line_ref;
 mod look;
 mod lookup;
 mod lrat_error;
@@ -42,16 +43,18 @@ mod stack;
 mod step_error;
 mod text;
 mod trail;
-mod trimming;
 mod writing;
 
 pub use clause::Clause;
+pub use clause_row::{AddClause, ClauseRow};
 pub use clauses::Clauses;
 pub use derivation::{derive, derive_with};
 pub use extension::extends;
 pub use fault::Fault;
 pub use formula::Formula;
 pub use line::Line;
+pub use line_buffer::LineBuffer;
+pub use line_ref::LineRef;
 pub use look::{Left, look as look_at};
 pub use lookup::Lookup;
 pub use lrat_error::LratError;

@@ -1,6 +1,10 @@
 //! Lines of proofs.
 
+ghost use Rattle.std.specs.Prelude.{◌≡◌};
+ghost use Rattle.lrat.specs.Buffered.{lent_line};
+
 use crate::clause::Clause;
+use crate::line_ref::LineRef;
 use base::Seq;
 
 /// A line of a proof.
@@ -18,4 +22,23 @@ pub enum Line {
         id: u32,
         ids: Seq<u32>,
     },
+}
+
+impl Line {
+    /// The line, whose lists stay here.
+    pub fn as_ref(&self) -> LineRef<'_>
+        ensures { lent_line result ≡ self.now }
+    {
+        match self {
+            Line::Add { id, clause, hints } => LineRef::Add {
+                id: *id,
+                clause: clause.as_slice(),
+                hints: hints.as_slice(),
+            },
+            Line::Delete { id, ids } => LineRef::Delete {
+                id: *id,
+                ids: ids.as_slice(),
+            },
+        }
+    }
 }

@@ -1,6 +1,6 @@
 //! One mark for each variable, which says whether one of its literals is held true.
 
-ghost use Rattle.std.specs.Prelude.{◌≡◌, ◌<◌, All, length, unsigned_abs};
+ghost use Rattle.std.specs.Prelude.{◌≡◌, ◌<◌, All, length, neg_ℤ, unsigned_abs};
 ghost use Rattle.lrat.specs.Marks.{mark_of, IsUnmarked};
 
 /// Which literal of a variable is held true.
@@ -19,6 +19,17 @@ pub fn mark_for(literal: i32) -> Mark
         Mark::Positive
     } else {
         Mark::Negative
+    }
+}
+
+/// The mark of a literal's variable where the literal's negation is held true.
+pub fn mark_against(literal: i32) -> Mark
+    ensures { result ≡ mark_of (neg_ℤ literal) }
+{
+    if literal > 0 {
+        Mark::Negative
+    } else {
+        Mark::Positive
     }
 }
 

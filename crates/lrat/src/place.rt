@@ -16,6 +16,7 @@ pub struct Place {
 
 /// At which index the id is. It is looked for at `id - 1` first, where it is if no id is skipped,
 /// and then in time of the logarithm.
+#[inline(always)]
 pub fn position(places: &[Place], id: u32) -> Option<usize>
     requires { IsRising 0 (ids_of places.now) }
     ensures { MatchOption result (Contains (ids_of places.now) id → ⊥) (λ i. (i < length places.now) × (get_or (ids_of places.now) i 0 ≡ id)) }
@@ -28,6 +29,8 @@ pub fn position(places: &[Place], id: u32) -> Option<usize>
 }
 
 /// At which index the id is, by halving.
+#[cold]
+#[inline(never)]
 fn search(places: &[Place], id: u32) -> Option<usize>
     requires { IsRising 0 (ids_of places.now) }
     ensures { MatchOption result (Contains (ids_of places.now) id → ⊥) (λ i. (i < length places.now) × (get_or (ids_of places.now) i 0 ≡ id)) }

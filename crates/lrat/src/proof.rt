@@ -1,17 +1,13 @@
 //! Proofs.
 
 ghost use Rattle.base.specs.Witness.{witness};
-ghost use Rattle.std.specs.Prelude.{◌≡◌, ◌++◌, ◌∷◌, [], All, OnOk, OnErr, IfErr, IfOk, IsTrue, ◌↔◌, ◌⊎◌};
+ghost use Rattle.std.specs.Prelude.{◌≡◌, ◌++◌, ◌∷◌, [], All, OnOk, OnErr, IfErr, IsTrue, ◌↔◌, ◌⊎◌};
 ghost use Rattle.lrat.specs.Limits.{IsHint, IsId, IsLine};
 ghost use Rattle.lrat.specs.Literals.{IsLiteral};
-ghost use Rattle.lrat.specs.Proofs.{IsAcceptedProof};
-ghost use Rattle.lrat.specs.Trimming.{IsSublist, trimmed};
-ghost use Rattle.lrat.specs.declared.formula.Formula.{Formula};
 ghost use Rattle.lrat.specs.declared.lrat_error.LratError.TheVariants.{Number, OutOfMemory};
 
 use crate::line::Line;
 use crate::lrat_error::LratError;
-use crate::trimming::needed_lines;
 use base::{Refused, Seq};
 use std::alloc::Global;
 use std::marker::Model;
@@ -68,23 +64,6 @@ impl Proof {
         }
         self.push_line(line)?;
         Ok(())
-    }
-
-    /// The additions that the empty clause rests on through hints, in their order and as they are,
-    /// without the others and without deletions. What the proof refutes, they refute. It costs the
-    /// number of lines, and the logarithm of that for each hint of a line that is kept; ids that do
-    /// not rise are sorted.
-    pub fn trimmed(self, alloc: Global) -> Result<Proof, Refused>
-        ensures lines { IfOk result (λ p. p ≡ trimmed self) }
-        ensures among { IfOk result (λ p. IsSublist p self) }
-        ensures refutes { IfOk result (λ p. (f : Formula) → IsAcceptedProof f self → IsAcceptedProof f p) }
-    {
-        let Proof { lines } = self;
-        let mut needed = needed_lines(alloc, lines.into_vec())?;
-        needed.reverse();
-        Ok(Proof {
-            lines: Seq::from_vec(needed),
-        })
     }
 
     /// The lines in order.

@@ -13,7 +13,7 @@ use std::alloc::Global;
 use std::marker::PhantomData;
 
 /// The literals of a clause, up to the 0 behind the last.
-struct Literals<K> {
+pub struct Literals<K> {
     kinds: PhantomData<K>,
 }
 
@@ -43,7 +43,7 @@ impl<K: Copy> ItemKind for Literals<K> {
 }
 
 /// The hints of an addition, up to the 0 at the line's end.
-struct Hints<K> {
+pub struct Hints<K> {
     kinds: PhantomData<K>,
 }
 
@@ -70,7 +70,7 @@ impl<K: Copy> ItemKind for Hints<K> {
 }
 
 /// The ids of a deletion, up to the 0 at the line's end.
-struct Ids<K> {
+pub struct Ids<K> {
     kinds: PhantomData<K>,
 }
 
@@ -105,7 +105,7 @@ impl<K: Copy> ItemKind for Ids<K> {
 
 /// A line's id, and what follows the space behind it.
 #[tactic(auto, unfolding(scan::specs::Words::field_at))]
-fn line_id<K: Copy>(text: &[u8], kinds: Kinds<K>) -> Result<(u32, &[u8]), Fault<K>>
+pub fn line_id<K: Copy>(text: &[u8], kinds: Kinds<K>) -> Result<(u32, &[u8]), Fault<K>>
     ensures { Gives (λ x. (x.0, x.1.now)) result (field_at 4294967295 (nat_lt 0) 32 text.now) }
 {
     let (id, rest) = number(text, u32::MAX, kinds)?;
@@ -154,7 +154,7 @@ fn deleted<K: Copy>(
 
 /// The line that a text begins with, to its line end, and what follows it. The refusals are those
 /// that the reader of the text calls so: a number that is missing, 0 in place of an id, or over its
-/// limit is told at its first byte, which may be a minus (LRAT, 2017). One pass; the memory is the
+/// limit is reported at its first byte, which may be a minus (LRAT, 2017). One pass; the memory is the
 /// line's lists and, while a clause is read, a list of its literals.
 #[tactic(auto, unfolding(crate::specs::Reading::line_at))]
 pub fn next_line<K: Copy>(

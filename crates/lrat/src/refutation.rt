@@ -30,7 +30,7 @@ pub fn refutes(alloc: Global, formula: &Formula, proof: &Proof) -> Result<(), St
     };
     let lines = proof.lines();
     for (i, line) in lines.iter().enumerate() {
-        match refuter.feed(alloc, line) {
+        match refuter.feed(alloc, line.as_ref()) {
             Ok(()) => {}
             Err(fault) => return Err(StepError::at(fault, i as u64)),
         }

@@ -2,6 +2,7 @@
 
 ghost use Rattle.base.specs.Witness.{witness};
 ghost use Rattle.std.specs.Prelude.{◌≡◌, ◌≢◌, ◌+◌, ◌≤◌, ◌<◌, ◌^◌, ◌⊎◌, ◌↔◌, Bool, true, false, [], None, Some, map, length, All, IfOk, IfErr, IfSome, IsTrue, OnOk, OnErr, unsigned_abs};
+ghost use Rattle.lrat.specs.Buffered.{lent_line};
 ghost use Rattle.lrat.specs.Courses.{at_formula, at_units};
 ghost use Rattle.lrat.specs.Halts.{Halts, LacksOne};
 ghost use Rattle.lrat.specs.Lemmas.{AddsEmpty, IsNoLemma, base_at};
@@ -11,10 +12,11 @@ ghost use Rattle.lrat.specs.Stages.{Stage, Goes, IsPositive, TakesOut};
 ghost use Rattle.lrat.specs.declared.fault.Fault.TheVariants.{OutOfMemory, NegativeHint, NoEmptyClause, NoIds, UnknownId};
 ghost use Rattle.lrat.specs.declared.line.Line.TheVariants.{Add};
 
+use crate::clause_row::ClauseRow;
 use crate::derivation::derive_with;
 use crate::fault::Fault;
 use crate::formula::Formula;
-use crate::line::Line;
+use crate::line_ref::LineRef;
 use crate::stack::Stack;
 use crate::trail::Trail;
 use base::{Refused, push};
@@ -71,17 +73,33 @@ impl Refuter {
         })
     }
 
+    /// At the formula of these clauses, before the first line. It takes the clauses over, and costs
+    /// the variables.
+    pub fn over(alloc: Global, vars: u32, clauses: ClauseRow) -> Result<Refuter, Refused>
+        requires { IsFormula (record { vars = vars; clauses = clauses }) }
+        ensures { IfOk result (λ r. r ≡ at_formula (record { vars = vars; clauses = clauses })) }
+    {
+        let trail = Trail::new(alloc, vars)?;
+        Ok(Refuter {
+            trail,
+            stack: Stack::over(alloc, vars, clauses),
+            hints: Vec::new(alloc),
+            closed: false,
+            refusal: None,
+        })
+    }
+
     /// Checks the next line as a lemma: as `feed`, but a line that adds the empty clause is refused
     /// before anything else about it is looked at.
-    pub fn lemma(&mut self, line: &Line) -> Result<(), Fault>
-        requires { IsLine line.now }
+    pub fn lemma(&mut self, line: LineRef<'_>) -> Result<(), Fault>
+        requires { IsLine (lent_line line) }
         ensures base { self.new.base ≡ self.old.base }
         ensures stands { IfSome self.old.refusal (λ e. (result ≡ Err e) × (self.new ≡ self.old)) }
-        ensures ok { OnOk result ((self.old.refusal ≡ None) × (self.new.refusal ≡ None) × Goes self.old.base.vars self.old.stage line.now self.new.stage) }
-        ensures not_empty { OnOk result (AddsEmpty line.now → ⊥) }
+        ensures ok { OnOk result ((self.old.refusal ≡ None) × (self.new.refusal ≡ None) × Goes self.old.base.vars self.old.stage (lent_line line.entry) self.new.stage) }
+        ensures not_empty { OnOk result (AddsEmpty (lent_line line.entry) → ⊥) }
         ensures stays_open { OnOk result (self.new.stage.closed ≡ false) }
-        ensures refused { IfErr result (λ e. self.old.refusal ≡ None → IsNoLemma self.old.base.vars self.old.stage line.now e) }
-        ensures complete { IfErr result (λ e. self.old.refusal ≡ None → e ≢ OutOfMemory witness → (AddsEmpty line.now → ⊥) → (t : Stage) → Goes self.old.base.vars self.old.stage line.now t → ⊥) }
+        ensures refused { IfErr result (λ e. self.old.refusal ≡ None → IsNoLemma self.old.base.vars self.old.stage (lent_line line.entry) e) }
+        ensures complete { IfErr result (λ e. self.old.refusal ≡ None → e ≢ OutOfMemory witness → (AddsEmpty (lent_line line.entry) → ⊥) → (t : Stage) → Goes self.old.base.vars self.old.stage (lent_line line.entry) t → ⊥) }
         ensures from_then { IfErr result (λ e. self.new.refusal ≡ Some e) }
     {
         if let Some(fault) = self.refusal {
@@ -141,13 +159,13 @@ impl Refuter {
     }
 
     /// Checks the next line.
-    pub fn feed(&mut self, _alloc: Global, line: &Line) -> Result<(), Fault>
-        requires { IsLine line.now }
+    pub fn feed(&mut self, _alloc: Global, line: LineRef<'_>) -> Result<(), Fault>
+        requires { IsLine (lent_line line) }
         ensures base { self.new.base ≡ self.old.base }
         ensures stands { IfSome self.old.refusal (λ e. (result ≡ Err e) × (self.new ≡ self.old)) }
-        ensures ok { OnOk result ((self.old.refusal ≡ None) × (self.new.refusal ≡ None) × Goes self.old.base.vars self.old.stage line.now self.new.stage) }
-        ensures refused { IfErr result (λ e. self.old.refusal ≡ None → Halts self.old.base.vars self.old.stage line.now e) }
-        ensures complete { IfErr result (λ e. self.old.refusal ≡ None → e ≢ OutOfMemory witness → (t : Stage) → Goes self.old.base.vars self.old.stage line.now t → ⊥) }
+        ensures ok { OnOk result ((self.old.refusal ≡ None) × (self.new.refusal ≡ None) × Goes self.old.base.vars self.old.stage (lent_line line.entry) self.new.stage) }
+        ensures refused { IfErr result (λ e. self.old.refusal ≡ None → Halts self.old.base.vars self.old.stage (lent_line line.entry) e) }
+        ensures complete { IfErr result (λ e. self.old.refusal ≡ None → e ≢ OutOfMemory witness → (t : Stage) → Goes self.old.base.vars self.old.stage (lent_line line.entry) t → ⊥) }
         ensures from_then { IfErr result (λ e. self.new.refusal ≡ Some e) }
     {
         if let Some(fault) = self.refusal {
@@ -179,32 +197,30 @@ impl Refuter {
     }
 
     /// Takes a line where nothing was refused yet.
-    fn advance(&mut self, line: &Line) -> Result<(), Fault>
-        requires { IsLine line.now }
+    fn advance(&mut self, line: LineRef<'_>) -> Result<(), Fault>
+        requires { IsLine (lent_line line) }
         ensures base { self.new.base ≡ self.old.base }
         ensures refusal { self.new.refusal ≡ self.old.refusal }
-        ensures ok { OnOk result (Goes self.old.base.vars self.old.stage line.now self.new.stage) }
-        ensures refused { IfErr result (λ e. Halts self.old.base.vars self.old.stage line.now e) }
+        ensures ok { OnOk result (Goes self.old.base.vars self.old.stage (lent_line line.entry) self.new.stage) }
+        ensures refused { IfErr result (λ e. Halts self.old.base.vars self.old.stage (lent_line line.entry) e) }
     {
         if self.closed {
             return Err(Fault::AfterEmpty);
         }
         match line {
-            Line::Add { id, clause, hints } => {
-                self.add(*id, clause.as_slice(), hints.as_slice())
-            }
-            Line::Delete { ids, .. } => take_out(&mut self.stack, ids.as_slice()),
+            LineRef::Add { id, clause, hints } => self.add(id, clause, hints),
+            LineRef::Delete { ids, .. } => take_out(&mut self.stack, ids),
         }
     }
 
     /// Takes a line as a lemma where nothing was refused yet.
-    fn advance_lemma(&mut self, line: &Line) -> Result<(), Fault>
-        requires { IsLine line.now }
+    fn advance_lemma(&mut self, line: LineRef<'_>) -> Result<(), Fault>
+        requires { IsLine (lent_line line) }
         ensures base { self.new.base ≡ self.old.base }
         ensures refusal { self.new.refusal ≡ self.old.refusal }
-        ensures ok { OnOk result (Goes self.old.base.vars self.old.stage line.now self.new.stage) }
-        ensures not_empty { OnOk result (AddsEmpty line.now → ⊥) }
-        ensures refused { IfErr result (λ e. IsNoLemma self.old.base.vars self.old.stage line.now e) }
+        ensures ok { OnOk result (Goes self.old.base.vars self.old.stage (lent_line line.entry) self.new.stage) }
+        ensures not_empty { OnOk result (AddsEmpty (lent_line line.entry) → ⊥) }
+        ensures refused { IfErr result (λ e. IsNoLemma self.old.base.vars self.old.stage (lent_line line.entry) e) }
     {
         if adds_empty(line) {
             return Err(Fault::EmptyLemma);
@@ -234,12 +250,12 @@ impl Refuter {
 }
 
 /// Whether the line adds the empty clause.
-fn adds_empty(line: &Line) -> bool
-    ensures { IsTrue result ↔ AddsEmpty line.now }
+fn adds_empty(line: LineRef<'_>) -> bool
+    ensures { IsTrue result ↔ AddsEmpty (lent_line line.entry) }
 {
     match line {
-        Line::Add { clause, .. } => clause.as_slice().is_empty(),
-        Line::Delete { .. } => false,
+        LineRef::Add { clause, .. } => clause.is_empty(),
+        LineRef::Delete { .. } => false,
     }
 }
 

@@ -2,6 +2,7 @@
 
 ghost use Rattle.std.specs.Prelude.{◌≡◌, ◌≤◌, ◌<◌, ◌++◌, ◌∷◌, [], true, false, All, Contains, MatchOption, OnOk, OnErr, get_or, length, set, take};
 ghost use Rattle.lrat.specs.Literals.{IsLiteral};
+ghost use Rattle.lrat.specs.Places.{kept_at, AreInside};
 ghost use Rattle.lrat.specs.Slots.{Slot, IsRising, blank, ids_in, live_slots};
 
 use crate::place::{Place, close_up, keep_live, position};
@@ -50,6 +51,19 @@ impl Row {
         }
     }
 
+    /// The clauses at these places of the list. It takes no memory.
+    pub fn of_places(vars: u32, literals: Vec<i32>, places: Vec<Place>) -> Row
+        requires { AreInside vars literals.items places.items }
+        ensures { result ≡ record { vars = vars; slots = kept_at literals.items places.items } }
+    {
+        Row {
+            vars,
+            places,
+            literals,
+            dead: 0,
+        }
+    }
+
     /// The greatest variable.
     pub fn vars(&self) -> u32
         ensures { result ≡ self.now.vars }
@@ -65,6 +79,7 @@ impl Row {
     }
 
     /// Adds a clause behind the others. Without memory nothing changes.
+    #[inline(always)]
     pub fn add(&mut self, id: u32, clause: &[i32]) -> Result<(), Refused>
         requires { All (IsLiteral self.old.vars) clause.now }
         ensures vars { self.new.vars ≡ self.old.vars }

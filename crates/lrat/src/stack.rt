@@ -10,6 +10,7 @@ ghost use Rattle.lrat.specs.Slots.{IsRising, ids_in, live_at, live_of, revived};
 ghost use Rattle.lrat.specs.Layers.{bare, find_present, AreFresh, IsLiveAt};
 
 use crate::clause::Clause;
+use crate::clause_row::ClauseRow;
 use crate::formula::Formula;
 use crate::lookup::Lookup;
 use crate::row::Row;
@@ -62,6 +63,22 @@ impl Stack {
             hidden: Vec::new(alloc),
             top: mark,
         })
+    }
+
+    /// These clauses, shared, under the ids 1, 2 and so on. It takes no memory.
+    pub fn over(alloc: Global, vars: u32, clauses: ClauseRow) -> Stack
+        requires { IsFormula (record { vars = vars; clauses = clauses }) }
+        ensures { result ≡ bare (base_of (record { vars = vars; clauses = clauses })) }
+    {
+        let row = clauses.into_row(vars);
+        let mark = row.len() as u32;
+        Stack {
+            row,
+            mark,
+            shared_top: mark,
+            hidden: Vec::new(alloc),
+            top: mark,
+        }
     }
 
     /// The greatest id that was ever present.
@@ -157,6 +174,7 @@ impl Lookup for Stack {
         self.row.vars()
     }
 
+    #[inline(always)]
     fn get(&self, id: u32) -> Option<&[i32]> {
         match find(&self.row, id) {
             Some(index) => Some(self.row.clause(index)),
@@ -180,6 +198,7 @@ fn number(alloc: Global, vars: u32, formula: &[Clause]) -> Result<Row, Refused>
 }
 
 /// At which index the live clause with this id is.
+#[inline(always)]
 fn find(row: &Row, id: u32) -> Option<usize>
     requires { IsRising 0 (ids_in row.now.slots) }
     ensures { MatchOption result (fin.get (live_of row.now.slots) id ≡ None) (IsLiveAt row.now.slots id) }

@@ -4,7 +4,7 @@ ghost use Rattle.std.specs.Prelude.{◌≡◌, ℕ, ℤ, pos, neg_ℤ, ◌≤◌
 ghost use Rattle.lrat.specs.Literals.{IsLiteral};
 ghost use Rattle.lrat.specs.Marks.{AreApart};
 
-use crate::mark::{Mark, mark_for, unmark};
+use crate::mark::{Mark, mark_against, mark_for, unmark};
 use base::{Refused, filled, push};
 use std::alloc::Global;
 use std::marker::Model;
@@ -73,11 +73,7 @@ impl Trail {
         requires { IsLiteral self.now.vars literal }
         ensures { IsTrue result ↔ Contains self.now.literals literal }
     {
-        match self.marks[literal.unsigned_abs() as usize] {
-            Mark::Neither => false,
-            Mark::Positive => literal > 0,
-            Mark::Negative => literal < 0,
-        }
+        self.marks[literal.unsigned_abs() as usize] == mark_for(literal)
     }
 
     /// Whether the literal's negation is held true.
@@ -85,11 +81,7 @@ impl Trail {
         requires { IsLiteral self.now.vars literal }
         ensures { IsTrue result ↔ Contains self.now.literals (neg_ℤ literal) }
     {
-        match self.marks[literal.unsigned_abs() as usize] {
-            Mark::Neither => false,
-            Mark::Positive => literal < 0,
-            Mark::Negative => literal > 0,
-        }
+        self.marks[literal.unsigned_abs() as usize] == mark_against(literal)
     }
 
     /// Holds the literal true from now on. Without memory nothing changes.

@@ -15,7 +15,7 @@ abbrev pub value_then : {A : Type 0} → Option A → List ℕ → Read (List A)
 value_then None rest later = Some ([], rest)
 value_then (Some x) rest later = later >>= λ xs. Some (x ∷ xs.0, xs.1)
 
--- the values before the first end, in at most so many steps
+-- the values before the first end, in at most this number of steps
 unfoldable pub until_at : {A : Type 0} → (List ℕ → Read (Option A)) → ℕ → List ℕ → Read (List A)
 until_at one zero bytes = None
 until_at one (suc n) bytes = one bytes >>= λ x. value_then x.0 x.1 (until_at one n x.1)

@@ -16,7 +16,7 @@ Read A = Option (A × List ℕ)
 abbrev pub ended : {A : Type 0} → Read A → Option A
 ended read = read >>= λ r. if length r.1 == 0 then Some r.0 else None
 
--- this fault is told where reading gives nothing, and out of memory anywhere
+-- this fault is reported where reading gives nothing, and out of memory anywhere
 abbrev pub Fails : {K Y : Type 0} → Fault K → Option Y → Type 0
 Fails (Memory refused) read = Unit {0}
 Fails (Text kind left) read = read ≡ None

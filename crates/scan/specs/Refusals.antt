@@ -1,4 +1,4 @@
--- Which fault is told, and at which place.
+-- Which fault is reported, and at which place.
 use Rattle.std.specs.Prelude.{◌≡◌, ℕ, ◌<◌, ◌≤◌, List, [], ◌∷◌, ◌++◌, length, take, get_or, Result, Ok, Err, Some, None, if◌then◌else◌, ◌==◌}
 use Rattle.scan.specs.declared.fault.Fault.{Fault}
 use Rattle.scan.specs.declared.fault.Fault.TheVariants.{Memory, Text}
@@ -17,22 +17,22 @@ IsWithin most (Err (Text kind left)) = left ≤ most
 abbrev pub IsPlaced : {K X : Type 0} → List ℕ → Result X (Fault K) → Type 0
 IsPlaced text result = IsWithin (length text) result
 
--- what is told of a text with no number of at most the limit, at the place from which so much is left
+-- what is reported of a text with no number of at most the limit, at the place from which so much is left
 abbrev pub number_fault : {K : Type 0} → Kinds K → ℕ → List ℕ → Fault K
 number_fault kinds left [] = Text kinds.truncated 0
 number_fault kinds left (c ∷ cs) = Text (if begins_number c cs then kinds.over else kinds.number) left
 
--- what is told of a text that begins with another byte
+-- what is reported of a text that begins with another byte
 abbrev pub byte_fault : {K : Type 0} → Kinds K → List ℕ → Fault K
 byte_fault kinds [] = Text kinds.truncated 0
 byte_fault kinds (c ∷ cs) = Text kinds.byte (length (c ∷ cs))
 
--- what is told behind a number, or of it where there is none
+-- what is reported behind a number, or of it where there is none
 abbrev pub fault_behind : {K : Type 0} → Kinds K → List ℕ → Read ℕ → Fault K
 fault_behind kinds text None = number_fault kinds (length text) text
 fault_behind kinds text (Some n) = byte_fault kinds n.1
 
--- what is told of a text with no number and byte behind it
+-- what is reported of a text with no number and byte behind it
 abbrev pub word_fault : {K : Type 0} → Kinds K → ℕ → List ℕ → Fault K
 word_fault kinds limit text = fault_behind kinds text (number_at limit text)
 

@@ -8,6 +8,7 @@ ghost use Rattle.scan.specs.Refusals.{IsPlaced, IsTagFault, byte_fault};
 use crate::fault::{Fault, Kinds};
 
 /// What follows this byte.
+#[inline(always)]
 pub fn byte<K: Copy>(text: &[u8], wanted: u8, kinds: Kinds<K>) -> Result<&[u8], Fault<K>>
     ensures value { Gives (λ x. x.now) result (byte_at wanted text.now) }
     ensures refusal { IfErr result (λ e. e ≡ byte_fault kinds text.now) }

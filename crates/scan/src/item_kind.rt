@@ -39,9 +39,38 @@ pub trait ItemKind {
         ensures { Gives (λ x. (x.0, x.1.now)) result (at context text.now) };
 }
 
-/// The items before the first end, and what follows that. The list grows item by item. Where each
-/// item takes a byte, as it should, every refusal is one of `item`; items that take none would
-/// never come to an end, and `endless` is reported at the text's end.
+/// The items before the first end, put into a list that is emptied first and keeps its memory, and
+/// what follows that end. The list grows item by item. Where each item takes a byte, as it should,
+/// every refusal is one of `item`; items that take none would never come to an end, and `endless`
+/// is reported at the text's end.
+pub fn items_into<'t, L: ItemKind>(
+    alloc: Global,
+    items: &mut Vec<L::Item>,
+    text: &'t [u8],
+    context: L::Context,
+    endless: L::Refusal,
+) -> Result<&'t [u8], Fault<L::Refusal>>
+    requires allows { L.allows context }
+    requires item { IsItemSize (type_size L.Item.row) }
+    ensures { Gives (λ x. (items.new.items, x.now)) result (items_at (L.at context) text.now) }
+{
+    items.clear();
+    let mut rest = text;
+    for _ in 0..text.len() + 1 {
+        let (item, after) = L::item(alloc, rest, context)?;
+        rest = after;
+        match item {
+            None => return Ok(rest),
+            Some(item) => push(items, item)?,
+        }
+    }
+    Err(Fault::Text {
+        kind: endless,
+        left: 0,
+    })
+}
+
+/// As `items_into`, in a list of its own.
 pub fn items<L: ItemKind>(
     alloc: Global,
     text: &[u8],
@@ -53,17 +82,6 @@ pub fn items<L: ItemKind>(
     ensures { Gives (λ x. (x.0.items, x.1.now)) result (items_at (L.at context) text.now) }
 {
     let mut items = Vec::new(alloc);
-    let mut rest = text;
-    for _ in 0..text.len() + 1 {
-        let (item, after) = L::item(alloc, rest, context)?;
-        rest = after;
-        match item {
-            None => return Ok((items, rest)),
-            Some(item) => push(&mut items, item)?,
-        }
-    }
-    Err(Fault::Text {
-        kind: endless,
-        left: 0,
-    })
+    let rest = items_into::<L>(alloc, &mut items, text, context, endless)?;
+    Ok((items, rest))
 }

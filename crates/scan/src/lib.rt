@@ -66,7 +66,7 @@ mod words;
 pub use bytes::{byte, tag};
 pub use fault::{Fault, Kinds, place};
 pub use header::counts;
-pub use item_kind::{ItemKind, items};
+pub use item_kind::{ItemKind, items, items_into};
 pub use line_kind::{LineKind, lines};
 pub use numbers::number;
 pub use signs::signed;

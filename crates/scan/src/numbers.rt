@@ -8,6 +8,7 @@ ghost use Rattle.scan.specs.Refusals.{IsPlaced, number_fault};
 use crate::fault::{Fault, Kinds};
 
 /// The digits that come next, behind a number. A number past the limit stays what it is.
+#[inline(always)]
 fn digits(text: &[u8], limit: u32, first: u8) -> (u64, &[u8])
     ensures value { (result.0, result.1.now) ≡ digits_after limit first text.now }
     ensures shorter { length result.1.now ≤ length text.now }
@@ -25,6 +26,7 @@ fn digits(text: &[u8], limit: u32, first: u8) -> (u64, &[u8])
 }
 
 /// Whether a digit comes next.
+#[inline(always)]
 fn has_digit(text: &[u8]) -> bool
     ensures { result ≡ begins_digit text.now }
 {
@@ -36,6 +38,7 @@ fn has_digit(text: &[u8]) -> bool
 
 /// As `number`, with the place that a fault of the number is to have.
 #[tactic(auto, unfolding(crate::specs::Numbers::number_at))]
+#[inline(always)]
 pub(crate) fn number_from<K: Copy>(
     text: &[u8],
     left: usize,
@@ -72,6 +75,7 @@ pub(crate) fn number_from<K: Copy>(
 /// The number that the text begins with, of at most `limit`, and what follows it: the longest run
 /// of digits, of which no 0 stands before another. Every fault of it is reported at its first byte, in
 /// one pass however long the run is.
+#[inline(always)]
 pub fn number<K: Copy>(text: &[u8], limit: u32, kinds: Kinds<K>) -> Result<(u32, &[u8]), Fault<K>>
     ensures value { Gives (λ x. (x.0, x.1.now)) result (number_at limit text.now) }
     ensures within { IfOk result (λ x. x.0 ≤ limit) }

@@ -11,6 +11,7 @@ use crate::fault::{Fault, Kinds};
 use crate::numbers::{number, number_from};
 
 /// What follows a minus. A fault of the number is reported at the minus, where the number begins.
+#[inline(always)]
 fn negative<K: Copy>(
     text: &[u8],
     left: usize,
@@ -33,6 +34,7 @@ fn negative<K: Copy>(
 }
 
 /// A number without a minus.
+#[inline(always)]
 fn positive<K: Copy>(
     text: &[u8],
     limit: u32,
@@ -55,6 +57,7 @@ fn positive<K: Copy>(
 /// A number other than 0 of at most `limit` on either side, which a space follows, or none for the
 /// 0 that ends a list, which `end` follows; and what follows that (LRAT, 2017). A digit from 1 to 9
 /// has to follow a minus, and every fault of such a number is reported at its minus.
+#[inline(always)]
 pub fn signed<K: Copy>(
     text: &[u8],
     limit: u32,

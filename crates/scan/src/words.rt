@@ -12,6 +12,7 @@ use crate::numbers::number;
 
 /// A number of at most `limit`, and what follows the byte `end` behind it.
 #[tactic(auto, unfolding(crate::specs::Words::field_at))]
+#[inline(always)]
 pub fn field<K: Copy>(
     text: &[u8],
     limit: u32,
@@ -30,6 +31,7 @@ pub fn field<K: Copy>(
 
 /// A number of at most `limit`, which of the two bytes ends it, and what follows that.
 #[tactic(auto, unfolding(crate::specs::Words::word_at))]
+#[inline]
 pub fn word<K: Copy>(
     text: &[u8],
     limit: u32,

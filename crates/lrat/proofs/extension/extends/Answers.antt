@@ -2,7 +2,7 @@ use Rattle.std.proofs.Common.{◌≡◌, ◌∙◌, [], ap, subst, sym}
 use Rattle.std.proofs.lemmas.List.{take_all}
 use Rattle.std.specs.FinMap as fin
 use Rattle.lrat.specs.Courses.{Course, at_units}
-use Rattle.lrat.specs.Lemmas.{Extends, IsNoLemma, IsRefusedExtension, base_at}
+use Rattle.lrat.specs.Lemmas.{AddsEmpty, Extends, IsNoLemma, IsRefusedExtension, base_at}
 use Rattle.lrat.specs.Literals.{Satisfies}
 use Rattle.lrat.specs.Proofs.{first_stage}
 use Rattle.lrat.specs.Stages.{Goes}
@@ -17,8 +17,8 @@ loop-i-preserved c =
       base = c.in-Ok-lemma.ensures.base ∙ i.base;
       open_ = c.in-Ok-lemma.ensures.ok.1;
       extends = extends_next _ _ _ _ _ _ _ _ c.loop-i-test.true i.extends c.index-lines-i.is
-          (subst (λ k. Goes k c.loop-i.refuter.stage c.index-lines-i.result c.lemma.new.self.stage) n c.in-Ok-lemma.ensures.ok.2)
-          c.in-Ok-lemma.ensures.not_empty;
+          (subst (λ k. Goes k c.loop-i.refuter.stage c.index-lines-i.result c.lemma.new.self.stage) n (subst (λ l. Goes c.loop-i.refuter.base.vars c.loop-i.refuter.stage l c.lemma.new.self.stage) c.as_ref.ensures c.in-Ok-lemma.ensures.ok.2))
+          (subst (λ l. AddsEmpty l → ⊥) c.as_ref.ensures c.in-Ok-lemma.ensures.not_empty);
     }
 
 pub returns-in-Err-lemma-clause-refused : goal.returns-in-Err-lemma-clause-refused
@@ -28,7 +28,7 @@ returns-in-Err-lemma-clause-refused c =
     let a = c.at-in-Err-lemma.ensures in
     subst (λ ls. IsRefusedExtension c.args.formula.now ls c.at-in-Err-lemma.result) c.lines-lines.ensures.lines
     (no_lemma_at c.args.formula.now c.lines-lines.result.now c.loop-i.i c.loop-i.refuter.stage c.index-lines-i.result c.in-Err-lemma.fault _ c.loop-i-test.true i.extends c.index-lines-i.is
-    (subst (λ k. IsNoLemma k c.loop-i.refuter.stage c.index-lines-i.result c.in-Err-lemma.fault) n (c.in-Err-lemma.ensures.refused i.open_)) a.fault a.line a.memory)
+    (subst (λ k. IsNoLemma k c.loop-i.refuter.stage c.index-lines-i.result c.in-Err-lemma.fault) n (subst (λ l. IsNoLemma c.loop-i.refuter.base.vars c.loop-i.refuter.stage l c.in-Err-lemma.fault) c.as_ref.ensures (c.in-Err-lemma.ensures.refused i.open_))) a.fault a.line a.memory)
 
 pub returns-in-Err-lemma-clause-complete : goal.returns-in-Err-lemma-clause-complete
 returns-in-Err-lemma-clause-complete c ne t whole = refused_extension_not _ _ _ (returns-in-Err-lemma-clause-refused c) ne t whole

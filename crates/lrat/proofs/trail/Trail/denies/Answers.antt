@@ -1,18 +1,14 @@
-use Rattle.std.proofs.Common.{rules, w32, SFits}
+use Rattle.std.proofs.Common.{rules, refl, unsigned_abs, w32, SFits}
+use Rattle.lrat.specs.Marks.{Says}
 use Rattle.lrat.proofs.Fit.{read32}
-use Rattle.lrat.proofs.Marked.{denies_positive, denies_negative, read_mark}
+use Rattle.lrat.proofs.Marked.{denied_mark, read_mark, tested}
 use Rattle.lrat.proofs.trail.Trail.denies.Goals as goal
 
-pub returns-in-Positive : goal.returns-in-Positive
-returns-in-Positive c =
+pub returns : goal.returns
+returns c =
     let f : SFits w32 c.args.literal = search rules in
     let at = rw (read32 c.args.literal f) at c.unsigned_abs.ensures.value in
+    let wanted = rw (read32 c.args.literal f) at c.mark_against.ensures in
     let lit = rw (← c.self.view_is) at c.requires in
-    rw (read32 c.args.literal f, ← c.self.view_is) (denies_positive _ _ c.requires.0 (read_mark _ _ _ _ _ _ _ c.self.invariant lit at c.index.ensures c.in-Positive.is))
-
-pub returns-in-Negative : goal.returns-in-Negative
-returns-in-Negative c =
-    let f : SFits w32 c.args.literal = search rules in
-    let at = rw (read32 c.args.literal f) at c.unsigned_abs.ensures.value in
-    let lit = rw (← c.self.view_is) at c.requires in
-    rw (read32 c.args.literal f, ← c.self.view_is) (denies_negative _ _ c.requires.0 (read_mark _ _ _ _ _ _ _ c.self.invariant lit at c.index.ensures c.in-Negative.is))
+    let says : Says c.self.inside.literals.items (unsigned_abs c.args.literal) c.index.result.now = read_mark _ _ _ _ _ _ _ c.self.invariant lit at c.index.ensures refl in
+    rw (← c.self.view_is) (tested _ _ _ _ c.eq.ensures wanted (denied_mark _ _ _ c.requires.0 says))

@@ -2,7 +2,7 @@ use Rattle.std.proofs.Common.{◌≡◌, ◌<◌, ◌≤◌, suc, length, Some, 
 use Rattle.std.proofs.lemmas.Result.{err_from_is_err_and}
 use Rattle.scan.specs.Lists.{items_at}
 use Rattle.scan.proofs.Loops.{until_more, until_stops, until_fails, until_over}
-use Rattle.scan.proofs.item_kind.items.Goals as goal
+use Rattle.scan.proofs.item_kind.items_into.Goals as goal
 
 pub returns-in_err-item : goal.returns-in_err-item
 returns-in_err-item g c =
