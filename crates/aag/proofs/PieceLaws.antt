@@ -14,8 +14,7 @@ use Rattle.base.proofs.Putting.{begins_more, puts_err}
 use Rattle.aag.specs.Tail.{letter_of, symbol_line}
 use Rattle.graph.specs.declared.parts.Parts.{Parts}
 use Rattle.graph.specs.WellFormed.{justice_literals}
-use Rattle.aag.specs.Ascii.{file_of}
-use Rattle.aag.specs.Writing.{circuit_text, comment_lines, gate_line, header_line, latch_line, literal_line, size_line, trimmed, use_lines, written_text}
+use Rattle.aag.specs.Writing.{circuit_text, comment_lines, gate_line, header_line, latch_line, literal_line, size_line, trimmed, use_lines}
 
 -- the first call failed
 pub first_fails : {X E : Type 0} (r : Result X E) (a b : Option (List ℕ)) (s t : List ℕ) → IsErr r → PutsBeginning a b s → Puts r a b (s ++ t)
@@ -99,5 +98,5 @@ circuit_is m =
     regroup_circuit (header_line (codes "aag ") m) (flat_map literal_line m.inputs) (flat_map latch_line m.latches) (flat_map literal_line m.outputs) (flat_map literal_line m.bad) (flat_map literal_line m.constraints)
     (flat_map size_line m.justice) (flat_map literal_line (justice_literals m.justice)) (flat_map literal_line m.fairness) (flat_map gate_line m.gates)
 
-pub file_is : (m : Parts) (symbols : List Symbol) (comment : Option (List ℕ)) → circuit_text m ++ (flat_map symbol_line symbols ++ comment_lines comment) ≡ written_text (file_of m symbols comment)
-file_is m symbols comment = sym (append_assoc (circuit_text m) (flat_map symbol_line symbols) (comment_lines comment))
+pub file_is : (text : List ℕ) (symbols : List Symbol) (comment : Option (List ℕ)) → text ++ (flat_map symbol_line symbols ++ comment_lines comment) ≡ text ++ flat_map symbol_line symbols ++ comment_lines comment
+file_is text symbols comment = sym (append_assoc text (flat_map symbol_line symbols) (comment_lines comment))

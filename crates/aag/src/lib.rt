@@ -8,7 +8,7 @@
 //!   a whole text and a file. `read` answers `Ok` exactly on the texts that spell one, with that
 //!   file; only running out of memory can keep it from one.
 //! - A text that spells none is refused at its first fault, by the byte. A fault of a number is
-//!   told before what follows it. What no single line shows, as a cycle of gates, is told after
+//!   told before what follows it. What no single line shows, as a cycle of gates, is reported after
 //!   the last byte.
 //!
 //! One pass, and no memory beside the lists that are built: a list grows line by line, whatever
@@ -37,12 +37,10 @@ mod uses;
 mod writing;
 
 pub use aag_write_error::AagWriteError;
-pub use comments::comment;
 pub use header::{Header, read_header};
 pub use lines::{LiteralLine, next, reset};
-pub use pieces::{Piece, SymbolLine, put_each, put_number};
-pub use reading::{LONGEST, read};
+pub use pieces::{Piece, put_each, put_number};
+pub use reading::{LONGEST, read, with_tail};
 pub use refusal::{LayoutRefusal, Refusal, told};
-pub use symbol::symbols;
 pub use uses::{Uses, read_uses};
-pub use writing::{put_comment, put_header, put_uses, write};
+pub use writing::{put_file, put_header, put_uses, write};

@@ -5,7 +5,7 @@ ghost use Rattle.graph.specs.declared.error.ReadError.TheVariants.{TooLong};
 ghost use Rattle.graph.specs.File.{File};
 ghost use Rattle.graph.specs.Refusals.{number_of};
 ghost use Rattle.graph.specs.Symbols.{symbol_counts, AreSymbols};
-ghost use Rattle.aag.specs.Whole.{GivesOnly, text_at};
+ghost use Rattle.aag.specs.Whole.{GivesOnly, file_at, text_at};
 ghost use Rattle.aag.specs.Refusals.{refusal_numbers};
 ghost use Rattle.aag.specs.Ascii.{SpellsAscii, IsRead, file_of};
 
@@ -21,9 +21,24 @@ use std::alloc::Global;
 /// How many bytes a text may have, in either layout.
 pub const LONGEST: usize = 67_108_864;
 
-/// The parts, the symbols and the comment that a text spells. The symbols are those of the parts,
+/// The parts, with the symbols and the comment that follow them. The symbols are those of the parts,
 /// of which nothing else is asked yet.
-#[tactic(auto, unfolding(crate::specs::Whole::text_at))]
+#[tactic(auto, unfolding(crate::specs::Whole::file_at))]
+pub fn with_tail<L: Copy>(
+    alloc: Global,
+    parts: Parts,
+    text: &[u8],
+) -> Result<(Parts, Symbols, Option<Seq<u8>>), Fault<Refusal<L>>>
+    ensures value { GivesOnly (λ f. AreSymbols (symbol_counts f.model) f.symbols) (λ x. file_of x.0 x.1.symbols x.2) result (file_at parts text.now) }
+    ensures counts { IfOk result (λ x. x.1.counts ≡ symbol_counts x.0) }
+{
+    let (symbols, rest) = symbols::<L>(alloc, &parts, text)?;
+    let comment = comment(alloc, rest)?;
+    Ok((parts, symbols, comment))
+}
+
+/// The parts, the symbols and the comment that a text spells.
+#[tactic(auto, unfolding(crate::specs::Whole::text_at, crate::specs::Whole::file_at))]
 fn parse(
     alloc: Global,
     text: &[u8],
@@ -32,9 +47,7 @@ fn parse(
     ensures counts { IfOk result (λ x. x.1.counts ≡ symbol_counts x.0) }
 {
     let (parts, rest) = circuit(alloc, text)?;
-    let (symbols, rest) = symbols::<NotDefining>(alloc, &parts, rest)?;
-    let comment = comment(alloc, rest)?;
-    Ok((parts, symbols, comment))
+    with_tail::<NotDefining>(alloc, parts, rest)
 }
 
 /// The file that a text spells (AIGER 1.9, the ASCII layout), read in one pass. A text that spells

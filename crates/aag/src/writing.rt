@@ -3,12 +3,13 @@
 ghost use Rattle.std.specs.Prelude.{◌≡◌, ◌^◌, ◌<◌, ◌≤◌, ◌-◌, ◌++◌, length, flat_map, option_map, OnOk, OnErr};
 ghost use Rattle.std.specs.Io.KnownBytes.{Appends};
 ghost use Rattle.base.specs.Devices.{CountsFailure, Puts, PutsBeginning};
-ghost use Rattle.aag.specs.Ascii.{SpellsAscii, file_of};
+ghost use Rattle.aag.specs.Ascii.{SpellsAscii};
+ghost use Rattle.aag.specs.Tail.{symbol_line};
 ghost use Rattle.aag.specs.Writing.{circuit_text, comment_lines, header_line, trimmed, use_lines, written_text};
 
 use crate::aag_write_error::AagWriteError;
 use crate::lines::{GateLine, LatchLine, LiteralLine};
-use crate::pieces::{Count, JusticeLines, SizeLine, SymbolLine, put_each, put_number};
+use crate::pieces::{Count, JusticeLines, Piece, SizeLine, SymbolLine, put_each, put_number};
 use graph::{AigerFile, Failed, Parts, Sink, Symbol, put_all};
 
 /// The counts up to the last that is not 0.
@@ -79,8 +80,21 @@ fn put_circuit<W: Sink>(out: &mut W, parts: &Parts) -> Result<(), Failed>
     put_each::<GateLine, W>(out, parts.gates.as_slice())
 }
 
+/// The header and the lines of a circuit.
+struct Circuit;
+
+impl Piece for Circuit {
+    type Item = Parts;
+
+    ghost text = { circuit_text };
+
+    fn put<W: Sink>(out: &mut W, item: &Parts) -> Result<(), Failed> {
+        put_circuit(out, item)
+    }
+}
+
 /// Puts the comment, where there is one: a `c`, a line end and its bytes.
-pub fn put_comment<W: Sink>(out: &mut W, comment: Option<&[u8]>) -> Result<(), Failed>
+fn put_comment<W: Sink>(out: &mut W, comment: Option<&[u8]>) -> Result<(), Failed>
     requires { W.failed out.old < 2 ^ 64 - 1 }
     ensures puts { Puts result (W.contents out.old) (W.contents out.new) (comment_lines (option_map (λ bytes. bytes.now) comment.entry)) }
     ensures counts { CountsFailure (W.failed out.old) (W.failed out.new) result }
@@ -92,18 +106,18 @@ pub fn put_comment<W: Sink>(out: &mut W, comment: Option<&[u8]>) -> Result<(), F
     put_all(out, bytes)
 }
 
-/// Puts a file that is made of these parts, these symbols and this comment.
-fn put_file<W: Sink>(
+/// Puts a file that is made of these parts, these symbols and this comment, with the parts as the layout `C` has them.
+pub fn put_file<C: Piece<Item = Parts>, W: Sink>(
     out: &mut W,
     parts: &Parts,
     symbols: &[Symbol],
     comment: Option<&[u8]>,
 ) -> Result<(), Failed>
     requires { W.failed out.old < 2 ^ 64 - 1 }
-    ensures puts { Puts result (W.contents out.old) (W.contents out.new) (written_text (file_of parts.now symbols.now (option_map (λ bytes. bytes.now) comment.entry))) }
+    ensures puts { Puts result (W.contents out.old) (W.contents out.new) (C.text parts.now ++ flat_map symbol_line symbols.now ++ comment_lines (option_map (λ bytes. bytes.now) comment.entry)) }
     ensures counts { CountsFailure (W.failed out.old) (W.failed out.new) result }
 {
-    put_circuit(out, parts)?;
+    C::put(out, parts)?;
     put_each::<SymbolLine, W>(out, symbols)?;
     put_comment(out, comment)
 }
@@ -123,6 +137,6 @@ pub fn write<W: Sink>(file: &AigerFile, out: &mut W) -> Result<(), AagWriteError
 {
     let parts = file.model().parts();
     let symbols = file.symbols();
-    put_file(out, parts, symbols, file.comment())?;
+    put_file::<Circuit, W>(out, parts, symbols, file.comment())?;
     Ok(())
 }

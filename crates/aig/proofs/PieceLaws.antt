@@ -1,5 +1,5 @@
 -- Texts that several calls put, one after another.
-use Rattle.std.proofs.Common.{◌≡◌, ◌≢◌, ℕ, zero, suc, ◌+◌, ◌*◌, ◌/◌, ◌%◌, ◌≤◌, ◌<◌, ltb, List, [], ◌∷◌, ◌++◌, Option, refl, sym, ap, arith, append_assoc, inl, inr}
+use Rattle.std.proofs.Common.{◌≡◌, ◌≢◌, ℕ, zero, suc, ◌+◌, ◌*◌, ◌/◌, ◌%◌, ◌≤◌, ◌<◌, ltb, List, [], ◌∷◌, ◌++◌, Option, refl, sym, ap, ◌∙◌, arith, append_assoc, inl, inr}
 use Rattle.std.specs.Prelude.{flat_map, codes}
 use Rattle.std.proofs.lemmas.Bool.{cases_Bool, ne_eqb, lt-ltb, le-ltb, ltb-true, ltb-false}
 use Rattle.graph.specs.declared.circuit.Latch.{Latch}
@@ -34,6 +34,22 @@ delta_last n small = rw (lt-ltb n 128 small) refl
 pub delta_more : (n : ℕ) → 128 ≤ n → n < 4294967296 → ((128 + n % 128) ∷ []) ++ delta_text (n / 128) ≡ delta_text n
 unfolding groups_text top
 delta_more n big small = rw (le-ltb n 128 big) (ap (λ (w : List ℕ). (128 + n % 128) ∷ w) (sym (same_groups 3 (n / 128) (omega (arith, small)))))
+
+-- a number of two, three, four and five groups
+pub delta_two : (n : ℕ) → 128 ≤ n → n / 128 < 128 → (128 + n % 128) ∷ n / 128 ∷ [] ≡ delta_text n
+delta_two n big small = ap (λ (w : List ℕ). (128 + n % 128) ∷ w) (delta_last (n / 128) small) ∙ delta_more n big (omega (arith, small))
+
+pub delta_three : (n : ℕ) → 128 ≤ n → 128 ≤ n / 128 → n / 128 / 128 < 128 → (128 + n % 128) ∷ (128 + n / 128 % 128) ∷ n / 128 / 128 ∷ [] ≡ delta_text n
+delta_three n big more small = ap (λ (w : List ℕ). (128 + n % 128) ∷ w) (delta_two (n / 128) more small) ∙ delta_more n big (omega (arith, small))
+
+pub delta_four : (n : ℕ) → 128 ≤ n → 128 ≤ n / 128 → 128 ≤ n / 128 / 128 → n / 128 / 128 / 128 < 128
+    → (128 + n % 128) ∷ (128 + n / 128 % 128) ∷ (128 + n / 128 / 128 % 128) ∷ n / 128 / 128 / 128 ∷ [] ≡ delta_text n
+delta_four n big more most small = ap (λ (w : List ℕ). (128 + n % 128) ∷ w) (delta_three (n / 128) more most small) ∙ delta_more n big (omega (arith, small))
+
+pub delta_five : (n : ℕ) → n < 4294967296 → 128 ≤ n → 128 ≤ n / 128 → 128 ≤ n / 128 / 128 → 128 ≤ n / 128 / 128 / 128
+    → (128 + n % 128) ∷ (128 + n / 128 % 128) ∷ (128 + n / 128 / 128 % 128) ∷ (128 + n / 128 / 128 / 128 % 128) ∷ n / 128 / 128 / 128 / 128 ∷ [] ≡ delta_text n
+delta_five n small big more most last =
+    ap (λ (w : List ℕ). (128 + n % 128) ∷ w) (delta_four (n / 128) more most last (omega (arith, small))) ∙ delta_more n big small
 
 delta_cons : (c n : ℕ) (t : List ℕ) → 128 ≤ n → c ≡ 128 + n % 128 → IsDelta t (n / 128) → IsDelta (c ∷ t) n
 delta_cons c n [] big is others = absurd others

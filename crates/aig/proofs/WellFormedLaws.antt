@@ -1,8 +1,5 @@
 -- What is spelled in order is well formed.
-use Rattle.std.proofs.Common.{◌≡◌, ℕ, zero, suc, ◌-◌, ◌+◌, ◌%◌, ◌≤◌, ◌<◌, eqb, List, [], ◌∷◌, ◌++◌, length, map, get_or, replicate, All, Contains, ap, ◌∙◌, arith, inl, inr}
-use Rattle.std.specs.Prelude.{◌⊎◌}
-use Rattle.std.proofs.lemmas.Bool.{cases_Bool, eqb-true, eqb-false}
-use Rattle.std.proofs.lemmas.List.{get_or-map, length-map}
+use Rattle.std.proofs.Common.{◌≡◌, ℕ, zero, suc, ◌-◌, ◌%◌, ◌≤◌, List, [], ◌∷◌, ◌++◌, length, map, get_or, replicate, All, arith}
 use Rattle.std.proofs.lemmas.List.Elements.{All-nil, All-cons, All-append, All-map, recursion_from_All}
 use Rattle.scan.specs.Counts.{IsCounts}
 use Rattle.scan.specs.Lists.{Each}
@@ -10,12 +7,11 @@ use Rattle.graph.specs.declared.circuit.Lit.{Lit}
 use Rattle.graph.specs.declared.circuit.Latch.{Latch}
 use Rattle.graph.specs.declared.circuit.Gate.{Gate}
 use Rattle.graph.specs.declared.parts.Parts.{Parts}
-use Rattle.graph.specs.Valuation.{variable, defined}
-use Rattle.graph.specs.WellFormed.{defining, used, justice_literals, HasReset, Needs, IsChain, IsDescending, IsOrdered, IsInLimits, IsWellFormed}
-use Rattle.graph.proofs.Blank.{blank_lit}
+use Rattle.graph.specs.WellFormed.{defining, used, justice_literals, HasReset, IsDescending, IsOrdered, IsInLimits, IsWellFormed}
+use Rattle.graph.proofs.Ordered.{defined_once, is_defined, no_cycle_below}
 use Rattle.aag.specs.Lines.{greatest}
 use Rattle.aag.specs.Spelling.{IsLiteral, IsLiteralLine, counts_of}
-use Rattle.aag.proofs.WritingLaws.{all_right, all_of_map, defined_is}
+use Rattle.aag.proofs.WritingLaws.{all_right, all_of_map}
 use Rattle.aig.specs.Binary.{IsLatchLine, SpellsOrdered}
 
 -- ---- limits
@@ -86,41 +82,6 @@ used_within t c s =
     let u6 = All-append P (nexts ++ c.outputs ++ c.bad ++ c.constraints ++ justice_literals c.justice ++ c.fairness) rights0 u5 r0 in
     All-append P (nexts ++ c.outputs ++ c.bad ++ c.constraints ++ justice_literals c.justice ++ c.fairness ++ rights0) rights1 u6 r1
 
--- ---- definitions
-
-defined_at : (c : Parts) → IsOrdered c → (k e : ℕ) → k < length (defining c) → get_or (defined c) k e ≡ 1 + k
-defined_at c o k e lt =
-    let value : variable (get_or (defining c) k blank_lit) ≡ 1 + k = omega (arith, o.numbered k blank_lit lt) in
-    ap (λ (xs : List ℕ). get_or xs k e) (defined_is c) ∙ get_or-map variable (defining c) k blank_lit e lt ∙ value
-
-defined_long : (c : Parts) → length (defined c) ≡ length (defining c)
-defined_long c = ap length (defined_is c) ∙ length-map (defining c) variable
-
-is_defined : (c : Parts) → IsOrdered c → (a : Lit) → IsLiteral c.max_var a → (variable a ≡ 0) ⊎ Contains (defined c) (variable a)
-is_defined c o a within = elim (cases_Bool (eqb (variable a) 0)) [
-  | inl z ↦ inl (eqb-true (variable a) 0 z)
-  | inr n ↦
-      let some = eqb-false (variable a) 0 n in
-      let k : ℕ = variable a - 1 in
-      let next : 1 + k ≡ variable a = omega (arith, some) in
-      let lt : k < length (defining c) = omega (arith, within, o.all_defined, some) in
-      inr (k, omega (arith, lt, defined_long c), defined_at c o k (variable a) lt ∙ next)
-]
-
--- ---- cycles
-
-is_below : (g : Gate) (u v : ℕ) → IsDescending g → g.lhs.0 % 2 ≡ 0 → variable g.lhs ≡ u → (variable g.rhs0 ≡ v) ⊎ (variable g.rhs1 ≡ v) → v < u
-is_below g u v (below, within) even left (inl right) = omega (arith, below, within, even, left, right)
-is_below g u v (below, within) even left (inr right) = omega (arith, below, within, even, left, right)
-
-needs_below : (gates : List Gate) (u v : ℕ) → All IsDescending gates → All (λ g. g.lhs.0 % 2 ≡ 0) gates → Needs gates u v → v < u
-needs_below gates u v descend even (k, g, lt, is, (left, right)) = is_below g u v (rw is at (descend k g lt)) (rw is at (even k g lt)) left right
-
-chain_below : (gates : List Gate) (u w : ℕ) (vs : List ℕ) → All IsDescending gates → All (λ g. g.lhs.0 % 2 ≡ 0) gates → IsChain gates (u ∷ vs ++ w ∷ []) → w < u
-chain_below gates u w [] descend even (needs, end) = needs_below gates u w descend even needs
-chain_below gates u w (v ∷ vs) descend even (needs, others) =
-    omega (arith, needs_below gates u v descend even needs, chain_below gates v w vs descend even others)
-
 -- ---- the whole
 
 pub well_formed_of : (t : List ℕ) (c : Parts) → SpellsOrdered t c → IsWellFormed c
@@ -135,8 +96,7 @@ well_formed_of t c s =
       defining_in_range = defining_within c o;
       used_in_range = within;
       resets = all_resets c.max_var s.latches c.latches s.each_latch;
-      defined_once = λ i j e lt below same.
-          omega (arith, lt, same, defined_at c o i e (omega (arith, lt, below, defined_long c)), defined_at c o j e (omega (arith, below, defined_long c)));
+      defined_once = defined_once c o;
       used_defined = λ k d lt. is_defined c o (get_or (used c) k d) (within k d lt);
-      no_cycle = λ v leads. omega (arith, chain_below c.gates v v leads.0 o.descending lefts leads.1);
+      no_cycle = no_cycle_below c.gates o.descending lefts;
     }

@@ -1,4 +1,4 @@
--- What is told of a text that is refused.
+-- What is reported of a text that is refused.
 use Rattle.std.specs.Prelude.{ℕ, List, [], ◌∷◌}
 
 -- the numbers of the refusals of a text

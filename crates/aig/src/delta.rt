@@ -30,6 +30,7 @@ fn group(byte: u8) -> u32
 
 /// The number that comes next, in at most four groups of seven bits, and what follows it.
 #[tactic(auto, unfolding(crate::specs::Lines::groups_at))]
+#[inline(always)]
 fn groups(text: &[u8]) -> Result<(u32, &[u8]), Fault<Refusal<NoDelta>>>
     ensures { Gives (λ x. (x.0, x.1.now)) result (groups_at 4 text.now) }
 {
@@ -65,6 +66,7 @@ fn groups(text: &[u8]) -> Result<(u32, &[u8]), Fault<Refusal<NoDelta>>>
 
 /// The difference that comes next, from `least` to `most`, and what follows it.
 #[tactic(auto, unfolding(crate::specs::Lines::delta_at))]
+#[inline(always)]
 pub fn delta(text: &[u8], least: u32, most: u32) -> Result<(u32, &[u8]), Fault<Refusal<NoDelta>>>
     ensures value { Gives (λ x. (x.0, x.1.now)) result (delta_at least most text.now) }
     ensures within { IfOk result (λ x. x.0 ≤ most) }

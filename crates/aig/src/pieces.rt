@@ -9,18 +9,32 @@ use crate::lines::{GateDeltas, LatchLine};
 use aag::{Piece, put_number};
 use graph::{Failed, Gate, Latch, Sink, put_all};
 
-/// Puts a number in groups of seven bits, the lowest first.
+/// Puts a number in groups of seven bits, the lowest first, all of them at once.
 fn put_delta<W: Sink>(out: &mut W, number: u32) -> Result<(), Failed>
     requires { W.failed out.old < 2 ^ 64 - 1 }
     ensures puts { Puts result (W.contents out.old) (W.contents out.new) (delta_text number) }
     ensures counts { CountsFailure (W.failed out.old) (W.failed out.new) result }
 {
-    let mut rest = number;
-    while rest >= 128 {
-        put_all(out, &[128 + (rest % 128) as u8])?;
-        rest /= 128;
+    if number < 128 {
+        return put_all(out, &[number as u8]);
     }
-    put_all(out, &[rest as u8])
+    let first = 128 + (number % 128) as u8;
+    let rest = number / 128;
+    if rest < 128 {
+        return put_all(out, &[first, rest as u8]);
+    }
+    let second = 128 + (rest % 128) as u8;
+    let rest = rest / 128;
+    if rest < 128 {
+        return put_all(out, &[first, second, rest as u8]);
+    }
+    let third = 128 + (rest % 128) as u8;
+    let rest = rest / 128;
+    if rest < 128 {
+        return put_all(out, &[first, second, third, rest as u8]);
+    }
+    let fourth = 128 + (rest % 128) as u8;
+    put_all(out, &[first, second, third, fourth, (rest / 128) as u8])
 }
 
 impl Piece for LatchLine {

@@ -13,14 +13,13 @@ ghost use Rattle.aig.specs.Whole.{text_at};
 
 use crate::circuit::circuit;
 use crate::delta::NoDelta;
-use aag::{LONGEST, Refusal, comment, symbols, told};
+use aag::{LONGEST, Refusal, told, with_tail};
 use graph::{AigerFile, Model, Parts, ReadError, Seq, Symbols};
 use scan::Fault;
 use std::alloc::Global;
 
-/// The parts, the symbols and the comment that a text spells. The symbols are those of the parts,
-/// of which nothing else is asked yet.
-#[tactic(auto, unfolding(crate::specs::Whole::text_at))]
+/// The parts, the symbols and the comment that a text spells.
+#[tactic(auto, unfolding(crate::specs::Whole::text_at, aag::specs::Whole::file_at))]
 fn parse(
     alloc: Global,
     text: &[u8],
@@ -29,9 +28,7 @@ fn parse(
     ensures counts { IfOk result (λ x. x.1.counts ≡ symbol_counts x.0) }
 {
     let (parts, rest) = circuit(alloc, text)?;
-    let (symbols, rest) = symbols::<NoDelta>(alloc, &parts, rest)?;
-    let comment = comment(alloc, rest)?;
-    Ok((parts, symbols, comment))
+    with_tail::<NoDelta>(alloc, parts, rest)
 }
 
 /// The file that a text spells (AIGER 1.9, the binary layout), read in one pass. A text that spells

@@ -1,18 +1,17 @@
 //! Writing the text of a file.
 
-ghost use Rattle.std.specs.Prelude.{◌≡◌, ◌≢◌, ◌^◌, ◌<◌, ◌≤◌, ◌-◌, ◌↔◌, length, option_map, Err, OnOk, OnErr};
+ghost use Rattle.std.specs.Prelude.{◌≡◌, ◌≢◌, ◌^◌, ◌<◌, ◌≤◌, ◌-◌, ◌↔◌, length, Err, OnOk, OnErr};
 ghost use Rattle.std.specs.Io.KnownBytes.{Appends};
 ghost use Rattle.base.specs.Devices.{CountsFailure, Puts, PutsBeginning};
 ghost use Rattle.graph.specs.WellFormed.{IsOrdered};
-ghost use Rattle.aag.specs.Ascii.{file_of};
 ghost use Rattle.aig.specs.declared.aig_write_error.AigWriteError.TheVariants.{Unordered};
 ghost use Rattle.aig.specs.Binary.{SpellsBinary};
 ghost use Rattle.aig.specs.Writing.{circuit_text, written_text};
 
 use crate::aig_write_error::AigWriteError;
 use crate::lines::{GateDeltas, LatchLine};
-use aag::{SymbolLine, put_comment, put_each, put_header, put_uses};
-use graph::{AigerFile, Failed, Parts, Sink, Symbol};
+use aag::{Piece, put_each, put_file, put_header, put_uses};
+use graph::{AigerFile, Failed, Parts, Sink};
 
 /// Puts the header, the lines and the gates of a circuit.
 fn put_circuit<W: Sink>(out: &mut W, parts: &Parts) -> Result<(), Failed>
@@ -26,20 +25,17 @@ fn put_circuit<W: Sink>(out: &mut W, parts: &Parts) -> Result<(), Failed>
     put_each::<GateDeltas, W>(out, parts.gates.as_slice())
 }
 
-/// Puts a file that is made of these parts, these symbols and this comment.
-fn put_file<W: Sink>(
-    out: &mut W,
-    parts: &Parts,
-    symbols: &[Symbol],
-    comment: Option<&[u8]>,
-) -> Result<(), Failed>
-    requires { W.failed out.old < 2 ^ 64 - 1 }
-    ensures puts { Puts result (W.contents out.old) (W.contents out.new) (written_text (file_of parts.now symbols.now (option_map (λ bytes. bytes.now) comment.entry))) }
-    ensures counts { CountsFailure (W.failed out.old) (W.failed out.new) result }
-{
-    put_circuit(out, parts)?;
-    put_each::<SymbolLine, W>(out, symbols)?;
-    put_comment(out, comment)
+/// The header, the lines and the gates of a circuit.
+struct Circuit;
+
+impl Piece for Circuit {
+    type Item = Parts;
+
+    ghost text = { circuit_text };
+
+    fn put<W: Sink>(out: &mut W, item: &Parts) -> Result<(), Failed> {
+        put_circuit(out, item)
+    }
 }
 
 /// Writes the shortest text that spells a file (AIGER 1.9, the binary layout): no count behind the
@@ -61,6 +57,6 @@ pub fn write<W: Sink>(file: &AigerFile, out: &mut W) -> Result<(), AigWriteError
     if !file.model().is_ordered() {
         return Err(AigWriteError::Unordered);
     }
-    put_file(out, file.model().parts(), file.symbols(), file.comment())?;
+    put_file::<Circuit, W>(out, file.model().parts(), file.symbols(), file.comment())?;
     Ok(())
 }

@@ -10,7 +10,7 @@ use thiserror::Error;
 /// Why a source gives no circuit.
 #[derive(Clone, Copy, Debug, PartialEq, Eq, Error)]
 pub enum LoadError {
-    /// its bytes spell none, or memory is wanting
+    /// its bytes spell none, or memory is refused
     #[error("{0}")]
     Refused(ReadError),
     /// the source failed

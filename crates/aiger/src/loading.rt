@@ -17,10 +17,10 @@ const LONGEST: usize = 67_108_864;
 /// else ASCII. Of a text that is longer than a circuit's may be, no more is read than shows it.
 pub fn load<S: Source>(alloc: Global, source: &mut S) -> Result<AigerFile, LoadError>
     requires { S.failed source.old < 2 ^ 64 - 1 }
-    // The one file that the bytes spell; and where it is refused, they spell none, or memory was wanting. But for
+    // The one file that the bytes spell; and where it is refused, they spell none, or memory was refused. But for
     // that, it is refused as too long exactly where there are more than 67108864 bytes.
     ensures says { (xs : List ℕ) → S.remaining source.old ≡ Some xs → MatchResult result (IsFileOf xs) (IsRefusal xs) }
-    // The source failed once where it is told so, and else not.
+    // The source failed once where it is reported so, and else not.
     ensures failed { IsErrOf result Device → S.failed source.new ≡ S.failed source.old + 1 }
     ensures kept { (IsErrOf result Device → ⊥) → S.failed source.new ≡ S.failed source.old }
 {

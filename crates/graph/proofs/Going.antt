@@ -51,7 +51,7 @@ IsFirstFault-append max xs ys (OutOfMemory refused) h = h
 pub GoesOn-none : (max before : ℕ) → GoesOn max before [] (Ok before)
 GoesOn-none max before = (omega arith, λ k d k_in. absurd (omega arith))
 
--- a fault that is told stays told
+-- a fault that is reported stays reported
 pub GoesOn-fault : (max before : ℕ) (xs ys : List Use) (e : ReadError) → GoesOn max before xs (Err e) → GoesOn max before (xs ++ ys) (Err e)
 GoesOn-fault max before xs ys e h front long fine =
     subst (λ l. IsFirstFault max l e) (append_assoc front xs ys) (IsFirstFault-append max (front ++ xs) ys e (h front long fine))

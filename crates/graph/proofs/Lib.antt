@@ -12,5 +12,6 @@ pub mod Numbered
 pub mod Tabled
 pub mod Limits
 pub mod Shape
+pub mod Ordered
 pub mod Marking
 pub mod Alone

@@ -17,7 +17,7 @@ counts_of m =
     m.max_var ∷ length m.inputs ∷ length m.latches ∷ length m.outputs ∷ length m.gates ∷ length m.bad
     ∷ length m.constraints ∷ length m.justice ∷ length m.fairness ∷ sum_by length m.justice ∷ []
 
--- the fault that stands at the first literal that is not fine, after so many others
+-- the fault that stands at the first literal that is not fine, after this number of others
 abbrev pub IsFirstFault : ℕ → List Use → ReadError → Type 0
 IsFirstFault max uses (LiteralRange k) = IsFirst max uses k (IsOutOfRange max)
 IsFirstFault max uses (Defining k) = IsFirst max uses k (IsNotDefining max)
@@ -37,7 +37,7 @@ IsFirstFault max uses (Counts p) = ⊥
 IsFirstFault max uses (NoProperty n) = ⊥
 IsFirstFault max uses (OutOfMemory refused) = ⊥
 
--- after fine literals, as many as the count says, these are fine too, or the first fault is told
+-- after fine literals, as many as the count says, these are fine too, or the first fault is reported
 abbrev pub GoesOn : ℕ → ℕ → List Use → Result ℕ ReadError → Type 0
 GoesOn max before more (Ok n) = (n ≡ before + length more) × All (IsFine max) more
 GoesOn max before more (Err e) = (front : List Use) → length front ≡ before → All (IsFine max) front → IsFirstFault max (front ++ more) e

@@ -16,7 +16,7 @@ pub record IsReset (w : Valuation) (l : Latch) : Type 0 where
 abbrev pub IsInitial : Parts → Valuation → Type 0
 IsInitial m w = All (IsReset w) m.latches
 
--- the values that the latches take over
+-- the next state: the values of the next literals
 abbrev pub next_state : Parts → Valuation → List Bool
 next_state m w = map (λ l. value_of w l.next) m.latches
 

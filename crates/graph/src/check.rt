@@ -1,6 +1,7 @@
 //! The tests that parts have to pass, in their order.
 
 ghost use Rattle.std.specs.Prelude.{◌≡◌, ◌≤◌, ◌^◌, ◌-◌, IfOk, IfErr, MatchOption, All, length, sum_by, min};
+ghost use Rattle.std.specs.List.{range_with_len};
 ghost use Rattle.graph.specs.WellFormed.{IsInLimits, IsModel};
 ghost use Rattle.graph.specs.Faults.{counts_of, IsFirstOver, HasCause};
 
@@ -8,9 +9,10 @@ use crate::circuit::Lit;
 use crate::definitions::{definitions_of, first_twice, first_undefined, mentions_of};
 use crate::error::ReadError;
 use crate::literals::check_literals;
+use crate::numbering::is_ordered;
 use crate::ordering::find_order;
 use crate::parts::Parts;
-use base::Seq;
+use base::{Refused, Seq, push};
 use std::alloc::Global;
 
 /// The greatest variable, and the greatest count of anything.
@@ -63,8 +65,20 @@ fn first_over(parts: &Parts) -> Option<usize>
     None
 }
 
+/// The places of this number of gates, in the order in which they stand.
+fn places(alloc: Global, count: usize) -> Result<Vec<u32>, Refused>
+    requires { count ≤ 4194303 }
+    ensures { IfOk result (λ order. order.items ≡ range_with_len 0 count) }
+{
+    let mut order = Vec::new(alloc);
+    for place in 0..count {
+        push(&mut order, place as u32)?;
+    }
+    Ok(order)
+}
+
 /// The order in which the gates of well-formed parts can be evaluated, or the first thing that is
-/// wrong with the parts.
+/// wrong with the parts. Gates that are ordered already stay so, which takes no tables.
 pub fn check(alloc: Global, parts: &Parts) -> Result<Vec<u32>, ReadError>
     ensures found { IfOk result (λ order. IsModel parts.now order.items) }
     ensures refused { IfErr result (HasCause parts.now) }
@@ -73,6 +87,9 @@ pub fn check(alloc: Global, parts: &Parts) -> Result<Vec<u32>, ReadError>
         return Err(ReadError::Limit(position as u64));
     }
     check_literals(parts)?;
+    if is_ordered(parts) {
+        return Ok(places(alloc, parts.gates.len())?);
+    }
     let definitions = definitions_of(alloc, parts)?;
     if let Some(variable) = first_twice(&definitions) {
         return Err(ReadError::DefinedTwice(variable));

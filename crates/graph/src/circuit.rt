@@ -23,7 +23,7 @@ impl Lit {
     }
 }
 
-/// A latch takes over the value of `next` at each step. It begins with the value of `reset`: 0, 1,
+/// A latch gets the value of `next` at each step. It begins with the value of `reset`: 0, 1,
 /// or its own literal, which leaves it open.
 #[derive(Clone, Copy, Debug, PartialEq, Eq)]
 pub struct Latch {

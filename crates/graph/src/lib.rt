@@ -32,6 +32,7 @@ pub use base::{
 pub use circuit::{Gate, Latch, Lit, Property};
 pub use error::ReadError;
 pub use file::AigerFile;
+pub use fill::literal_value;
 pub use model::Model;
 pub use parts::Parts;
 pub use symbol::{Symbol, SymbolKind, Symbols, is_name};

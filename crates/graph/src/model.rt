@@ -74,6 +74,13 @@ impl Model {
         &self.parts
     }
 
+    /// That the circuit is well formed, for the proof of what calls it. It does nothing.
+    pub fn well_formed(&self)
+        ensures { IsWellFormed self.now }
+    {
+        let _ = &self.parts;
+    }
+
     /// The greatest variable.
     pub fn max_var(&self) -> u32
         ensures { result ≡ self.now.max_var }

@@ -45,11 +45,11 @@ fn push_kind(to: &mut Vec<Property>, kind: Kind, count: u32) -> Result<(), Refus
 }
 
 /// How many outputs are taken as bad literals: all or none.
-fn bad_outputs(model: &Model) -> u32
-    ensures all { AreOutputsBad model.now → result ≡ length model.now.outputs }
-    ensures some { 0 < result → AreOutputsBad model.now }
+fn bad_outputs(circuit: &Model) -> u32
+    ensures all { AreOutputsBad circuit.now → result ≡ length circuit.now.outputs }
+    ensures some { 0 < result → AreOutputsBad circuit.now }
 {
-    let parts = model.parts();
+    let parts = circuit.parts();
     if parts.are_outputs_bad() {
         parts.outputs.len() as u32
     } else {
@@ -60,15 +60,15 @@ fn bad_outputs(model: &Model) -> u32
 /// Each property of the circuit, once, in the order of the file: the bad literals and then the justice
 /// properties, each kind by position. Where the circuit has none of them, no constraint and no fairness
 /// literal, they are its outputs.
-pub fn all_properties(alloc: Global, model: &Model) -> Result<Vec<Property>, Refused>
-    ensures each { (p : AProperty) → HasProperty model.now p → IfOk result (λ v. Contains v.items p) }
-    ensures only { IfOk result (λ v. All (HasProperty model.now) v.items) }
+pub fn all_properties(alloc: Global, circuit: &Model) -> Result<Vec<Property>, Refused>
+    ensures each { (p : AProperty) → HasProperty circuit.now p → IfOk result (λ v. Contains v.items p) }
+    ensures only { IfOk result (λ v. All (HasProperty circuit.now) v.items) }
     ensures ordered { IfOk result (λ v. AllPairs ComesBefore v.items) }
 {
-    let parts = model.parts();
+    let parts = circuit.parts();
     let mut properties = Vec::new(alloc);
     push_kind(&mut properties, Kind::Bad, parts.bad.len() as u32)?;
     push_kind(&mut properties, Kind::Justice, parts.justice.len() as u32)?;
-    push_kind(&mut properties, Kind::Output, bad_outputs(model))?;
+    push_kind(&mut properties, Kind::Output, bad_outputs(circuit))?;
     Ok(properties)
 }

@@ -1,17 +1,16 @@
 -- One gate more is carried over.
-use Rattle.std.proofs.Common.{◌≡◌, ◌≢◌, ℕ, zero, suc, ◌+◌, ◌-◌, ◌*◌, ◌%◌, ◌<◌, ◌≤◌, ◌&&◌, ◌==◌, Bool, true, false, not, if◌then◌else◌, List, [], ◌∷◌, ◌++◌, map, set, length, get_or, All, AllPairs, Contains, ◌⊎◌, inl, inr, refl, sym, ◌∙◌, ap, subst, arith, length-append, get_or-set_same, get_or-set_other, length-set}
+use Rattle.std.proofs.Common.{◌≡◌, ◌≢◌, ℕ, ◌+◌, ◌-◌, ◌*◌, ◌%◌, ◌<◌, ◌≤◌, ◌&&◌, Bool, true, false, not, if◌then◌else◌, List, ◌++◌, map, set, length, get_or, All, Contains, ◌⊎◌, inl, inr, refl, sym, ◌∙◌, ap, subst, arith, length-append, get_or-set_same, get_or-set_other, length-set}
 use Rattle.std.proofs.lemmas.Bool.{cases_eq, cases_lt, eq-eqb, ne_eqb}
 use Rattle.std.proofs.lemmas.List.{get_or-map, length-map, get_or_default}
-use Rattle.std.proofs.lemmas.List.Elements.{Contains-append_cases, Contains-append_left, Contains-get_or}
+use Rattle.std.proofs.lemmas.List.Elements.{Contains-append_cases, Contains-get_or}
 use Rattle.graph.specs.declared.circuit.Lit.{Lit}
 use Rattle.graph.specs.declared.circuit.Gate.{Gate}
-use Rattle.graph.specs.declared.circuit.Latch.{Latch}
 use Rattle.graph.specs.declared.parts.Parts.{Parts}
-use Rattle.graph.specs.Valuation.{Valuation, variable, place, value_of, defined, Agrees, Fires}
-use Rattle.graph.specs.WellFormed.{IsWellFormed, IsModel, IsOrder, gate_in, Reads}
-use Rattle.graph.proofs.Evaluation.{held, once-across, rights0, rights1, lefts_even, lefts_in_range, defined_nonzero, All-left, All-right}
+use Rattle.graph.specs.Valuation.{Valuation, variable, place, value_of, defined, Fires}
+use Rattle.graph.specs.WellFormed.{IsModel, gate_in, Reads}
+use Rattle.graph.proofs.Evaluation.{held, once-across, rights0, rights1, lefts_even, lefts_in_range, All-left}
 use Rattle.graph.proofs.Gates.{left, value_of-even}
-use Rattle.shrink.specs.Hashed.{turned, image_of, renamed, IsBase, no_gate, IsCarried, BeginSame, AreCarried}
+use Rattle.shrink.specs.Hashed.{turned, image_of, renamed, IsBase, no_gate, IsCarried, AreCarried}
 use Rattle.shrink.specs.Making.{Follows, IsConjunction, Grows}
 
 -- the position of the gate at n is one

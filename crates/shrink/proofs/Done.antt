@@ -1,11 +1,11 @@
 -- The circuit that all gates were carried over to.
-use Rattle.std.proofs.Common.{◌≡◌, ◌≢◌, ℕ, zero, suc, ◌+◌, ◌-◌, ◌*◌, ◌%◌, ◌<◌, ◌≤◌, ◌⊎◌, ◌==◌, Bool, true, false, if◌then◌else◌, Option, None, Some, List, [], ◌∷◌, ◌++◌, map, length, get_or, All, AllPairs, Contains, inl, inr, refl, sym, ◌∙◌, ap, subst, arith, length-append}
+use Rattle.std.proofs.Common.{◌≡◌, ◌≢◌, ℕ, zero, suc, ◌+◌, ◌*◌, ◌%◌, ◌<◌, ◌≤◌, ◌⊎◌, Bool, false, Option, List, [], ◌∷◌, ◌++◌, map, length, get_or, All, AllPairs, Contains, inl, inr, refl, sym, ◌∙◌, ap, subst, arith, length-append}
 use Rattle.std.specs.Prelude.{fold, sum_by}
-use Rattle.std.proofs.lemmas.Bool.{cases_eq, eq-eqb, ne_eqb, lt-leb, eqb-true}
+use Rattle.std.proofs.lemmas.Bool.{cases_eq, ne_eqb, lt-leb, eqb-true}
 use Rattle.std.proofs.lemmas.Bool.Decides.{Decides-eqb}
 use Rattle.std.proofs.lemmas.Simd.{map-map}
 use Rattle.std.proofs.lemmas.List.{get_or-map, length-map, map-append, get_or_default, get_or-append-add}
-use Rattle.std.proofs.lemmas.List.Elements.{All-nil, All-cons, All-head, All-tail, All-append, All-map, All-weaker, All-contains, Contains-append_cases, Contains-append_left, Contains-append_right, Contains-get_or}
+use Rattle.std.proofs.lemmas.List.Elements.{All-cons, All-head, All-tail, All-append, All-map, All-weaker, All-contains, Contains-append_cases, Contains-append_left, Contains-append_right, Contains-get_or}
 use Rattle.std.proofs.lemmas.Map.Made.{IsDistinct-from_AllPairs}
 use Rattle.std.proofs.lemmas.Map.Steps.{length-le_from_distinct_below}
 use Rattle.std.proofs.lemmas.Map.Views.{Contains-from_any}
@@ -16,17 +16,18 @@ use Rattle.graph.specs.declared.circuit.Latch.{Latch}
 use Rattle.graph.specs.declared.parts.Parts.{Parts}
 use Rattle.graph.specs.Valuation.{Valuation, variable, place, value_of, defined, state_of, inputs_of, Agrees}
 use Rattle.graph.specs.WellFormed.{IsWellFormed, IsModel, IsOrder, IsOrdered, IsNumbered, IsInLimits, IsDescending, HasReset, defining, used, justice_literals, gate_in}
-use Rattle.graph.proofs.Evaluation.{held, once-left, Contains-map, All-left, All-right, All-unmap, used_outside, rights0, rights1, defined_nonzero, latches_even, latches_in_range}
+use Rattle.graph.proofs.Evaluation.{held, once-left, Contains-map, All-left, All-right, All-unmap, used_outside, defined_nonzero, latches_even, latches_in_range}
 use Rattle.graph.proofs.Gates.{left, value_of-even}
 use Rattle.graph.proofs.Shape.{All-flat_map, All-unflat_map}
 use Rattle.graph.specs.Symbols.{symbol_counts}
 use Rattle.shrink.specs.Making.{AreMade, Follows, IsTable, sides}
 use Rattle.shrink.specs.Hashed.{image_of, renamed, bases, AreNumbered, IsBase, IsCarried, BeginSame, AreCarried, carried_latch, carried_parts, no_gate}
 use Rattle.shrink.specs.Carriable.{IsCarriable, AreCarriable}
-use Rattle.shrink.specs.Shrunk.{AreApart, IsProper, IsShrunk, ShowsSame, start_of}
+use Rattle.shrink.specs.Shrunk.{AreApart, IsShrunk, ShowsSame, start_of}
 use Rattle.shrink.proofs.Made.{blank}
-use Rattle.shrink.proofs.Carried.{reads_carried, renamed_value, renamed_below}
-use Rattle.shrink.proofs.Ordered.{numbered_append, numbered_even, numbered_in_range, numbered_once, numbered_all, defined_is, no_cycle_below}
+use Rattle.shrink.proofs.Carried.{renamed_value, renamed_below}
+use Rattle.graph.proofs.Numbered.{IsNumbered-append}
+use Rattle.graph.proofs.Ordered.{numbered_even, numbered_in_range, numbered_once, numbered_all, defined_is, no_cycle_below}
 
 -- the first variable of a gate
 abbrev pub first_of : Parts → ℕ
@@ -88,7 +89,7 @@ pub all_numbered : (m : Parts) (order : List ℕ) (begin image : List Lit) (gs :
 all_numbered m order begin image gs done =
     let lhs : List Lit = map (λ g. g.lhs) gs in
     let here : IsNumbered 1 (map (renamed image) (bases m) ++ lhs) =
-    numbered_append 1 (map (renamed image) (bases m)) lhs (bases_numbered m order begin image gs done)
+    IsNumbered-append 1 (map (renamed image) (bases m)) lhs (bases_numbered m order begin image gs done)
     (subst (λ n. IsNumbered (1 + n) lhs) (sym (length-map (bases m) (renamed image))) (gates_numbered m gs done.made)) in
     subst (λ (xs : List Lit). IsNumbered 1 (xs ++ lhs)) (sym (bases_carried m image gs)) here
 

@@ -1,8 +1,8 @@
 -- The gates that are made one after another, and the table of their right sides.
-use Rattle.std.specs.Prelude.{◌≡◌, ◌≢◌, ℕ, ◌+◌, ◌*◌, ◌<◌, ◌≤◌, ◌&&◌, ◌==◌, Bool, false, List, ◌++◌, length, slice_index_or, All, Option, Some}
+use Rattle.std.specs.Prelude.{◌≡◌, ℕ, ◌+◌, ◌*◌, ◌<◌, ◌≤◌, ◌&&◌, ◌==◌, Bool, false, List, ◌++◌, length, slice_index_or, All, Option, Some}
 use Rattle.graph.specs.declared.circuit.Lit.{Lit}
 use Rattle.graph.specs.declared.circuit.Gate.{Gate}
-use Rattle.graph.specs.Valuation.{Valuation, variable, place, value_of, Fires}
+use Rattle.graph.specs.Valuation.{Valuation, place, value_of, Fires}
 use Rattle.shrink.specs.Shrunk.{IsProper}
 
 -- the numbers of the right sides

@@ -1,6 +1,5 @@
 -- What structural hashing keeps of a circuit, and what it makes of it.
-use Rattle.std.specs.Prelude.{◌≡◌, ◌≢◌, ℕ, ◌≤◌, Bool, true, false, ◌==◌, if◌then◌else◌, List, map, length, All, AllPairs, Option, None, Some}
-use Rattle.graph.specs.declared.circuit.Lit.{Lit}
+use Rattle.std.specs.Prelude.{◌≡◌, ◌≢◌, ◌≤◌, Bool, true, false, ◌==◌, if◌then◌else◌, map, length, All, AllPairs, Option, None, Some}
 use Rattle.graph.specs.declared.circuit.Latch.{Latch}
 use Rattle.graph.specs.declared.circuit.Gate.{Gate}
 use Rattle.graph.specs.declared.parts.Parts.{Parts}

@@ -14,18 +14,18 @@ use graph::{Model, Parts, ReadError};
 use std::alloc::Global;
 
 /// The parts of the smaller circuit.
-fn smaller(alloc: Global, model: &Model) -> Result<Parts, Refused>
-    ensures shrunk { IfOk result (λ s. IsShrunk model.now s) }
+fn smaller(alloc: Global, circuit: &Model) -> Result<Parts, Refused>
+    ensures shrunk { IfOk result (λ s. IsShrunk circuit.now s) }
     ensures well_formed { IfOk result (λ s. IsWellFormed s) }
 {
-    let parts = model.parts();
+    let parts = circuit.parts();
     let bases = bases(alloc, parts)?;
     let mut image = numbered_image(alloc, parts, bases.as_slice())?;
     let first = bases.len() as u32 + 1;
     let mut making = Making::new(alloc);
     carry_gates(
         parts,
-        model.order(),
+        circuit.order(),
         first,
         image.as_mut_slice(),
         &mut making,
@@ -54,10 +54,10 @@ fn model_of(alloc: Global, parts: Parts) -> Result<Model, Refused>
 /// were given.
 ///
 /// It costs the circuit's length, and a look-up by hash for each gate.
-pub fn shrink(alloc: Global, model: &Model) -> Result<Model, ShrinkError>
-    ensures shrunk { IfOk result (λ s. IsShrunk model.now s) }
+pub fn shrink(alloc: Global, circuit: &Model) -> Result<Model, ShrinkError>
+    ensures shrunk { IfOk result (λ s. IsShrunk circuit.now s) }
 {
-    let parts = smaller(alloc, model)?;
+    let parts = smaller(alloc, circuit)?;
     let smaller = model_of(alloc, parts)?;
     Ok(smaller)
 }

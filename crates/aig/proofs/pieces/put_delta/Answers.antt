@@ -1,51 +1,50 @@
-use Rattle.std.proofs.Common.{◌≤◌, ◌<◌, ◌+◌, ◌/◌, ◌%◌, ◌∷◌, [], ◌++◌, arith, ap, subst, ◌∙◌, append_assoc}
-use Rattle.std.proofs.KnownBytes.{Appends-trans}
-use Rattle.base.specs.Devices.{Puts, PutsBeginning}
-use Rattle.base.proofs.Putting.{begins_behind, begins_more, puts_err, puts_of, puts_then}
-use Rattle.aig.specs.Delta.{delta_text}
-use Rattle.aig.proofs.PieceLaws.{delta_last, delta_more}
+use Rattle.std.proofs.Common.{◌<◌, ◌+◌, ◌/◌, ◌%◌, ◌∷◌, [], arith, subst}
+use Rattle.base.specs.Devices.{Puts}
+use Rattle.base.proofs.Putting.{puts_of}
+use Rattle.aig.proofs.PieceLaws.{delta_last, delta_two, delta_three, delta_four, delta_five}
 use Rattle.aig.proofs.pieces.put_delta.Goals as goal
 
-pub returns-in_err-put_all-clause-puts : goal.returns-in_err-put_all-clause-puts
-returns-in_err-put_all-clause-puts g c =
-    let n = c.loop-rest.rest in
+pub returns-then-number-lt128-clause-puts : goal.returns-then-number-lt128-clause-puts
+returns-then-number-lt128-clause-puts g c =
+    let n = c.args.number in
+    let r = c.put_all in
     let before = g.W.Sink.contents c.args.out.now in
-    let between = g.W.Sink.contents c.loop-rest.out in
-    let after = g.W.Sink.contents c.put_all.new.out in
-    let begun = c.loop-rest.invariant.begun in
-    let big : 128 ≤ n = omega (arith, c.loop-rest-test.true) in
-    let small : n < 4294967296 = omega (arith, c.loop-rest.auto.rest-fits) in
-    let more = begins_more between after ((128 + n % 128) ∷ []) (delta_text (n / 128)) c.in_err-put_all.ensures.beginning in
-    puts_err c.from_residual.result before after (delta_text c.args.number) c.from_residual.ensures.0
-    (subst (PutsBeginning before after) begun.2 (begins_behind before between after begun.0 (delta_text n) begun.1 (subst (PutsBeginning between after) (delta_more n big small) more)))
+    let after = g.W.Sink.contents r.new.out in
+    subst (Puts r.result before after) (delta_last n c.if-number-lt128.true) (puts_of r.result before after (n ∷ []) r.ensures.whole r.ensures.beginning)
 
-pub loop-rest-preserved : goal.loop-rest-preserved
-loop-rest-preserved g c =
-    let n = c.loop-rest.rest in
+pub returns-then-rest-lt128-clause-puts : goal.returns-then-rest-lt128-clause-puts
+returns-then-rest-lt128-clause-puts g c =
+    let n = c.args.number in
+    let r = c.put_all-then-rest-lt128 in
     let before = g.W.Sink.contents c.args.out.now in
-    let between = g.W.Sink.contents c.loop-rest.out in
-    let after = g.W.Sink.contents c.put_all.new.out in
-    let begun = c.loop-rest.invariant.begun in
-    let big : 128 ≤ n = omega (arith, c.loop-rest-test.true) in
-    let small : n < 4294967296 = omega (arith, c.loop-rest.auto.rest-fits) in
-    let byte = 128 + n % 128 in
-    record {
-      steady = c.in_ok-put_all.ensures.counts ∙ c.loop-rest.invariant.steady;
-      begun = (
-        begun.0 ++ byte ∷ [],
-        Appends-trans before between after begun.0 (byte ∷ []) begun.1 c.in_ok-put_all.ensures.whole,
-        append_assoc begun.0 (byte ∷ []) (delta_text (n / 128)) ∙ ap (λ w. begun.0 ++ w) (delta_more n big small) ∙ begun.2,
-      );
-    }
+    let after = g.W.Sink.contents r.new.out in
+    subst (Puts r.result before after) (delta_two n c.if-number-lt128.false c.if-rest-lt128.true)
+    (puts_of r.result before after ((128 + n % 128) ∷ n / 128 ∷ []) r.ensures.whole r.ensures.beginning)
+
+pub returns-then-rest-lt128-2-clause-puts : goal.returns-then-rest-lt128-2-clause-puts
+returns-then-rest-lt128-2-clause-puts g c =
+    let n = c.args.number in
+    let r = c.put_all-then-rest-lt128-2 in
+    let before = g.W.Sink.contents c.args.out.now in
+    let after = g.W.Sink.contents r.new.out in
+    subst (Puts r.result before after) (delta_three n c.if-number-lt128.false c.if-rest-lt128.false c.if-rest-lt128-2.true)
+    (puts_of r.result before after ((128 + n % 128) ∷ (128 + n / 128 % 128) ∷ n / 128 / 128 ∷ []) r.ensures.whole r.ensures.beginning)
+
+pub returns-then-rest-lt128-3-clause-puts : goal.returns-then-rest-lt128-3-clause-puts
+returns-then-rest-lt128-3-clause-puts g c =
+    let n = c.args.number in
+    let r = c.put_all-then-rest-lt128-3 in
+    let before = g.W.Sink.contents c.args.out.now in
+    let after = g.W.Sink.contents r.new.out in
+    subst (Puts r.result before after) (delta_four n c.if-number-lt128.false c.if-rest-lt128.false c.if-rest-lt128-2.false c.if-rest-lt128-3.true)
+    (puts_of r.result before after ((128 + n % 128) ∷ (128 + n / 128 % 128) ∷ (128 + n / 128 / 128 % 128) ∷ n / 128 / 128 / 128 ∷ []) r.ensures.whole r.ensures.beginning)
 
 pub returns-clause-puts : goal.returns-clause-puts
 returns-clause-puts g c =
-    let n = c.loop-rest.rest in
-    let before = g.W.Sink.contents c.args.out.now in
-    let between = g.W.Sink.contents c.loop-rest.out in
-    let after = g.W.Sink.contents c.put_all-2.new.out in
-    let begun = c.loop-rest.invariant.begun in
+    let n = c.args.number in
     let r = c.put_all-2 in
-    let small : n < 128 = omega (arith, c.loop-rest-test.false) in
-    subst (Puts r.result before after) begun.2
-    (puts_then r.result before between after begun.0 (delta_text n) begun.1 (subst (Puts r.result between after) (delta_last n small) (puts_of r.result between after (n ∷ []) r.ensures.whole r.ensures.beginning)))
+    let before = g.W.Sink.contents c.args.out.now in
+    let after = g.W.Sink.contents r.new.out in
+    let small : n < 4294967296 = omega (arith, c.ranges.number.fits) in
+    subst (Puts r.result before after) (delta_five n small c.if-number-lt128.false c.if-rest-lt128.false c.if-rest-lt128-2.false c.if-rest-lt128-3.false)
+    (puts_of r.result before after ((128 + n % 128) ∷ (128 + n / 128 % 128) ∷ (128 + n / 128 / 128 % 128) ∷ (128 + n / 128 / 128 / 128 % 128) ∷ n / 128 / 128 / 128 / 128 ∷ []) r.ensures.whole r.ensures.beginning)

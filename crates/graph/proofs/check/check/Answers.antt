@@ -1,4 +1,5 @@
-use Rattle.std.proofs.Common.{◌++◌, [], map, refl}
+use Rattle.std.proofs.Common.{◌++◌, ◌∙◌, [], map, refl, ap}
+use Rattle.std.specs.List.{range_with_len}
 use Rattle.std.proofs.lemmas.List.Elements.{All-nil}
 use Rattle.graph.specs.Valuation.{variable, defined}
 use Rattle.graph.specs.WellFormed.{used}
@@ -6,6 +7,7 @@ use Rattle.graph.specs.Uses.{IsFine}
 use Rattle.graph.specs.Faults.{HasDefined}
 use Rattle.graph.proofs.Evaluation.{held, once-right, IsOnce}
 use Rattle.graph.proofs.Gates.{left}
+use Rattle.graph.proofs.Ordered.{ordered_model}
 use Rattle.graph.proofs.Shape.{defining_small, used_small, gates_small, fine_so_far, literal_cause, cause_told, all_defined, counted_decides, model_found, cycle_told}
 use Rattle.graph.proofs.check.check.Goals as goal
 
@@ -16,6 +18,11 @@ pub returns-in_err-check_literals-clause-refused : goal.returns-in_err-check_lit
 returns-in_err-check_literals-clause-refused c =
     let m = c.args.parts.now in
     cause_told m _ _ c.from_residual.ensures.1 (literal_cause m _ c.in_default.ensures (c.in_err-check_literals.ensures [] refl (All-nil (IsFine m.max_var))))
+
+pub returns-then-is_ordered-clause-found : goal.returns-then-is_ordered-clause-found
+returns-then-is_ordered-clause-found c =
+    let m = c.args.parts.now in
+    ordered_model m c.in_ok-places.field-0.items (fine_so_far m c.in_default.ensures c.in_ok-check_literals.ensures.1) (c.is_ordered.ensures.0 c.if-is_ordered.true) (c.in_ok-places.ensures ∙ ap (range_with_len 0) c.len.ensures)
 
 pub mentions_of-requires-clause-in_range : goal.mentions_of-requires-clause-in_range
 mentions_of-requires-clause-in_range c = used_small c.args.parts.now c.in_ok-check_literals.ensures.1

@@ -1,6 +1,5 @@
-use Rattle.std.proofs.Common.{rules, ◌≡◌, ◌∙◌, ◌+◌, ◌<◌, ◌≤◌, ℕ, List, [], length, drop, All, AllPairs, sym, ap, subst, arith}
+use Rattle.std.proofs.Common.{rules, ◌≡◌, ◌∙◌, ◌+◌, ℕ, List, length, sym, ap, subst, arith}
 use Rattle.std.specs.HashMap.{get}
-use Rattle.graph.specs.declared.circuit.Lit.{Lit}
 use Rattle.graph.specs.declared.circuit.Gate.{Gate}
 use Rattle.graph.specs.declared.parts.Parts.{Parts}
 use Rattle.graph.specs.WellFormed.{IsModel, IsOrder, IsWellFormed}
@@ -9,7 +8,7 @@ use Rattle.shrink.specs.Carriable.{AreCarriable}
 use Rattle.shrink.specs.Hashed.{AreCarried, AreNumbered, bases, carried_parts}
 use Rattle.shrink.specs.Making.{AreMade, same_sides}
 use Rattle.shrink.specs.Shrunk.{IsShrunk}
-use Rattle.shrink.proofs.Done.{IsDone, first_of, bases_in_range, bases_once, bases_few, room_for, begins, carriable, apart_from, is_shrunk, well_formed, order_few, defined_few}
+use Rattle.shrink.proofs.Done.{IsDone, first_of, bases_once, room_for, begins, carriable, apart_from, is_shrunk, well_formed, order_few, defined_few}
 use Rattle.shrink.proofs.hashing.smaller.Goals as goal
 
 -- the parts that were read are the model's
@@ -18,13 +17,13 @@ is_model p m order same well ordered = subst (λ q. IsModel q order) (sym same) 
 
 pub numbered_image-requires-clause-once : goal.numbered_image-requires-clause-once
 numbered_image-requires-clause-once c =
-    rw (c.as_slice.ensures.value, c.in_ok-bases.ensures, c.parts-parts.ensures.parts) (bases_once c.args.model.now c.parts-parts.ensures.well_formed)
+    rw (c.as_slice.ensures.value, c.in_ok-bases.ensures, c.parts-parts.ensures.parts) (bases_once c.args.circuit.now c.parts-parts.ensures.well_formed)
 
 pub carry_gates-requires-clause-room : goal.carry_gates-requires-clause-room
 carry_gates-requires-clause-room c =
     let p : Parts = c.parts-parts.result.now in
     let order : List ℕ = c.order.result.now in
-    let model : IsModel p order = is_model p c.args.model.now order c.parts-parts.ensures.parts c.parts-parts.ensures.well_formed c.order.ensures in
+    let model : IsModel p order = is_model p c.args.circuit.now order c.parts-parts.ensures.parts c.parts-parts.ensures.well_formed c.order.ensures in
     let first : c.len.result + 1 ≡ first_of p = ap (λ n. n + 1) (c.len.ensures ∙ sym c.as_slice.ensures.len ∙ ap length (c.as_slice.ensures.value ∙ c.in_ok-bases.ensures)) in
     let room = room_for p order model in
     omega (arith, room, first)
@@ -33,7 +32,7 @@ pub carry_gates-requires-clause-begins : goal.carry_gates-requires-clause-begins
 carry_gates-requires-clause-begins c =
     let p : Parts = c.parts-parts.result.now in
     let order : List ℕ = c.order.result.now in
-    let model : IsModel p order = is_model p c.args.model.now order c.parts-parts.ensures.parts c.parts-parts.ensures.well_formed c.order.ensures in
+    let model : IsModel p order = is_model p c.args.circuit.now order c.parts-parts.ensures.parts c.parts-parts.ensures.well_formed c.order.ensures in
     let first : c.len.result + 1 ≡ first_of p = ap (λ n. n + 1) (c.len.ensures ∙ sym c.as_slice.ensures.len ∙ ap length (c.as_slice.ensures.value ∙ c.in_ok-bases.ensures)) in
     let numbered : AreNumbered (bases p) c.as_mut_slice.result.now =
     subst (AreNumbered (bases p)) (sym c.as_mut_slice.ensures.value) (subst (λ bs. AreNumbered bs c.in_ok-image.image.items) (c.as_slice.ensures.value ∙ c.in_ok-bases.ensures) c.in_ok-image.ensures.numbered) in
@@ -45,7 +44,7 @@ pub rename_parts-requires-clause-carriable : goal.rename_parts-requires-clause-c
 rename_parts-requires-clause-carriable c =
     let p : Parts = c.parts-parts.result.now in
     let order : List ℕ = c.order.result.now in
-    let model : IsModel p order = is_model p c.args.model.now order c.parts-parts.ensures.parts c.parts-parts.ensures.well_formed c.order.ensures in
+    let model : IsModel p order = is_model p c.args.circuit.now order c.parts-parts.ensures.parts c.parts-parts.ensures.well_formed c.order.ensures in
     let first : c.len.result + 1 ≡ first_of p = ap (λ n. n + 1) (c.len.ensures ∙ sym c.as_slice.ensures.len ∙ ap length (c.as_slice.ensures.value ∙ c.in_ok-bases.ensures)) in
     let gs : List Gate = c.carry_gates.new.making.gates in
     let carried : AreCarried p order (first_of p) c.as_mut_slice.result.now gs c.carry_gates.new.image (length order) =
@@ -58,7 +57,7 @@ pub rename_parts-requires-clause-room : goal.rename_parts-requires-clause-room
 rename_parts-requires-clause-room c =
     let p : Parts = c.parts-parts.result.now in
     let order : List ℕ = c.order.result.now in
-    let model : IsModel p order = is_model p c.args.model.now order c.parts-parts.ensures.parts c.parts-parts.ensures.well_formed c.order.ensures in
+    let model : IsModel p order = is_model p c.args.circuit.now order c.parts-parts.ensures.parts c.parts-parts.ensures.well_formed c.order.ensures in
     let first : c.len.result + 1 ≡ first_of p = ap (λ n. n + 1) (c.len.ensures ∙ sym c.as_slice.ensures.len ∙ ap length (c.as_slice.ensures.value ∙ c.in_ok-bases.ensures)) in
     let gs : List Gate = c.carry_gates.new.making.gates in
     let carried : AreCarried p order (first_of p) c.as_mut_slice.result.now gs c.carry_gates.new.image (length order) =
@@ -75,7 +74,7 @@ pub returns-clause-shrunk : goal.returns-clause-shrunk
 returns-clause-shrunk c =
     let p : Parts = c.parts-parts.result.now in
     let order : List ℕ = c.order.result.now in
-    let model : IsModel p order = is_model p c.args.model.now order c.parts-parts.ensures.parts c.parts-parts.ensures.well_formed c.order.ensures in
+    let model : IsModel p order = is_model p c.args.circuit.now order c.parts-parts.ensures.parts c.parts-parts.ensures.well_formed c.order.ensures in
     let first : c.len.result + 1 ≡ first_of p = ap (λ n. n + 1) (c.len.ensures ∙ sym c.as_slice.ensures.len ∙ ap length (c.as_slice.ensures.value ∙ c.in_ok-bases.ensures)) in
     let gs : List Gate = c.carry_gates.new.making.gates in
     let carried : AreCarried p order (first_of p) c.as_mut_slice.result.now gs c.carry_gates.new.image (length order) =
@@ -98,7 +97,7 @@ pub returns-clause-well_formed : goal.returns-clause-well_formed
 returns-clause-well_formed c =
     let p : Parts = c.parts-parts.result.now in
     let order : List ℕ = c.order.result.now in
-    let model : IsModel p order = is_model p c.args.model.now order c.parts-parts.ensures.parts c.parts-parts.ensures.well_formed c.order.ensures in
+    let model : IsModel p order = is_model p c.args.circuit.now order c.parts-parts.ensures.parts c.parts-parts.ensures.well_formed c.order.ensures in
     let first : c.len.result + 1 ≡ first_of p = ap (λ n. n + 1) (c.len.ensures ∙ sym c.as_slice.ensures.len ∙ ap length (c.as_slice.ensures.value ∙ c.in_ok-bases.ensures)) in
     let gs : List Gate = c.carry_gates.new.making.gates in
     let carried : AreCarried p order (first_of p) c.as_mut_slice.result.now gs c.carry_gates.new.image (length order) =

@@ -1,7 +1,6 @@
-use Rattle.std.proofs.Common.{rules, ◌≡◌, ◌+◌, ◌*◌, ◌<◌, ℕ, length, ap, arith}
+use Rattle.std.proofs.Common.{rules, ◌+◌, ◌*◌, arith}
 use Rattle.graph.specs.declared.circuit.Lit.{Lit}
 use Rattle.shrink.proofs.Numbered.{numbered_more, numbered_kept}
-use Rattle.shrink.proofs.Done.{is_ordered}
 use Rattle.shrink.proofs.numbering.number.Goals as goal
 
 pub loop-k-preserved : goal.loop-k-preserved
