@@ -76,7 +76,7 @@ value_along w true a = elim (cases_eq (a.0 % 2) 1) [
       rw (ne_eqb (a.0 % 2) 1 not_odd, odd, half) refl
 ]
 
--- the values that the latches take over are those of the next literals
+-- the next state has the values of the next literals
 next_values : (ls : List Latch) (w x : List Bool) (a : Lit) → All (λ l. (2 ≤ l.lit.0) × (l.lit.0 % 2 ≡ 0)) ls →
     map (λ l. value_of x l.lit) ls ≡ map (λ l. value_of w l.next) ls → Contains (map (λ l. variable l.lit) ls) (variable a) → value_of x a ≡ value_of w (next_of ls a)
 next_values [] w x a even same (k, lt, at) = absurd (omega arith)

@@ -18,7 +18,7 @@ pub gate_made : (n o : ℕ) (g : Gate) (old a b c : List (List ℤ)) (x1 y1 x2 z
 gate_made n o g old a b c x1 y1 x2 z2 x3 y3 z3 p q r e1 f1 e2 f2 e3 f3 g3 =
     three_more old a b c (x1 ∷ y1 ∷ []) (x2 ∷ z2 ∷ []) (x3 ∷ y3 ∷ z3 ∷ []) p q r ∙ rw (e1, f1, e2, f2, e3, f3, g3) refl
 
--- the two clauses of a latch that takes over
+-- the two clauses of a latch's next value
 pub join_made : (n o : ℕ) (l : Latch) (old a b : List (List ℤ)) (x1 y1 x2 y2 : ℤ) →
     a ≡ old ++ (x1 ∷ y1 ∷ []) ∷ [] → b ≡ a ++ (x2 ∷ y2 ∷ []) ∷ [] →
     x1 ≡ denial n (o + n + 1) l.lit → y1 ≡ literal n o l.next → x2 ≡ literal n (o + n + 1) l.lit → y2 ≡ denial n o l.next → b ≡ old ++ join_clauses n o l

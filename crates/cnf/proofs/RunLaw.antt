@@ -35,7 +35,7 @@ both_ways true false p q = sym p
 both_ways false true p q = q
 both_ways false false p q = refl
 
--- one latch takes over
+-- the next value of one latch
 joined : (v : ℕ → Bool) (o n : ℕ) (w x : List Bool) (l : Latch) → IsLaid v o n w → IsLaid v (o + n + 1) n x → IsInRange n l.lit → IsInRange n l.next →
     value_of x l.lit ≡ value_of w l.next → AreSatisfied v (join_clauses n o l)
 joined v o n w x l at next lit_in next_in same =

@@ -23,7 +23,7 @@ HoldsClause w c = Any (λ a. value_of w a ≡ true) c
 abbrev pub Denies : Valuation → List Lit → Type 0
 Denies w c = All (λ a. value_of w a ≡ false) c
 
--- all of the clause's literals are false for the values that the latches take over
+-- all of the clause's literals are false in the next state
 abbrev pub DeniesNext : Parts → Valuation → List Lit → Type 0
 DeniesNext m w c = All (λ a. value_of w (next_of m.latches a) ≡ false) c
 

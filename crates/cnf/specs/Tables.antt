@@ -26,7 +26,7 @@ holds_some (Some b) = true
 abbrev pub is_latch_in : List (Option Lit) → ℕ → Bool
 is_latch_in t v = holds_some (entry t v)
 
--- the table tells the latches and their next literals
+-- the table has the latches and their next literals
 pub record IsTableOf (ls : List Latch) (t : List (Option Lit)) : Type 0 where
   pub nexts : (a : Lit) → next_in t a ≡ next_of ls a
   pub latches : (v : ℕ) → IsTrue (is_latch_in t v) ↔ Contains (map (λ l. variable l.lit) ls) v

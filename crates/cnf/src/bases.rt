@@ -1,6 +1,6 @@
 //! The frame of a circuit, and what the cases of an invariant share.
 
-ghost use Rattle.std.specs.Prelude.{◌≡◌, ◌∷◌, [], IfOk};
+ghost use Rattle.std.specs.Prelude.{◌≡◌, ◌∷◌, [], IfOk, OnOk};
 ghost use Rattle.lrat.specs.Limits.{IsFormula};
 ghost use Rattle.cnf.specs.Clauses.{truth_clause, frame_clauses as frame_list, start_clauses as start_list, shared_clauses as shared_list};
 ghost use Rattle.cnf.specs.Formulas.{formula_of, frame_formula, start_formula, shared_formula, IsInvariant, IsOver};
@@ -11,106 +11,165 @@ use crate::push::{push, push_constraints, push_gates, push_invariant, push_reset
 use crate::time_frame::TimeFrame;
 use base::Refused;
 use graph::{Lit, Model, Seq};
-use lrat::{Clause, Formula};
+use lrat::{AddClause, Clause, ClauseRow, Formula};
 use std::alloc::Global;
 
 /// The clauses as a formula over the variables of one time.
-pub(crate) fn formula(model: &Model, clauses: Seq<Clause>) -> Formula
-    ensures { result ≡ formula_of model.now clauses }
+pub(crate) fn formula(circuit: &Model, clauses: Seq<Clause>) -> Formula
+    ensures { result ≡ formula_of circuit.now clauses }
 {
-    model.parts();
+    circuit.well_formed();
     Formula {
-        vars: model.max_var() + 1,
+        vars: circuit.max_var() + 1,
         clauses,
     }
 }
 
-/// The clause that makes the constant true.
-fn truth(alloc: Global, model: &Model) -> Result<Seq<Clause>, Refused>
-    ensures { IfOk result (λ s. s ≡ truth_clause model.now.max_var 0 ∷ []) }
+/// Adds the clause that makes the constant true to a list without clauses.
+fn push_truth<C: AddClause>(alloc: Global, clauses: &mut C, circuit: &Model) -> Result<(), Refused>
+    requires { C.clauses clauses.old ≡ [] }
+    ensures { OnOk result (C.clauses clauses.new ≡ truth_clause circuit.now.max_var 0 ∷ []) }
 {
-    model.parts();
-    let mut clauses = Seq::new(alloc);
-    push(alloc, &mut clauses, &[TimeFrame::first(model).truth()])?;
-    Ok(clauses)
+    circuit.well_formed();
+    push(alloc, clauses, &[TimeFrame::first(circuit).truth()])
 }
 
-fn frame_clauses(alloc: Global, model: &Model) -> Result<Seq<Clause>, Refused>
-    ensures { IfOk result (λ s. s ≡ frame_list model.now) }
+/// Adds the clauses of the frame to a list without clauses.
+fn push_frame<C: AddClause>(alloc: Global, clauses: &mut C, circuit: &Model) -> Result<(), Refused>
+    requires { C.clauses clauses.old ≡ [] }
+    ensures { OnOk result (C.clauses clauses.new ≡ frame_list circuit.now) }
 {
-    model.parts();
-    let mut clauses = truth(alloc, model)?;
-    push_gates(alloc, &mut clauses, TimeFrame::first(model), model.gates())?;
-    Ok(clauses)
+    circuit.well_formed();
+    push_truth(alloc, clauses, circuit)?;
+    push_gates(alloc, clauses, TimeFrame::first(circuit), circuit.gates())
 }
 
-pub(crate) fn start_clauses(alloc: Global, model: &Model) -> Result<Seq<Clause>, Refused>
-    ensures { IfOk result (λ s. s ≡ start_list model.now) }
+/// Adds the clauses with which all initial cases begin to a list without clauses.
+fn push_start<C: AddClause>(alloc: Global, clauses: &mut C, circuit: &Model) -> Result<(), Refused>
+    requires { C.clauses clauses.old ≡ [] }
+    ensures { OnOk result (C.clauses clauses.new ≡ start_list circuit.now) }
 {
-    model.parts();
-    let mut clauses = truth(alloc, model)?;
-    push_resets(
+    circuit.well_formed();
+    push_truth(alloc, clauses, circuit)?;
+    push_resets(alloc, clauses, TimeFrame::first(circuit), circuit.latches())
+}
+
+/// Adds the clauses that the step cases and the bad case share to a list without clauses.
+fn push_shared<C: AddClause>(
+    alloc: Global,
+    clauses: &mut C,
+    circuit: &Model,
+    invariant: &[Seq<Lit>],
+) -> Result<(), Refused>
+    requires empty { C.clauses clauses.old ≡ [] }
+    requires invariant { IsInvariant circuit.now invariant.now }
+    ensures { OnOk result (C.clauses clauses.new ≡ shared_list circuit.now invariant.now) }
+{
+    circuit.well_formed();
+    push_frame(alloc, clauses, circuit)?;
+    push_constraints(
         alloc,
-        &mut clauses,
-        TimeFrame::first(model),
-        model.latches(),
+        clauses,
+        TimeFrame::first(circuit),
+        circuit.constraints(),
     )?;
+    push_invariant(alloc, clauses, TimeFrame::first(circuit), invariant)
+}
+
+fn frame_clauses(alloc: Global, circuit: &Model) -> Result<Seq<Clause>, Refused>
+    ensures { IfOk result (λ s. s ≡ frame_list circuit.now) }
+{
+    let mut clauses: Seq<Clause> = Seq::new(alloc);
+    push_frame(alloc, &mut clauses, circuit)?;
+    Ok(clauses)
+}
+
+pub(crate) fn start_clauses(alloc: Global, circuit: &Model) -> Result<Seq<Clause>, Refused>
+    ensures { IfOk result (λ s. s ≡ start_list circuit.now) }
+{
+    let mut clauses: Seq<Clause> = Seq::new(alloc);
+    push_start(alloc, &mut clauses, circuit)?;
     Ok(clauses)
 }
 
 pub(crate) fn shared_clauses(
     alloc: Global,
-    model: &Model,
+    circuit: &Model,
     invariant: &[Seq<Lit>],
 ) -> Result<Seq<Clause>, Refused>
-    requires { IsInvariant model.now invariant.now }
-    ensures { IfOk result (λ s. s ≡ shared_list model.now invariant.now) }
+    requires { IsInvariant circuit.now invariant.now }
+    ensures { IfOk result (λ s. s ≡ shared_list circuit.now invariant.now) }
 {
-    model.parts();
-    let mut clauses = frame_clauses(alloc, model)?;
-    push_constraints(
-        alloc,
-        &mut clauses,
-        TimeFrame::first(model),
-        model.constraints(),
-    )?;
-    push_invariant(alloc, &mut clauses, TimeFrame::first(model), invariant)?;
+    let mut clauses: Seq<Clause> = Seq::new(alloc);
+    push_shared(alloc, &mut clauses, circuit, invariant)?;
     Ok(clauses)
 }
 
 /// The frame: exactly the agreeing valuations satisfy it. It costs the gates.
-pub fn frame(alloc: Global, model: &Model) -> Result<Formula, Refused>
-    ensures formula { IfOk result (λ f. f ≡ frame_formula model.now) }
+pub fn frame(alloc: Global, circuit: &Model) -> Result<Formula, Refused>
+    ensures formula { IfOk result (λ f. f ≡ frame_formula circuit.now) }
     ensures is_formula { IfOk result (λ f. IsFormula f) }
-    ensures variables { IfOk result (λ f. IsOver model.now 1 f.clauses) }
-    ensures meaning { IfOk result (λ _. FrameLaw model.now) }
+    ensures variables { IfOk result (λ f. IsOver circuit.now 1 f.clauses) }
+    ensures meaning { IfOk result (λ _. FrameLaw circuit.now) }
 {
-    model.parts();
-    let clauses = frame_clauses(alloc, model)?;
-    Ok(formula(model, clauses))
+    circuit.well_formed();
+    let clauses = frame_clauses(alloc, circuit)?;
+    Ok(formula(circuit, clauses))
 }
 
 /// What all initial cases begin with. An initial case is this with its units, `init_units`.
-pub fn start_base(alloc: Global, model: &Model) -> Result<Formula, Refused>
-    ensures formula { IfOk result (λ f. f ≡ start_formula model.now) }
+pub fn start_base(alloc: Global, circuit: &Model) -> Result<Formula, Refused>
+    ensures formula { IfOk result (λ f. f ≡ start_formula circuit.now) }
     ensures is_formula { IfOk result (λ f. IsFormula f) }
 {
-    model.parts();
-    let clauses = start_clauses(alloc, model)?;
-    Ok(formula(model, clauses))
+    circuit.well_formed();
+    let clauses = start_clauses(alloc, circuit)?;
+    Ok(formula(circuit, clauses))
 }
 
 /// What all step and bad cases of an invariant begin with: frame, constraints and the invariant's
 /// clauses. A case is this with its units, `step_units` or `bad_unit`.
 ///
 /// Where nothing satisfies any case of the invariant, the circuit is safe.
-pub fn shared_base(alloc: Global, model: &Model, invariant: &[Seq<Lit>]) -> Result<Formula, Refused>
-    requires { IsInvariant model.now invariant.now }
-    ensures formula { IfOk result (λ f. f ≡ shared_formula model.now invariant.now) }
+pub fn shared_base(
+    alloc: Global,
+    circuit: &Model,
+    invariant: &[Seq<Lit>],
+) -> Result<Formula, Refused>
+    requires { IsInvariant circuit.now invariant.now }
+    ensures formula { IfOk result (λ f. f ≡ shared_formula circuit.now invariant.now) }
     ensures is_formula { IfOk result (λ f. IsFormula f) }
-    ensures safety { IfOk result (λ _. SafetyLaw model.now invariant.now) }
+    ensures safety { IfOk result (λ _. SafetyLaw circuit.now invariant.now) }
 {
-    model.parts();
-    let clauses = shared_clauses(alloc, model, invariant)?;
-    Ok(formula(model, clauses))
+    circuit.well_formed();
+    let clauses = shared_clauses(alloc, circuit, invariant)?;
+    Ok(formula(circuit, clauses))
+}
+
+/// The clauses of `start_base`, for a refuter to take over.
+pub fn start_row(alloc: Global, circuit: &Model) -> Result<ClauseRow, Refused>
+    ensures formula { IfOk result (λ r. formula_of circuit.now r ≡ start_formula circuit.now) }
+    ensures is_formula { IfOk result (λ r. IsFormula (formula_of circuit.now r)) }
+{
+    circuit.well_formed();
+    let mut clauses = ClauseRow::new(alloc);
+    push_start(alloc, &mut clauses, circuit)?;
+    Ok(clauses)
+}
+
+/// The clauses of `shared_base`, for a refuter to take over.
+pub fn shared_row(
+    alloc: Global,
+    circuit: &Model,
+    invariant: &[Seq<Lit>],
+) -> Result<ClauseRow, Refused>
+    requires { IsInvariant circuit.now invariant.now }
+    ensures formula { IfOk result (λ r. formula_of circuit.now r ≡ shared_formula circuit.now invariant.now) }
+    ensures is_formula { IfOk result (λ r. IsFormula (formula_of circuit.now r)) }
+    ensures safety { IfOk result (λ _. SafetyLaw circuit.now invariant.now) }
+{
+    circuit.well_formed();
+    let mut clauses = ClauseRow::new(alloc);
+    push_shared(alloc, &mut clauses, circuit, invariant)?;
+    Ok(clauses)
 }

@@ -16,58 +16,58 @@ use lrat::Formula;
 use std::alloc::Global;
 
 /// The case that an initial state does not satisfy the clause.
-pub fn init_case(alloc: Global, model: &Model, clause: &[Lit]) -> Result<Formula, Refused>
-    requires { IsClause model.now clause.now }
-    ensures formula { IfOk result (λ f. f ≡ init_formula model.now clause.now) }
+pub fn init_case(alloc: Global, circuit: &Model, clause: &[Lit]) -> Result<Formula, Refused>
+    requires { IsClause circuit.now clause.now }
+    ensures formula { IfOk result (λ f. f ≡ init_formula circuit.now clause.now) }
     ensures is_formula { IfOk result (λ f. IsFormula f) }
-    ensures variables { IfOk result (λ f. IsOver model.now 1 f.clauses) }
-    ensures meaning { IfOk result (λ _. InitLaw model.now clause.now) }
+    ensures variables { IfOk result (λ f. IsOver circuit.now 1 f.clauses) }
+    ensures meaning { IfOk result (λ _. InitLaw circuit.now clause.now) }
 {
-    model.parts();
-    let mut clauses = start_clauses(alloc, model)?;
-    let units = init_units(alloc, model, clause)?;
+    circuit.well_formed();
+    let mut clauses = start_clauses(alloc, circuit)?;
+    let units = init_units(alloc, circuit, clause)?;
     push_units(alloc, &mut clauses, units.as_slice())?;
-    Ok(formula(model, clauses))
+    Ok(formula(circuit, clauses))
 }
 
 /// The case that a step from a state of the invariant does not satisfy its clause at position `k`.
 pub fn step_case(
     alloc: Global,
-    model: &Model,
+    circuit: &Model,
     invariant: &[Seq<Lit>],
     k: usize,
 ) -> Result<Formula, Refused>
-    requires invariant { IsInvariant model.now invariant.now }
+    requires invariant { IsInvariant circuit.now invariant.now }
     requires in_range { k < length invariant.now }
-    ensures formula { IfOk result (λ f. f ≡ step_formula model.now invariant.now (clause_at invariant.now k)) }
+    ensures formula { IfOk result (λ f. f ≡ step_formula circuit.now invariant.now (clause_at invariant.now k)) }
     ensures is_formula { IfOk result (λ f. IsFormula f) }
-    ensures variables { IfOk result (λ f. IsOver model.now 1 f.clauses) }
-    ensures meaning { IfOk result (λ _. StepLaw model.now invariant.now (clause_at invariant.now k)) }
+    ensures variables { IfOk result (λ f. IsOver circuit.now 1 f.clauses) }
+    ensures meaning { IfOk result (λ _. StepLaw circuit.now invariant.now (clause_at invariant.now k)) }
 {
-    model.parts();
-    let mut clauses = shared_clauses(alloc, model, invariant)?;
-    let table = NextTable::new(alloc, model)?;
-    let units = step_units(alloc, model, &table, invariant[k].as_slice())?;
+    circuit.well_formed();
+    let mut clauses = shared_clauses(alloc, circuit, invariant)?;
+    let table = NextTable::new(alloc, circuit)?;
+    let units = step_units(alloc, circuit, &table, invariant[k].as_slice())?;
     push_units(alloc, &mut clauses, units.as_slice())?;
-    Ok(formula(model, clauses))
+    Ok(formula(circuit, clauses))
 }
 
 /// The case that a state of the invariant sets this one of the circuit's literals.
 pub fn bad_case(
     alloc: Global,
-    model: &Model,
+    circuit: &Model,
     invariant: &[Seq<Lit>],
     bad: Lit,
 ) -> Result<Formula, Refused>
-    requires invariant { IsInvariant model.now invariant.now }
-    requires used { Contains (used model.now) bad }
-    ensures formula { IfOk result (λ f. f ≡ bad_formula model.now invariant.now bad) }
+    requires invariant { IsInvariant circuit.now invariant.now }
+    requires used { Contains (used circuit.now) bad }
+    ensures formula { IfOk result (λ f. f ≡ bad_formula circuit.now invariant.now bad) }
     ensures is_formula { IfOk result (λ f. IsFormula f) }
-    ensures variables { IfOk result (λ f. IsOver model.now 1 f.clauses) }
-    ensures meaning { IfOk result (λ _. BadLaw model.now invariant.now bad) }
+    ensures variables { IfOk result (λ f. IsOver circuit.now 1 f.clauses) }
+    ensures meaning { IfOk result (λ _. BadLaw circuit.now invariant.now bad) }
 {
-    model.parts();
-    let mut clauses = shared_clauses(alloc, model, invariant)?;
-    push_units(alloc, &mut clauses, &[bad_unit(model, bad)])?;
-    Ok(formula(model, clauses))
+    circuit.well_formed();
+    let mut clauses = shared_clauses(alloc, circuit, invariant)?;
+    push_units(alloc, &mut clauses, &[bad_unit(circuit, bad)])?;
+    Ok(formula(circuit, clauses))
 }

@@ -25,7 +25,7 @@ mod time_frame;
 mod units;
 mod unrolling;
 
-pub use bases::{frame, shared_base, start_base};
+pub use bases::{frame, shared_base, shared_row, start_base, start_row};
 pub use cases::{bad_case, init_case, step_case};
 pub use error::CnfError;
 pub use next_table::NextTable;

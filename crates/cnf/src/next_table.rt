@@ -40,12 +40,12 @@ fn along(negated: bool, lit: Lit) -> Lit
 
 impl NextTable {
     /// The table of the circuit's latches.
-    pub fn new(alloc: Global, model: &Model) -> Result<NextTable, Refused>
-        ensures { IfOk result (λ t. IsTableOf model.now.latches t) }
+    pub fn new(alloc: Global, circuit: &Model) -> Result<NextTable, Refused>
+        ensures { IfOk result (λ t. IsTableOf circuit.now.latches t) }
     {
-        model.parts();
-        let mut entries = filled(alloc, None, model.max_var() as usize + 1)?;
-        for latch in model.latches() {
+        circuit.well_formed();
+        let mut entries = filled(alloc, None, circuit.max_var() as usize + 1)?;
+        for latch in circuit.latches() {
             entries[latch.lit.variable() as usize] = Some(latch.next);
         }
         Ok(NextTable { entries })

@@ -8,20 +8,23 @@ ghost use Rattle.cnf.specs.Formulas.{IsGateIn, IsInRange};
 use crate::time_frame::TimeFrame;
 use base::Refused;
 use graph::{Gate, Latch, Lit, Seq};
-use lrat::Clause;
+use lrat::AddClause;
 use std::alloc::Global;
 
 /// Adds a clause.
-pub fn push(alloc: Global, clauses: &mut Seq<Clause>, clause: &[i32]) -> Result<(), Refused>
-    ensures { OnOk result (clauses.new ≡ clauses.old ++ clause.now ∷ []) }
+pub fn push<C: AddClause>(alloc: Global, clauses: &mut C, clause: &[i32]) -> Result<(), Refused>
+    ensures { OnOk result (C.clauses clauses.new ≡ C.clauses clauses.old ++ clause.now ∷ []) }
 {
-    clauses.push(Clause::from_slice(alloc, clause)?)?;
-    Ok(())
+    clauses.add_clause(alloc, clause)
 }
 
 /// Adds each literal as a clause of its own.
-pub fn push_units(alloc: Global, clauses: &mut Seq<Clause>, literals: &[i32]) -> Result<(), Refused>
-    ensures { OnOk result (clauses.new ≡ clauses.old ++ unit_clauses literals.now) }
+pub fn push_units<C: AddClause>(
+    alloc: Global,
+    clauses: &mut C,
+    literals: &[i32],
+) -> Result<(), Refused>
+    ensures { OnOk result (C.clauses clauses.new ≡ C.clauses clauses.old ++ unit_clauses literals.now) }
 {
     for literal in literals {
         push(alloc, clauses, &[*literal])?;
@@ -54,15 +57,15 @@ pub fn push_denials(literals: &mut Vec<i32>, time: TimeFrame, lits: &[Lit]) -> R
 }
 
 /// Adds each literal of the circuit as a unit.
-pub fn push_constraints(
+pub fn push_constraints<C: AddClause>(
     alloc: Global,
-    clauses: &mut Seq<Clause>,
+    clauses: &mut C,
     time: TimeFrame,
     lits: &[Lit],
 ) -> Result<(), Refused>
     requires fits { time.offset + time.max_var + 1 < 2 ^ 31 }
     requires in_range { All (IsInRange time.max_var) lits.now }
-    ensures { OnOk result (clauses.new ≡ clauses.old ++ unit_clauses (map (literal time.max_var time.offset) lits.now)) }
+    ensures { OnOk result (C.clauses clauses.new ≡ C.clauses clauses.old ++ unit_clauses (map (literal time.max_var time.offset) lits.now)) }
 {
     for lit in lits {
         push(alloc, clauses, &[time.literal(*lit)])?;
@@ -70,15 +73,15 @@ pub fn push_constraints(
     Ok(())
 }
 
-fn push_gate(
+fn push_gate<C: AddClause>(
     alloc: Global,
-    clauses: &mut Seq<Clause>,
+    clauses: &mut C,
     time: TimeFrame,
     gate: Gate,
 ) -> Result<(), Refused>
     requires fits { time.offset + time.max_var + 1 < 2 ^ 31 }
     requires in_range { IsGateIn time.max_var gate }
-    ensures { OnOk result (clauses.new ≡ clauses.old ++ gate_clauses time.max_var time.offset gate) }
+    ensures { OnOk result (C.clauses clauses.new ≡ C.clauses clauses.old ++ gate_clauses time.max_var time.offset gate) }
 {
     let left = time.literal(gate.lhs);
     let not_left = time.denial(gate.lhs);
@@ -93,15 +96,15 @@ fn push_gate(
 }
 
 /// Adds the clauses of the gates.
-pub fn push_gates(
+pub fn push_gates<C: AddClause>(
     alloc: Global,
-    clauses: &mut Seq<Clause>,
+    clauses: &mut C,
     time: TimeFrame,
     gates: &[Gate],
 ) -> Result<(), Refused>
     requires fits { time.offset + time.max_var + 1 < 2 ^ 31 }
     requires in_range { All (IsGateIn time.max_var) gates.now }
-    ensures { OnOk result (clauses.new ≡ clauses.old ++ flat_map (gate_clauses time.max_var time.offset) gates.now) }
+    ensures { OnOk result (C.clauses clauses.new ≡ C.clauses clauses.old ++ flat_map (gate_clauses time.max_var time.offset) gates.now) }
 {
     for gate in gates {
         push_gate(alloc, clauses, time, *gate)?;
@@ -109,15 +112,15 @@ pub fn push_gates(
     Ok(())
 }
 
-fn push_reset(
+fn push_reset<C: AddClause>(
     alloc: Global,
-    clauses: &mut Seq<Clause>,
+    clauses: &mut C,
     time: TimeFrame,
     latch: Latch,
 ) -> Result<(), Refused>
     requires fits { time.offset + time.max_var + 1 < 2 ^ 31 }
     requires in_range { IsInRange time.max_var latch.lit }
-    ensures { OnOk result (clauses.new ≡ clauses.old ++ reset_clauses time.max_var time.offset latch) }
+    ensures { OnOk result (C.clauses clauses.new ≡ C.clauses clauses.old ++ reset_clauses time.max_var time.offset latch) }
 {
     match latch.reset.0 {
         0 => push(alloc, clauses, &[time.denial(latch.lit)]),
@@ -127,15 +130,15 @@ fn push_reset(
 }
 
 /// Adds the units of the latches that are reset to a value.
-pub fn push_resets(
+pub fn push_resets<C: AddClause>(
     alloc: Global,
-    clauses: &mut Seq<Clause>,
+    clauses: &mut C,
     time: TimeFrame,
     latches: &[Latch],
 ) -> Result<(), Refused>
     requires fits { time.offset + time.max_var + 1 < 2 ^ 31 }
     requires in_range { All (λ l. IsInRange time.max_var l.lit) latches.now }
-    ensures { OnOk result (clauses.new ≡ clauses.old ++ flat_map (reset_clauses time.max_var time.offset) latches.now) }
+    ensures { OnOk result (C.clauses clauses.new ≡ C.clauses clauses.old ++ flat_map (reset_clauses time.max_var time.offset) latches.now) }
 {
     for latch in latches {
         push_reset(alloc, clauses, time, *latch)?;
@@ -144,15 +147,15 @@ pub fn push_resets(
 }
 
 /// Adds the clauses of an invariant.
-pub fn push_invariant(
+pub fn push_invariant<C: AddClause>(
     alloc: Global,
-    clauses: &mut Seq<Clause>,
+    clauses: &mut C,
     time: TimeFrame,
     invariant: &[Seq<Lit>],
 ) -> Result<(), Refused>
     requires fits { time.offset + time.max_var + 1 < 2 ^ 31 }
     requires in_range { All (λ c. All (IsInRange time.max_var) c) invariant.now }
-    ensures { OnOk result (clauses.new ≡ clauses.old ++ map (map (literal time.max_var time.offset)) invariant.now) }
+    ensures { OnOk result (C.clauses clauses.new ≡ C.clauses clauses.old ++ map (map (literal time.max_var time.offset)) invariant.now) }
 {
     let mut literals = Vec::new(alloc);
     for clause in invariant {

@@ -30,27 +30,27 @@ fn signed(negated: bool, variable: u32) -> i32
 
 impl TimeFrame {
     /// The variables of the first time.
-    pub fn first(model: &Model) -> TimeFrame
-        ensures max_var { result.max_var ≡ model.now.max_var }
+    pub fn first(circuit: &Model) -> TimeFrame
+        ensures max_var { result.max_var ≡ circuit.now.max_var }
         ensures offset { result.offset ≡ 0 }
     {
         TimeFrame {
-            max_var: model.max_var(),
+            max_var: circuit.max_var(),
             offset: 0,
         }
     }
 
-    /// The variables of the time after so many steps, at most 255.
-    pub fn after(model: &Model, steps: u32) -> TimeFrame
+    /// The variables of the time after this number of steps, at most 255.
+    pub fn after(circuit: &Model, steps: u32) -> TimeFrame
         requires { steps ≤ 255 }
-        ensures max_var { result.max_var ≡ model.now.max_var }
-        ensures offset { result.offset ≡ steps * (model.now.max_var + 1) }
-        ensures fits { result.offset + 2 * (model.now.max_var + 1) < 2 ^ 31 }
+        ensures max_var { result.max_var ≡ circuit.now.max_var }
+        ensures offset { result.offset ≡ steps * (circuit.now.max_var + 1) }
+        ensures fits { result.offset + 2 * (circuit.now.max_var + 1) < 2 ^ 31 }
     {
-        model.parts();
+        circuit.well_formed();
         TimeFrame {
-            max_var: model.max_var(),
-            offset: steps * (model.max_var() + 1),
+            max_var: circuit.max_var(),
+            offset: steps * (circuit.max_var() + 1),
         }
     }
 

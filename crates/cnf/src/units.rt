@@ -15,14 +15,14 @@ use graph::{Lit, Model};
 use std::alloc::Global;
 
 /// The units of the initial case of a clause: each of its literals is denied.
-pub fn init_units(alloc: Global, model: &Model, clause: &[Lit]) -> Result<Vec<i32>, Refused>
-    requires { IsOverLatches model.now clause.now }
-    ensures units { IfOk result (λ v. v.items ≡ init_units_of model.now clause.now) }
-    ensures in_range { IfOk result (λ v. All (IsLiteral (model.now.max_var + 1)) v.items) }
+pub fn init_units(alloc: Global, circuit: &Model, clause: &[Lit]) -> Result<Vec<i32>, Refused>
+    requires { IsOverLatches circuit.now clause.now }
+    ensures units { IfOk result (λ v. v.items ≡ init_units_of circuit.now clause.now) }
+    ensures in_range { IfOk result (λ v. All (IsLiteral (circuit.now.max_var + 1)) v.items) }
 {
-    model.parts();
+    circuit.well_formed();
     let mut units = Vec::new(alloc);
-    push_denials(&mut units, TimeFrame::first(model), clause)?;
+    push_denials(&mut units, TimeFrame::first(circuit), clause)?;
     Ok(units)
 }
 
@@ -30,17 +30,17 @@ pub fn init_units(alloc: Global, model: &Model, clause: &[Lit]) -> Result<Vec<i3
 /// by that latch's next literal.
 pub fn step_units(
     alloc: Global,
-    model: &Model,
+    circuit: &Model,
     table: &NextTable,
     clause: &[Lit],
 ) -> Result<Vec<i32>, Refused>
-    requires over { IsOverLatches model.now clause.now }
-    requires table { IsTableOf model.now.latches table.now }
-    ensures units { IfOk result (λ v. v.items ≡ step_units_of model.now clause.now) }
-    ensures in_range { IfOk result (λ v. All (IsLiteral (model.now.max_var + 1)) v.items) }
+    requires over { IsOverLatches circuit.now clause.now }
+    requires table { IsTableOf circuit.now.latches table.now }
+    ensures units { IfOk result (λ v. v.items ≡ step_units_of circuit.now clause.now) }
+    ensures in_range { IfOk result (λ v. All (IsLiteral (circuit.now.max_var + 1)) v.items) }
 {
-    model.parts();
-    let time = TimeFrame::first(model);
+    circuit.well_formed();
+    let time = TimeFrame::first(circuit);
     let mut units = Vec::new(alloc);
     for lit in clause {
         push(&mut units, time.denial(table.next_of(*lit)))?;
@@ -49,11 +49,11 @@ pub fn step_units(
 }
 
 /// The unit of the bad case of one of the circuit's literals.
-pub fn bad_unit(model: &Model, bad: Lit) -> i32
-    requires { Contains (used model.now) bad }
-    ensures unit { result ≡ literal model.now.max_var 0 bad }
-    ensures in_range { IsLiteral (model.now.max_var + 1) result }
+pub fn bad_unit(circuit: &Model, bad: Lit) -> i32
+    requires { Contains (used circuit.now) bad }
+    ensures unit { result ≡ literal circuit.now.max_var 0 bad }
+    ensures in_range { IsLiteral (circuit.now.max_var + 1) result }
 {
-    model.parts();
-    TimeFrame::first(model).literal(bad)
+    circuit.well_formed();
+    TimeFrame::first(circuit).literal(bad)
 }

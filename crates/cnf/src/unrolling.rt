@@ -25,17 +25,17 @@ const GREATEST: u32 = 255;
 fn push_time(
     alloc: Global,
     clauses: &mut Seq<Clause>,
-    model: &Model,
+    circuit: &Model,
     time: TimeFrame,
 ) -> Result<(), Refused>
-    requires max_var { time.max_var ≡ model.now.max_var }
+    requires max_var { time.max_var ≡ circuit.now.max_var }
     requires fits { time.offset + time.max_var + 1 < 2 ^ 31 }
-    ensures { OnOk result (clauses.new ≡ clauses.old ++ time_clauses model.now time.offset) }
+    ensures { OnOk result (clauses.new ≡ clauses.old ++ time_clauses circuit.now time.offset) }
 {
-    model.parts();
+    circuit.well_formed();
     push(alloc, clauses, &[time.truth()])?;
-    push_gates(alloc, clauses, time, model.gates())?;
-    push_constraints(alloc, clauses, time, model.constraints())?;
+    push_gates(alloc, clauses, time, circuit.gates())?;
+    push_constraints(alloc, clauses, time, circuit.constraints())?;
     Ok(())
 }
 
@@ -65,7 +65,7 @@ fn push_join(
     Ok(())
 }
 
-/// Each latch takes over the value of its next literal.
+/// Each latch gets the value of its next literal.
 fn push_joins(
     alloc: Global,
     clauses: &mut Seq<Clause>,
@@ -87,87 +87,87 @@ fn push_joins(
 fn push_times(
     alloc: Global,
     clauses: &mut Seq<Clause>,
-    model: &Model,
+    circuit: &Model,
     steps: u32,
 ) -> Result<(), Refused>
     requires { steps ≤ 255 }
-    ensures { OnOk result (clauses.new ≡ clauses.old ++ times_from model.now steps 0) }
+    ensures { OnOk result (clauses.new ≡ clauses.old ++ times_from circuit.now steps 0) }
 {
-    model.parts();
-    let mut time = TimeFrame::first(model);
+    circuit.well_formed();
+    let mut time = TimeFrame::first(circuit);
     for _step in 0..steps {
-        push_time(alloc, clauses, model, time)?;
-        push_joins(alloc, clauses, time, model.latches())?;
+        push_time(alloc, clauses, circuit, time)?;
+        push_joins(alloc, clauses, time, circuit.latches())?;
         time = time.next();
     }
-    push_time(alloc, clauses, model, time)?;
+    push_time(alloc, clauses, circuit, time)?;
     Ok(())
 }
 
-fn unroll_clauses(alloc: Global, model: &Model, steps: u32) -> Result<Seq<Clause>, Refused>
+fn unroll_clauses(alloc: Global, circuit: &Model, steps: u32) -> Result<Seq<Clause>, Refused>
     requires { steps ≤ 255 }
-    ensures { IfOk result (λ s. s ≡ unroll_list model.now steps) }
+    ensures { IfOk result (λ s. s ≡ unroll_list circuit.now steps) }
 {
-    model.parts();
+    circuit.well_formed();
     let mut clauses = Seq::new(alloc);
     push_resets(
         alloc,
         &mut clauses,
-        TimeFrame::first(model),
-        model.latches(),
+        TimeFrame::first(circuit),
+        circuit.latches(),
     )?;
-    push_times(alloc, &mut clauses, model, steps)?;
+    push_times(alloc, &mut clauses, circuit, steps)?;
     Ok(clauses)
 }
 
-/// The runs of so many steps that keep the constraints, at most 255. Variable `v` at time `t` is
+/// The runs of this number of steps that keep the constraints, at most 255. Variable `v` at time `t` is
 /// `t * (M + 1) + v`, where `M` is the greatest variable. It costs `steps + 1` circuits.
-pub fn unroll(alloc: Global, model: &Model, steps: u32) -> Result<Formula, CnfError>
-    ensures formula { IfOk result (λ f. (steps ≤ 255) × (f ≡ unroll_formula model.now steps)) }
+pub fn unroll(alloc: Global, circuit: &Model, steps: u32) -> Result<Formula, CnfError>
+    ensures formula { IfOk result (λ f. (steps ≤ 255) × (f ≡ unroll_formula circuit.now steps)) }
     ensures refused { IfErr result (λ e. (e ≡ OutOfMemory witness) ⊎ ((e ≡ Limit) × (255 < steps))) }
     ensures is_formula { IfOk result (λ f. IsFormula f) }
-    ensures variables { IfOk result (λ f. IsOver model.now (steps + 1) f.clauses) }
-    ensures meaning { IfOk result (λ _. UnrollLaw model.now steps) }
+    ensures variables { IfOk result (λ f. IsOver circuit.now (steps + 1) f.clauses) }
+    ensures meaning { IfOk result (λ _. UnrollLaw circuit.now steps) }
 {
     if steps > GREATEST {
         return Err(CnfError::Limit);
     }
-    model.parts();
-    let clauses = unroll_clauses(alloc, model, steps)?;
+    circuit.well_formed();
+    let clauses = unroll_clauses(alloc, circuit, steps)?;
     Ok(Formula {
-        vars: (steps + 1) * (model.max_var() + 1),
+        vars: (steps + 1) * (circuit.max_var() + 1),
         clauses,
     })
 }
 
 /// The joins with the time before, and that time.
-fn extension_clauses(alloc: Global, model: &Model, steps: u32) -> Result<Seq<Clause>, Refused>
+fn extension_clauses(alloc: Global, circuit: &Model, steps: u32) -> Result<Seq<Clause>, Refused>
     requires { steps ≤ 255 }
-    ensures { IfOk result (IsExtension model.now steps) }
+    ensures { IfOk result (IsExtension circuit.now steps) }
 {
     if steps == 0 {
-        return unroll_clauses(alloc, model, 0);
+        return unroll_clauses(alloc, circuit, 0);
     }
-    model.parts();
-    let before = TimeFrame::after(model, steps - 1);
+    circuit.well_formed();
+    let before = TimeFrame::after(circuit, steps - 1);
     let mut clauses = Seq::new(alloc);
-    push_joins(alloc, &mut clauses, before, model.latches())?;
-    push_time(alloc, &mut clauses, model, before.next())?;
+    push_joins(alloc, &mut clauses, before, circuit.latches())?;
+    push_time(alloc, &mut clauses, circuit, before.next())?;
     Ok(clauses)
 }
 
-/// The clauses that the unrolling of so many steps has beyond that of one step less: of 0 steps,
+/// The clauses that the unrolling of this number of steps has beyond that of one step less: of 0 steps,
 /// all. So an unrolling can grow step by step. It costs one circuit.
-pub fn extension(alloc: Global, model: &Model, steps: u32) -> Result<Seq<Clause>, CnfError>
-    ensures clauses { IfOk result (λ s. (steps ≤ 255) × IsExtension model.now steps s) }
-    ensures literals { IfOk result (λ s. All (All (IsLiteral ((steps + 1) * (model.now.max_var + 1)))) s) }
-    ensures variables { IfOk result (λ _. IsOver model.now (steps + 1) (unroll_list model.now steps)) }
-    ensures meaning { IfOk result (λ _. UnrollLaw model.now steps) }
+pub fn extension(alloc: Global, circuit: &Model, steps: u32) -> Result<Seq<Clause>, CnfError>
+    ensures clauses { IfOk result (λ s. (steps ≤ 255) × IsExtension circuit.now steps s) }
+    ensures literals { IfOk result (λ s. All (All (IsLiteral ((steps + 1) * (circuit.now.max_var + 1)))) s) }
+    ensures variables { IfOk result (λ _. IsOver circuit.now (steps + 1) (unroll_list circuit.now steps)) }
+    ensures meaning { IfOk result (λ _. UnrollLaw circuit.now steps) }
     ensures refused { IfErr result (λ e. (e ≡ OutOfMemory witness) ⊎ ((e ≡ Limit) × (255 < steps))) }
 {
     if steps > GREATEST {
         return Err(CnfError::Limit);
     }
-    model.parts();
-    Ok(extension_clauses(alloc, model, steps)?)
+    circuit.well_formed();
+    Ok(extension_clauses(alloc, circuit, steps)?)
 }

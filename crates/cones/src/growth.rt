@@ -19,25 +19,25 @@ use std::alloc::Global;
 /// what is new. After an `Err` the marks are worth nothing.
 pub fn grow_cone(
     alloc: Global,
-    model: &Model,
+    circuit: &Model,
     table: &GateTable,
     wanted: &[Lit],
     marks: &mut [bool],
 ) -> Result<Vec<Gate>, Refused>
-    requires table { IsGateTable model.now table.now }
-    requires places { length marks.old ≡ model.now.max_var + 1 }
-    requires wanted { All (λ a. variable a ≤ model.now.max_var) wanted.now }
-    requires cone { IsCone model.now (IsMarked marks.old) }
-    ensures places { OnOk result (length marks.new ≡ model.now.max_var + 1) }
-    ensures cone { OnOk result (IsCone model.now (IsMarked marks.new)) }
+    requires table { IsGateTable circuit.now table.now }
+    requires places { length marks.old ≡ circuit.now.max_var + 1 }
+    requires wanted { All (λ a. variable a ≤ circuit.now.max_var) wanted.now }
+    requires cone { IsCone circuit.now (IsMarked marks.old) }
+    ensures places { OnOk result (length marks.new ≡ circuit.now.max_var + 1) }
+    ensures cone { OnOk result (IsCone circuit.now (IsMarked marks.new)) }
     ensures kept { OnOk result (IsInside marks.old marks.new) }
     ensures wanted { OnOk result (All (λ a. IsMarked marks.new (variable a)) wanted.now) }
-    ensures gates { IfOk result (λ gates. All (Contains model.now.gates) gates.items) }
-    ensures clauses { (cs : List (List ℤ)) → HasGates model.now (IsMarked marks.old) cs →
-        IfOk result (λ gates. HasGates model.now (IsMarked marks.new) (cs ++ flat_map (gate_clauses model.now.max_var 0) gates.items)) }
+    ensures gates { IfOk result (λ gates. All (Contains circuit.now.gates) gates.items) }
+    ensures clauses { (cs : List (List ℤ)) → HasGates circuit.now (IsMarked marks.old) cs →
+        IfOk result (λ gates. HasGates circuit.now (IsMarked marks.new) (cs ++ flat_map (gate_clauses circuit.now.max_var 0) gates.items)) }
 {
-    model.parts();
-    let list = extend(alloc, model, table, Reach::Cone, &[], wanted, marks)?;
+    circuit.well_formed();
+    let list = extend(alloc, circuit, table, Reach::Cone, &[], wanted, marks)?;
     let gates = gates_of(alloc, table, &list)?;
     Ok(gates)
 }

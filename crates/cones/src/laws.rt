@@ -6,26 +6,26 @@ ghost use Rattle.cones.specs.Partial.{PartialLaw, CompletionLaw, AnswerLaw, Part
 use graph::Model;
 
 /// Valuations that are the same at the leaves of a justification, or of a cone, are the same at all of it.
-pub fn value_laws(model: &Model)
-    ensures lifting { LiftingLaw model.now }
-    ensures lifted { LiftedLaw model.now }
-    ensures cone { ConeLaw model.now }
-    ensures existence { ExistenceLaw model.now }
+pub fn value_laws(circuit: &Model)
+    ensures lifting { LiftingLaw circuit.now }
+    ensures lifted { LiftedLaw circuit.now }
+    ensures cone { ConeLaw circuit.now }
+    ensures existence { ExistenceLaw circuit.now }
 {
-    model.parts();
-    model.order();
+    circuit.well_formed();
+    circuit.order();
 }
 
 /// What satisfies the clauses of a cone alone extends to a valuation of the whole circuit.
-pub fn clause_laws(model: &Model)
-    ensures partial { PartialLaw model.now }
-    ensures completion { CompletionLaw model.now }
-    ensures answer { AnswerLaw model.now }
+pub fn clause_laws(circuit: &Model)
+    ensures partial { PartialLaw circuit.now }
+    ensures completion { CompletionLaw circuit.now }
+    ensures answer { AnswerLaw circuit.now }
     ensures part { PartLaw }
-    ensures growth { GrowthLaw model.now }
-    ensures listed { ListedLaw model.now }
-    ensures served { ModelLaw model.now }
+    ensures growth { GrowthLaw circuit.now }
+    ensures listed { ListedLaw circuit.now }
+    ensures served { ModelLaw circuit.now }
 {
-    model.parts();
-    model.order();
+    circuit.well_formed();
+    circuit.order();
 }

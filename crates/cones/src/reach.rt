@@ -2,14 +2,14 @@
 
 ghost use Rattle.std.specs.Prelude.{◌≡◌, ℕ, ◌+◌, ◌<◌, ◌≤◌, List, Bool, [], ◌∷◌, length, map, slice_index, All, OnOk, IfOk};
 ghost use Rattle.graph.specs.declared.parts.Parts.{Parts};
-ghost use Rattle.graph.specs.Valuation.{variable, value_of, Fires};
+ghost use Rattle.graph.specs.Valuation.{variable, Fires};
 ghost use Rattle.cones.specs.Marks.{IsMarked, IsCone};
 ghost use Rattle.cones.specs.Reach.{IsGateTable, IsSettled, IsClosed, Serves, Grows, IsDomain, IsInside, IsFrom, IsExtended};
 ghost use Rattle.cones.specs.declared.reach.Reach.TheVariants.{Cone, Justification};
 
 use crate::table::GateTable;
 use base::{Refused, push};
-use graph::{Gate, Lit, Model};
+use graph::{Gate, Lit, Model, literal_value};
 use std::alloc::Global;
 
 /// What a marked gate wants marked.
@@ -20,15 +20,6 @@ pub enum Reach {
     /// What gives the gate its value: both right sides where it is true, and else one that is
     /// false.
     Justification,
-}
-
-/// Whether the literal is true.
-fn is_true(values: &[bool], lit: Lit) -> bool
-    requires { variable lit < length values.now }
-    ensures { result ≡ value_of values.now lit }
-{
-    let at = values[lit.variable() as usize];
-    if lit.is_negated() { !at } else { at }
 }
 
 /// Marks the variable, and adds it to the list where it was not marked.
@@ -79,8 +70,8 @@ fn mark_justification(
     ensures settled { OnOk result (IsSettled Justification values.now marks.new gate) }
     ensures from { OnOk result (IsFrom (variable gate.rhs0 ∷ variable gate.rhs1 ∷ []) marks.old marks.new) }
 {
-    let first = is_true(values, gate.rhs0);
-    let second = is_true(values, gate.rhs1);
+    let first = literal_value(gate.rhs0, values);
+    let second = literal_value(gate.rhs1, values);
     if first && second {
         mark_both(marks, list, gate)?;
         return Ok(());
@@ -135,7 +126,7 @@ fn mark_all(marks: &mut [bool], list: &mut Vec<u32>, lits: &[Lit]) -> Result<(),
 
 /// Marks what the gate of the listed variable wants marked, if the variable is a gate's.
 fn visit(
-    model: &Model,
+    circuit: &Model,
     table: &GateTable,
     reach: Reach,
     values: &[bool],
@@ -143,16 +134,16 @@ fn visit(
     list: &mut Vec<u32>,
     next: usize,
 ) -> Result<(), Refused>
-    requires table { IsGateTable model.now table.now }
-    requires places { length marks.old ≡ model.now.max_var + 1 }
-    requires domain { (d : List Bool) × IsDomain model.now reach values.now d × IsInside marks.old d }
+    requires table { IsGateTable circuit.now table.now }
+    requires places { length marks.old ≡ circuit.now.max_var + 1 }
+    requires domain { (d : List Bool) × IsDomain circuit.now reach values.now d × IsInside marks.old d }
     requires inside { next < length list.old.items }
     requires listed { IsMarked marks.old (slice_index list.old.items next) }
     ensures grows { OnOk result (Grows [] marks.old list.old.items marks.new list.new.items) }
-    ensures settled { OnOk result (All (λ g. variable g.lhs ≡ slice_index list.old.items next → IsSettled reach values.now marks.new g) model.now.gates) }
-    ensures inside { (d : List Bool) → IsCone model.now (IsMarked d) → IsInside marks.old d → OnOk result (IsInside marks.new d) }
+    ensures settled { OnOk result (All (λ g. variable g.lhs ≡ slice_index list.old.items next → IsSettled reach values.now marks.new g) circuit.now.gates) }
+    ensures inside { (d : List Bool) → IsCone circuit.now (IsMarked d) → IsInside marks.old d → OnOk result (IsInside marks.new d) }
 {
-    model.parts();
+    circuit.well_formed();
     let Some(gate) = table.gate_of(list[next]) else {
         return Ok(());
     };
@@ -164,25 +155,25 @@ fn visit(
 /// costs what it lists.
 pub fn extend(
     alloc: Global,
-    model: &Model,
+    circuit: &Model,
     table: &GateTable,
     reach: Reach,
     values: &[bool],
     wanted: &[Lit],
     marks: &mut [bool],
 ) -> Result<Vec<u32>, Refused>
-    requires table { IsGateTable model.now table.now }
-    requires places { length marks.old ≡ model.now.max_var + 1 }
-    requires wanted { All (λ a. variable a ≤ model.now.max_var) wanted.now }
-    requires domain { (d : List Bool) × IsDomain model.now reach values.now d × IsInside marks.old d × All (λ a. IsMarked d (variable a)) wanted.now }
-    requires closed { IsClosed model.now reach values.now marks.old }
-    ensures { IfOk result (λ list. IsExtended model.now reach values.now wanted.now marks.old marks.new list.items) }
+    requires table { IsGateTable circuit.now table.now }
+    requires places { length marks.old ≡ circuit.now.max_var + 1 }
+    requires wanted { All (λ a. variable a ≤ circuit.now.max_var) wanted.now }
+    requires domain { (d : List Bool) × IsDomain circuit.now reach values.now d × IsInside marks.old d × All (λ a. IsMarked d (variable a)) wanted.now }
+    requires closed { IsClosed circuit.now reach values.now marks.old }
+    ensures { IfOk result (λ list. IsExtended circuit.now reach values.now wanted.now marks.old marks.new list.items) }
 {
     let mut list = Vec::new(alloc);
     mark_all(marks, &mut list, wanted)?;
     let mut next: usize = 0;
     'closing: while next < list.len() {
-        visit(model, table, reach, values, marks, &mut list, next)?;
+        visit(circuit, table, reach, values, marks, &mut list, next)?;
         next += 1;
     }
     Ok(list)

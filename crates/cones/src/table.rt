@@ -26,12 +26,12 @@ impl std::marker::Model for GateTable {
 
 impl GateTable {
     /// The table of the circuit's gates.
-    pub fn new(alloc: Global, model: &Model) -> Result<GateTable, Refused>
-        ensures { IfOk result (λ t. IsGateTable model.now t) }
+    pub fn new(alloc: Global, circuit: &Model) -> Result<GateTable, Refused>
+        ensures { IfOk result (λ t. IsGateTable circuit.now t) }
     {
-        model.parts();
-        let mut entries = filled(alloc, None, model.max_var() as usize + 1)?;
-        for gate in model.gates() {
+        circuit.well_formed();
+        let mut entries = filled(alloc, None, circuit.max_var() as usize + 1)?;
+        for gate in circuit.gates() {
             entries[gate.lhs.variable() as usize] = Some(*gate);
         }
         Ok(GateTable { entries })

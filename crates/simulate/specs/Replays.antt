@@ -21,7 +21,7 @@ pub record IsTheValuation (m : Parts) (state inputs : List Bool) (w : Valuation)
   pub has_inputs : inputs_of m w ≡ inputs
   pub only : (x : Valuation) → Agrees m x → state_of m x ≡ state → inputs_of m x ≡ inputs → x ≡ w
 
--- one time passes: the one valuation of the state and the inputs, and the state that the latches take over from it
+-- one time passes: the one valuation of the state and the inputs, and the next state
 pub record Steps (before after : Replayed) (inputs : List Bool) : Type 0 where
   pub now : Valuation
   pub is_now : after.now ≡ Some now

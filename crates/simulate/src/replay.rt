@@ -10,14 +10,14 @@ ghost use Rattle.simulate.specs.Starts.{Starts};
 use crate::initial::first_against;
 use crate::replay_error::ReplayError;
 use base::{copied, filled};
-use graph::{Latch, Lit, Model};
+use graph::{Latch, Lit, Model, literal_value};
 use std::alloc::Global;
 
 /// A circuit at one time after another. Contracts see the circuit, the state of the next time to be
 /// stepped, and the valuation of the time that was stepped last.
 #[derive(Debug, Drop)]
 pub struct Replay<'a> {
-    model: &'a Model,
+    circuit: &'a Model,
     // the state of the next time to be stepped
     state: Vec<bool>,
     // the values of the variables at the time stepped last
@@ -32,18 +32,9 @@ impl<'a> std::marker::Model for Replay<'a> {
 
     ghost Value = { Replayed };
 
-    ghost view = { λ r. record { circuit = r.model.now; state = r.state.items; now = if r.is_stepped then Some r.values.items else None } };
+    ghost view = { λ r. record { circuit = r.circuit.now; state = r.state.items; now = if r.is_stepped then Some r.values.items else None } };
 
-    ghost invariant = { λ r. (length r.state.items ≡ length r.model.now.latches) × (length r.values.items ≡ r.model.now.max_var + 1) };
-}
-
-/// The truth value of a literal.
-fn literal_value(values: &[bool], lit: Lit) -> bool
-    requires { variable lit < length values.now }
-    ensures { result ≡ value_of values.now lit }
-{
-    let at = values[lit.variable() as usize];
-    if lit.is_negated() { !at } else { at }
+    ghost invariant = { λ r. (length r.state.items ≡ length r.circuit.now.latches) × (length r.values.items ≡ r.circuit.now.max_var + 1) };
 }
 
 /// Gives each latch the value of its next literal.
@@ -53,20 +44,24 @@ fn take_over(latches: &[Latch], values: &[bool], state: &mut [bool])
     ensures { state.new ≡ map (λ l. value_of values.now l.next) latches.now }
 {
     for (i, latch) in latches.iter().enumerate() {
-        state[i] = literal_value(values, latch.next);
+        state[i] = literal_value(latch.next, values);
     }
 }
 
 impl<'a> Replay<'a> {
     /// A replay that begins in this state. It takes memory for the state and a valuation, and none
     /// after that.
-    pub fn new(alloc: Global, model: &'a Model, initial: &[bool]) -> Result<Replay<'a>, ReplayError>
-        requires { length initial.now ≡ length model.now.latches }
-        ensures begun { IfOk result (λ r. (r ≡ begun model.now initial.now) × Starts model.now.latches initial.now) }
-        ensures refused { IfErr result (HasCause model.now.latches initial.now) }
-        ensures exact { IfErr result (λ e. e ≢ ReplayError.OutOfMemory witness → Starts model.now.latches initial.now → ⊥) }
+    pub fn new(
+        alloc: Global,
+        circuit: &'a Model,
+        initial: &[bool],
+    ) -> Result<Replay<'a>, ReplayError>
+        requires { length initial.now ≡ length circuit.now.latches }
+        ensures begun { IfOk result (λ r. (r ≡ begun circuit.now initial.now) × Starts circuit.now.latches initial.now) }
+        ensures refused { IfErr result (HasCause circuit.now.latches initial.now) }
+        ensures exact { IfErr result (λ e. e ≢ ReplayError.OutOfMemory witness → Starts circuit.now.latches initial.now → ⊥) }
     {
-        let parts = model.parts();
+        let parts = circuit.parts();
         if let Some(latch) = first_against(parts.latches.as_slice(), initial) {
             return Err(ReplayError::InitialReset {
                 latch: latch as u32,
@@ -75,7 +70,7 @@ impl<'a> Replay<'a> {
         let state = copied(alloc, initial)?;
         let values = filled(alloc, false, parts.max_var as usize + 1)?;
         Ok(Replay {
-            model,
+            circuit,
             state,
             values,
             is_stepped: false,
@@ -88,10 +83,10 @@ impl<'a> Replay<'a> {
         requires { length inputs.now ≡ length self.old.circuit.inputs }
         ensures { Steps self.old self.new inputs.now }
     {
-        let model = self.model;
-        model.eval(&self.state, inputs, &mut self.values);
+        let circuit = self.circuit;
+        circuit.eval(&self.state, inputs, &mut self.values);
         take_over(
-            model.parts().latches.as_slice(),
+            circuit.parts().latches.as_slice(),
             &self.values,
             &mut self.state,
         );
@@ -111,6 +106,6 @@ impl<'a> Replay<'a> {
         requires in_range { variable lit ≤ self.now.circuit.max_var }
         ensures { IfSome self.now.now (λ w. result ≡ value_of w lit) }
     {
-        literal_value(&self.values, lit)
+        literal_value(lit, &self.values)
     }
 }

@@ -19,7 +19,7 @@ use std::simd::u64x4;
 /// the circuit, the states of the next time to be stepped, and the values at the time that was stepped last.
 #[derive(Debug, Drop)]
 pub struct Wide<'a> {
-    model: &'a Model,
+    circuit: &'a Model,
     // the circuit's gates, each after those that it reads
     gates: Vec<Gate>,
     // the states of the next time to be stepped
@@ -36,21 +36,25 @@ impl<'a> std::marker::Model for Wide<'a> {
 
     ghost Value = { WideReplayed };
 
-    ghost view = { λ r. record { circuit = r.model.now; state = r.state.items; now = if r.is_stepped then Some r.values.items else None } };
+    ghost view = { λ r. record { circuit = r.circuit.now; state = r.state.items; now = if r.is_stepped then Some r.values.items else None } };
 
-    ghost invariant = { λ r. (length r.state.items ≡ length r.model.now.latches) × (length r.values.items ≡ r.model.now.max_var + 1) × AreDefinedOnly r.model.now r.values.items × AreInOrder r.model.now.gates r.gates.items };
+    ghost invariant = { λ r. (length r.state.items ≡ length r.circuit.now.latches) × (length r.values.items ≡ r.circuit.now.max_var + 1) × AreDefinedOnly r.circuit.now r.values.items × AreInOrder r.circuit.now.gates r.gates.items };
 }
 
 impl<'a> Wide<'a> {
     /// Runs that begin in these states: the values of each latch, in the order of the latches. It takes memory
     /// for the states and a valuation of each run, and for the gates once more, and none after that.
-    pub fn new(alloc: Global, model: &'a Model, initial: &[u64x4]) -> Result<Wide<'a>, ReplayError>
-        requires { length initial.now ≡ length model.now.latches }
-        ensures begun { IfOk result (λ w. (w ≡ wide_begun model.now initial.now) × AllStart model.now.latches initial.now) }
-        ensures refused { IfErr result (HasWideCause model.now.latches initial.now) }
-        ensures exact { IfErr result (λ e. e ≢ ReplayError.OutOfMemory witness → AllStart model.now.latches initial.now → ⊥) }
+    pub fn new(
+        alloc: Global,
+        circuit: &'a Model,
+        initial: &[u64x4],
+    ) -> Result<Wide<'a>, ReplayError>
+        requires { length initial.now ≡ length circuit.now.latches }
+        ensures begun { IfOk result (λ w. (w ≡ wide_begun circuit.now initial.now) × AllStart circuit.now.latches initial.now) }
+        ensures refused { IfErr result (HasWideCause circuit.now.latches initial.now) }
+        ensures exact { IfErr result (λ e. e ≢ ReplayError.OutOfMemory witness → AllStart circuit.now.latches initial.now → ⊥) }
     {
-        let parts = model.parts();
+        let parts = circuit.parts();
         if let Some(latch) = first_against_any(parts.latches.as_slice(), initial) {
             return Err(ReplayError::InitialReset {
                 latch: latch as u32,
@@ -58,9 +62,9 @@ impl<'a> Wide<'a> {
         }
         let state = copied(alloc, initial)?;
         let values = filled(alloc, all(false), parts.max_var as usize + 1)?;
-        let gates = in_order(alloc, parts.gates.as_slice(), model.order())?;
+        let gates = in_order(alloc, parts.gates.as_slice(), circuit.order())?;
         Ok(Wide {
-            model,
+            circuit,
             gates,
             state,
             values,
@@ -74,8 +78,8 @@ impl<'a> Wide<'a> {
         requires { length inputs.now ≡ length self.old.circuit.inputs }
         ensures { AllStep self.old self.new inputs.now }
     {
-        let model = self.model;
-        let parts = model.parts();
+        let circuit = self.circuit;
+        let parts = circuit.parts();
         evaluate(parts, &self.gates, &self.state, inputs, &mut self.values);
         move_on(parts.latches.as_slice(), &self.values, &mut self.state);
         self.is_stepped = true;

@@ -7,13 +7,13 @@ use Rattle.cnf.proofs.cases.init_case.Goals as goal
 
 pub returns-clause-is_formula : goal.returns-clause-is_formula
 returns-clause-is_formula c =
-    let e : c.formula.result ≡ init_formula c.args.model.now c.args.clause.now = search rules in
-    subst (λ f. IsFormula f) (sym e) (init_formed c.args.model.now c.args.clause.now c.parts.ensures.well_formed c.requires)
+    let e : c.formula.result ≡ init_formula c.args.circuit.now c.args.clause.now = search rules in
+    subst (λ f. IsFormula f) (sym e) (init_formed c.args.circuit.now c.args.clause.now c.well_formed-2.ensures c.requires)
 
 pub returns-clause-variables : goal.returns-clause-variables
 returns-clause-variables c =
-    let e : c.formula.result ≡ init_formula c.args.model.now c.args.clause.now = search rules in
-    subst (λ f. IsOver c.args.model.now 1 f.clauses) (sym e) (init_over c.args.model.now c.args.clause.now c.requires.over)
+    let e : c.formula.result ≡ init_formula c.args.circuit.now c.args.clause.now = search rules in
+    subst (λ f. IsOver c.args.circuit.now 1 f.clauses) (sym e) (init_over c.args.circuit.now c.args.clause.now c.requires.over)
 
 pub returns-clause-meaning : goal.returns-clause-meaning
-returns-clause-meaning c = init_law c.args.model.now c.args.clause.now c.parts.ensures.well_formed c.requires.over
+returns-clause-meaning c = init_law c.args.circuit.now c.args.clause.now c.well_formed-2.ensures c.requires.over

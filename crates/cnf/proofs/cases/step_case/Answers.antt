@@ -10,28 +10,28 @@ pub step_units-requires-clause-over : goal.step_units-requires-clause-over
 step_units-requires-clause-over c =
     let at : c.as_slice.result.now ≡ clause_at c.args.invariant.now c.args.k =
     c.as_slice.ensures ∙ c.index-invariant-k.is ∙ get_or_default c.args.invariant.now c.args.k c.index-invariant-k.result [] c.requires.in_range in
-    subst (IsOverLatches c.args.model.now) (sym at) ((c.requires.invariant.clauses c.args.k [] c.requires.in_range).over)
+    subst (IsOverLatches c.args.circuit.now) (sym at) ((c.requires.invariant.clauses c.args.k [] c.requires.in_range).over)
 
 pub returns-clause-is_formula : goal.returns-clause-is_formula
 returns-clause-is_formula c =
-    let m = c.args.model.now in
+    let m = c.args.circuit.now in
     let d : List Lit = clause_at c.args.invariant.now c.args.k in
     let at : c.as_slice.result.now ≡ d =
     c.as_slice.ensures ∙ c.index-invariant-k.is ∙ get_or_default c.args.invariant.now c.args.k c.index-invariant-k.result [] c.requires.in_range in
     rw (c.formula.ensures, c.in_ok-push_units.ensures, c.in_ok-clauses.ensures, c.as_slice-2.ensures.value, c.in_ok-units.ensures.units, at)
-    (step_formed m c.args.invariant.now d c.parts.ensures.well_formed c.requires.invariant (c.requires.invariant.clauses c.args.k [] c.requires.in_range))
+    (step_formed m c.args.invariant.now d c.well_formed-2.ensures c.requires.invariant (c.requires.invariant.clauses c.args.k [] c.requires.in_range))
 
 pub returns-clause-variables : goal.returns-clause-variables
 returns-clause-variables c =
-    let m = c.args.model.now in
+    let m = c.args.circuit.now in
     let d : List Lit = clause_at c.args.invariant.now c.args.k in
     let at : c.as_slice.result.now ≡ d =
     c.as_slice.ensures ∙ c.index-invariant-k.is ∙ get_or_default c.args.invariant.now c.args.k c.index-invariant-k.result [] c.requires.in_range in
     rw (c.formula.ensures, c.in_ok-push_units.ensures, c.in_ok-clauses.ensures, c.as_slice-2.ensures.value, c.in_ok-units.ensures.units, at)
-    (step_over m c.args.invariant.now d c.parts.ensures.well_formed c.requires.invariant.clauses ((c.requires.invariant.clauses c.args.k [] c.requires.in_range).over))
+    (step_over m c.args.invariant.now d c.well_formed-2.ensures c.requires.invariant.clauses ((c.requires.invariant.clauses c.args.k [] c.requires.in_range).over))
 
 pub returns-clause-meaning : goal.returns-clause-meaning
 returns-clause-meaning c =
-    let m = c.args.model.now in
+    let m = c.args.circuit.now in
     let d : List Lit = clause_at c.args.invariant.now c.args.k in
-    step_law m c.args.invariant.now d c.parts.ensures.well_formed (λ k e k_in. (c.requires.invariant.clauses k e k_in).over) ((c.requires.invariant.clauses c.args.k [] c.requires.in_range).over)
+    step_law m c.args.invariant.now d c.well_formed-2.ensures (λ k e k_in. (c.requires.invariant.clauses k e k_in).over) ((c.requires.invariant.clauses c.args.k [] c.requires.in_range).over)

@@ -4,7 +4,7 @@ use Rattle.cnf.proofs.Made.{gate_made}
 use Rattle.cnf.proofs.push.push_gate.Goals as goal
 
 pub returns : goal.returns
-returns c =
+returns g c =
     let f1 : SFits w32 c.denial-not_left.result = search rules in
     let f2 : SFits w32 c.literal.result = search rules in
     let f3 : SFits w32 c.literal-2.result = search rules in

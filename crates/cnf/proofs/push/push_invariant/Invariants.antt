@@ -3,4 +3,4 @@ use Rattle.cnf.specs.Clauses.{literal}
 use Rattle.cnf.proofs.push.push_invariant.Given as goal
 
 abbrev pub invariant-loop-clause : goal.invariant-loop-clause
-invariant-loop-clause l = l.clauses ≡ l.initial.clauses ++ map (map (literal l.time.max_var l.time.offset)) (take l.clause-index l.invariant')
+invariant-loop-clause g l = g.C.AddClause.clauses l.clauses ≡ g.C.AddClause.clauses l.initial.clauses ++ map (map (literal l.time.max_var l.time.offset)) (take l.clause-index l.invariant')

@@ -10,11 +10,11 @@ use Rattle.cnf.proofs.units.bad_unit.Goals as goal
 
 pub literal-requires-clause-in_range : goal.literal-requires-clause-in_range
 literal-requires-clause-in_range c =
-    let m = c.args.model.now in
-    rw c.first.ensures.max_var (All-contains (IsInRange m.max_var) (used m) c.args.bad c.parts.ensures.well_formed.used_in_range c.requires)
+    let m = c.args.circuit.now in
+    rw c.first.ensures.max_var (All-contains (IsInRange m.max_var) (used m) c.args.bad c.well_formed-2.ensures.used_in_range c.requires)
 
 pub returns-clause-in_range : goal.returns-clause-in_range
 returns-clause-in_range c =
     let f : SFits w32 c.literal.result = search rules in
-    let e : c.literal.result ≡ literal c.args.model.now.max_var 0 c.args.bad = search rules in
-    subst (λ l. IsLiteral (c.args.model.now.max_var + 1) l) (sym (read32 _ f ∙ e)) (bad_unit_from c.args.model.now c.args.bad c.parts.ensures.well_formed c.requires)
+    let e : c.literal.result ≡ literal c.args.circuit.now.max_var 0 c.args.bad = search rules in
+    subst (λ l. IsLiteral (c.args.circuit.now.max_var + 1) l) (sym (read32 _ f ∙ e)) (bad_unit_from c.args.circuit.now c.args.bad c.well_formed-2.ensures c.requires)

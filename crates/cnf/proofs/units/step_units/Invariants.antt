@@ -3,4 +3,4 @@ use Rattle.cnf.specs.Clauses.{step_units}
 use Rattle.cnf.proofs.units.step_units.Given as goal
 
 abbrev pub invariant-loop-lit : goal.invariant-loop-lit
-invariant-loop-lit l = l.units.items ≡ step_units l.model (take l.lit-index l.clause)
+invariant-loop-lit l = l.units.items ≡ step_units l.circuit (take l.lit-index l.clause)

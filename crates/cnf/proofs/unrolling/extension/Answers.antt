@@ -5,10 +5,10 @@ use Rattle.cnf.proofs.Extended.{extension_literals}
 use Rattle.cnf.proofs.unrolling.extension.Goals as goal
 
 pub returns-clause-literals : goal.returns-clause-literals
-returns-clause-literals c = extension_literals c.args.model.now c.args.steps c.in_ok-extension_clauses.field-0 c.parts.ensures.well_formed (omega arith) c.in_ok-extension_clauses.ensures
+returns-clause-literals c = extension_literals c.args.circuit.now c.args.steps c.in_ok-extension_clauses.field-0 c.well_formed-2.ensures (omega arith) c.in_ok-extension_clauses.ensures
 
 pub returns-clause-variables : goal.returns-clause-variables
-returns-clause-variables c = unroll_over c.args.model.now c.args.steps c.parts.ensures.well_formed
+returns-clause-variables c = unroll_over c.args.circuit.now c.args.steps c.well_formed-2.ensures
 
 pub returns-clause-meaning : goal.returns-clause-meaning
-returns-clause-meaning c = unroll_law c.args.model.now c.args.steps c.parts.ensures.well_formed
+returns-clause-meaning c = unroll_law c.args.circuit.now c.args.steps c.well_formed-2.ensures

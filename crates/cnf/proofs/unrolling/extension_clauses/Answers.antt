@@ -8,14 +8,14 @@ use Rattle.cnf.proofs.Extended.{extended}
 use Rattle.cnf.proofs.unrolling.extension_clauses.Goals as goal
 
 pub push_joins-requires-clause-lits : goal.push_joins-requires-clause-lits
-push_joins-requires-clause-lits c = rw (c.latches.ensures, c.after-before.ensures.max_var) (latches_in_range c.args.model.now c.parts.ensures.well_formed)
+push_joins-requires-clause-lits c = rw (c.latches.ensures, c.after-before.ensures.max_var) (latches_in_range c.args.circuit.now c.well_formed-2.ensures)
 
 pub push_joins-requires-clause-nexts : goal.push_joins-requires-clause-nexts
-push_joins-requires-clause-nexts c = rw (c.latches.ensures, c.after-before.ensures.max_var) (nexts_in_range c.args.model.now c.parts.ensures.well_formed)
+push_joins-requires-clause-nexts c = rw (c.latches.ensures, c.after-before.ensures.max_var) (nexts_in_range c.args.circuit.now c.well_formed-2.ensures)
 
 pub returns : goal.returns
 returns c =
-    let m = c.args.model.now in
+    let m = c.args.circuit.now in
     let p = c.after-before.result.offset in
     let joins : c.push_joins.new.clauses ≡ flat_map (join_clauses m.max_var p) m.latches = rw (c.after-before.ensures.max_var, c.latches.ensures, c.new-clauses.ensures) at c.in_ok-push_joins.ensures in
     let offset : c.next.result.offset ≡ p + m.max_var + 1 = c.next.ensures.offset ∙ ap (λ n. p + n + 1) c.after-before.ensures.max_var in

@@ -7,15 +7,15 @@ use Rattle.cnf.proofs.Made.{times_more}
 use Rattle.cnf.proofs.unrolling.push_times.Goals as goal
 
 pub push_joins-requires-clause-lits : goal.push_joins-requires-clause-lits
-push_joins-requires-clause-lits c = rw (c.latches.ensures, c.loop-step.invariant.max_var) (latches_in_range c.args.model.now c.parts.ensures.well_formed)
+push_joins-requires-clause-lits c = rw (c.latches.ensures, c.loop-step.invariant.max_var) (latches_in_range c.args.circuit.now c.well_formed-2.ensures)
 
 pub push_joins-requires-clause-nexts : goal.push_joins-requires-clause-nexts
-push_joins-requires-clause-nexts c = rw (c.latches.ensures, c.loop-step.invariant.max_var) (nexts_in_range c.args.model.now c.parts.ensures.well_formed)
+push_joins-requires-clause-nexts c = rw (c.latches.ensures, c.loop-step.invariant.max_var) (nexts_in_range c.args.circuit.now c.well_formed-2.ensures)
 
 pub loop-step-preserved : goal.loop-step-preserved
 loop-step-preserved c =
-    let m = c.args.model.now in
-    let small = c.parts.ensures.well_formed.limits.max_var in
+    let m = c.args.circuit.now in
+    let small = c.well_formed-2.ensures.limits.max_var in
     let joins : c.push_joins.new.clauses ≡ c.push_time.new.clauses ++ flat_map (join_clauses m.max_var c.loop-step.time.offset) m.latches =
     rw (c.loop-step.invariant.max_var, c.latches.ensures) at c.in_ok-push_joins.ensures in
     record {

@@ -4,7 +4,7 @@ use Rattle.cnf.proofs.unrolling.push_times.Given as goal
 
 abbrev pub invariant-loop-step : goal.invariant-loop-step
 invariant-loop-step l = record {
-  max_var : l.time.max_var ≡ l.model.max_var;
+  max_var : l.time.max_var ≡ l.circuit.max_var;
   low : l.time.offset ≤ l._step * 4194304;
-  left : l.clauses ++ times_from l.model (l.steps - l._step) l.time.offset ≡ l.initial.clauses ++ times_from l.model l.steps 0;
+  left : l.clauses ++ times_from l.circuit (l.steps - l._step) l.time.offset ≡ l.initial.clauses ++ times_from l.circuit l.steps 0;
 }

@@ -6,7 +6,7 @@ use Rattle.simulate.proofs.wide.Wide.new.Goals as goal
 
 pub invariant_of-result : goal.invariant_of-result
 invariant_of-result c =
-    let m = c.args.model.now in (
+    let m = c.args.circuit.now in (
       rw (c.in_ok-state.ensures) c.requires,
       rw (c.in_ok-values.ensures, c.parts-parts.ensures.parts) (length-replicate (m.max_var + 1) c.all.result),
       subst (AreDefinedOnly m) (sym c.in_ok-values.ensures) (blank_in m c.all.result _ c.all.ensures),
