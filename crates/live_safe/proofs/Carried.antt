@@ -33,7 +33,7 @@ pub record IsUnwound (m : Parts) (j i : ℕ) (r : List (List Bool)) (n : ℕ) : 
   pub again : at r n ≡ at r i
   pub sets : All (IsSetWithin r i n) (wanted_of m j)
 
--- what the new latches have at first, and take over later
+-- what the new latches have at first, and later
 abbrev pub cleared_bits : Parts → ℕ → List Bool
 cleared_bits m j = map (λ _. false) (new_latches m j)
 

@@ -89,7 +89,7 @@ copies x start l ls shadow v fires =
 later_copies : (x : List Bool) (start : ℕ) (l : Latch) (ls : List Latch) (shadow v : ℕ) → All (Fires x) (copy_gates start (l ∷ ls) shadow v) → All (Fires x) (copy_gates start ls (shadow + 1) (v + 6))
 later_copies x start l ls shadow v fires k d k_in = fires (suc (suc (suc (suc (suc (suc k)))))) d (omega arith)
 
--- the shadows take over the latches at the start, and stay otherwise
+-- the next values of the shadows are the latches' at the start, and their own otherwise
 pub copy_step : (x y : List Bool) (start : ℕ) (ls : List Latch) (shadow v : ℕ) → All (Fires x) (copy_gates start ls shadow v) →
     All (λ l. value_of y l.lit ≡ value_of x l.next) (shadow_latches ls shadow v) → row y ls shadow ≡ cond (place x start) (map (λ l. value_of x l.lit) ls) (row x ls shadow)
 copy_step x y start [] shadow v fires steps = cond-nil (place x start)

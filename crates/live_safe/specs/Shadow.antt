@@ -77,7 +77,7 @@ copy_gates start (l ∷ ls) shadow v =
     ∷ joins (v + 5) (negative (v + 3)) (negative (v + 4))
     ∷ copy_gates start ls (shadow + 1) (v + 6)
 
--- the copies take over what the third of those gates denies
+-- the copies' next literals deny the third of those gates
 abbrev pub shadow_latches : List Latch → ℕ → ℕ → List Latch
 shadow_latches [] shadow v = []
 shadow_latches (l ∷ ls) shadow v = cleared shadow (negative (v + 2)) ∷ shadow_latches ls (shadow + 1) (v + 6)
@@ -95,7 +95,7 @@ watch_gates idle (q ∷ qs) seen v =
     ∷ joins (v + 1) (negative idle) (negative v)
     ∷ watch_gates idle qs (seen + 1) (v + 2)
 
--- the latches of the wanted literals take over the second of those gates
+-- the next literals of the wanted literals' latches are the second of those gates
 abbrev pub seen_latches : List Lit → ℕ → ℕ → List Latch
 seen_latches [] seen v = []
 seen_latches (q ∷ qs) seen v = cleared seen (positive (v + 1)) ∷ seen_latches qs (seen + 1) (v + 2)

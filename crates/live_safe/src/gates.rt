@@ -12,7 +12,7 @@ use base::{Refused, copied, extend, push};
 use graph::{Gate, Latch, Lit};
 use std::alloc::Global;
 
-/// Adds the six gates of a latch: what its copy takes over, and whether the two are equal.
+/// Adds the six gates of a latch: the next literal of its copy, and whether the two are equal.
 fn push_copy(
     gates: &mut Vec<Gate>,
     start: u32,

@@ -70,16 +70,16 @@ fn old_part(
 /// the lengths are not the shadow circuit's, which those of a violation are.
 pub fn lasso_of(
     alloc: Global,
-    model: &Model,
+    circuit: &Model,
     position: u32,
     initial: &[bool],
     inputs: &[Seq<bool>],
 ) -> Result<Option<Stimulus>, Refused>
-    ensures fits { IfOk result (λ found. IsSome found ↔ FitsShadow model.now position initial.now inputs.now) }
-    ensures lasso { IfOk result (λ found. IfSome found (λ s. s ≡ lasso_from model.now position initial.now inputs.now)) }
-    ensures shows { IfOk result (λ found. position < length model.now.justice → ShowsBad (shadow_of model.now position) (Violated (Bad 0) initial.now inputs.now) → IsSome found × IfSome found (ShowsLasso model.now)) }
+    ensures fits { IfOk result (λ found. IsSome found ↔ FitsShadow circuit.now position initial.now inputs.now) }
+    ensures lasso { IfOk result (λ found. IfSome found (λ s. s ≡ lasso_from circuit.now position initial.now inputs.now)) }
+    ensures shows { IfOk result (λ found. position < length circuit.now.justice → ShowsBad (shadow_of circuit.now position) (Violated (Bad 0) initial.now inputs.now) → IsSome found × IfSome found (ShowsLasso circuit.now)) }
 {
-    let parts = model.parts();
+    let parts = circuit.parts();
     if !fits(parts, position, initial, inputs) {
         return Ok(None);
     }

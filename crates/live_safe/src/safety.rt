@@ -64,18 +64,18 @@ fn shadow_model(alloc: Global, parts: &Parts, position: u32) -> Result<Model, Re
 /// `save` is set the shadows take the values of the latches, and from then on it is noted which
 /// wanted literals were set. A property that isn't there is refused, then more than 4194303
 /// variables, both before memory is asked for.
-pub fn to_safety(alloc: Global, model: &Model, position: u32) -> Result<Model, LiveError>
-    ensures shadow { IfOk result (λ s. s ≡ shadow_of model.now position) }
-    ensures exists { IfOk result (λ _. position < length model.now.justice) }
-    ensures within { IfOk result (λ _. (shadow_of model.now position).max_var ≤ 4194303) }
-    ensures refused { IfErr result (HasCause model.now position) }
-    ensures found { IfOk result (λ _. FoundLaw model.now position) }
-    ensures carried { IfOk result (λ _. CarriedLaw model.now position) }
-    ensures bounded { IfOk result (λ _. BoundedLaw model.now position) }
-    ensures shown { IfOk result (λ _. ShownLaw model.now position) }
-    ensures shortest { IfOk result (λ _. ShortestLaw model.now position) }
+pub fn to_safety(alloc: Global, circuit: &Model, position: u32) -> Result<Model, LiveError>
+    ensures shadow { IfOk result (λ s. s ≡ shadow_of circuit.now position) }
+    ensures exists { IfOk result (λ _. position < length circuit.now.justice) }
+    ensures within { IfOk result (λ _. (shadow_of circuit.now position).max_var ≤ 4194303) }
+    ensures refused { IfErr result (HasCause circuit.now position) }
+    ensures found { IfOk result (λ _. FoundLaw circuit.now position) }
+    ensures carried { IfOk result (λ _. CarriedLaw circuit.now position) }
+    ensures bounded { IfOk result (λ _. BoundedLaw circuit.now position) }
+    ensures shown { IfOk result (λ _. ShownLaw circuit.now position) }
+    ensures shortest { IfOk result (λ _. ShortestLaw circuit.now position) }
 {
-    let parts = model.parts();
+    let parts = circuit.parts();
     check(parts, position)?;
     let shadow = shadow_model(alloc, parts, position)?;
     Ok(shadow)

@@ -154,6 +154,20 @@ pub gathered_all : (m : Parts) (first : List Bool) (lines : List (List Bool)) (w
 gathered_all m first lines wanted before after i now is_i g x c =
     subst (λ (k : ℕ). Marks wanted x k before after) (is_i ∙ sym (course_length m first lines x c)) (g.marks x c)
 
+-- where every mark is set, further times set no more
+pub marks_whole : (wanted : List Lit) (x : List Valuation) (i : ℕ) (before after : List Bool) → i ≤ length x → length before ≡ length wanted → ((k : ℕ) → k < length after → place after k ≡ true) → Marks wanted x i before after
+    → Marks wanted x (length x) before after
+marks_whole wanted x i before after i_in fits all p = record {
+  long = p.long;
+  set = λ k d k_in s. all k (omega (arith, p.long, fits, k_in));
+  only = λ k d k_in s. elim (p.only k d k_in s) [ inl b ↦ inl b | inr t ↦ inr (t.0, omega (arith, t.1, i_in), t.2) ];
+}
+
+pub gathered_early : (m : Parts) (first : List Bool) (lines : List (List Bool)) (wanted : List Lit) (before after : List Bool) (i : ℕ) (now : Replayed) → i ≤ length lines → length before ≡ length wanted
+    → ((k : ℕ) → k < length after → place after k ≡ true) → Gathered m first lines wanted before after i now → (x : List Valuation) → Course m first lines x → Marks wanted x (length x) before after
+gathered_early m first lines wanted before after i now i_in fits all g x c =
+    marks_whole wanted x i before after (omega (arith, i_in, course_length m first lines x c)) fits all (g.marks x c)
+
 -- ---- the first time of the state is the best
 
 -- a time of the rest is one of the whole

@@ -1,4 +1,4 @@
--- What is told of a text that is refused.
+-- What is reported of a text that is refused.
 use Rattle.std.specs.Prelude.{◌≡◌, ℕ, ◌-◌, Result, MatchResult}
 use Rattle.base.specs.Witness.{witness}
 use Rattle.scan.specs.declared.fault.Fault.{Fault}
@@ -21,7 +21,7 @@ at_byte refusal.Character p = Character p
 at_byte refusal.Truncated p = Truncated p
 at_byte refusal.AfterEnd p = AfterEnd p
 
--- the error for a fault in a text of so many bytes
+-- the error for a fault in a text of this number of bytes
 abbrev pub error_of : ℕ → Fault Refusal → StimError
 error_of length (Memory refused) = OutOfMemory witness
 error_of length (Text kind left) = at_byte kind (length - left)

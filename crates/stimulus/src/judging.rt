@@ -23,16 +23,16 @@ use std::alloc::Global;
 /// Whether the run sets the literal at its last time. What is said holds of each property that watches
 /// the literal.
 fn judge_bad(
-    model: &Model,
+    circuit: &Model,
     replay: &Replay<'_>,
     bad: Lit,
     initial: &[bool],
     inputs: &[Seq<bool>],
 ) -> Result<(), JudgeError>
-    requires in_range { variable bad ≤ model.now.max_var }
-    requires runs { HasRun model.now initial.now inputs.now replay.now }
-    ensures shown { (p : AProperty) → IsWatched model.now p bad → OnOk result (Shows model.now (Violated p initial.now inputs.now)) }
-    ensures refused { (p : AProperty) → IsWatched model.now p bad → IfErr result (HasCauseIn model.now p initial.now inputs.now) }
+    requires in_range { variable bad ≤ circuit.now.max_var }
+    requires runs { HasRun circuit.now initial.now inputs.now replay.now }
+    ensures shown { (p : AProperty) → IsWatched circuit.now p bad → OnOk result (Shows circuit.now (Violated p initial.now inputs.now)) }
+    ensures refused { (p : AProperty) → IsWatched circuit.now p bad → IfErr result (HasCauseIn circuit.now p initial.now inputs.now) }
 {
     if replay.value(bad) {
         Ok(())
@@ -44,19 +44,19 @@ fn judge_bad(
 /// Whether the run closes a lasso.
 fn judge_justice(
     alloc: Global,
-    model: &Model,
+    circuit: &Model,
     replay: &Replay<'_>,
     j: u32,
     initial: &[bool],
     inputs: &[Seq<bool>],
 ) -> Result<(), JudgeError>
-    requires fit { IsFit model.now (Justice j) initial.now inputs.now }
-    requires runs { HasRun model.now initial.now inputs.now replay.now }
-    ensures shown { OnOk result (Shows model.now (Violated (Justice j) initial.now inputs.now)) }
-    ensures refused { IfErr result (HasCauseIn model.now (Justice j) initial.now inputs.now) }
+    requires fit { IsFit circuit.now (Justice j) initial.now inputs.now }
+    requires runs { HasRun circuit.now initial.now inputs.now replay.now }
+    ensures shown { OnOk result (Shows circuit.now (Violated (Justice j) initial.now inputs.now)) }
+    ensures refused { IfErr result (HasCauseIn circuit.now (Justice j) initial.now inputs.now) }
 {
-    let wanted = wanted(alloc, model.parts(), j)?;
-    if has_lasso(alloc, model, &wanted, replay.state(), initial, inputs)? {
+    let wanted = wanted(alloc, circuit.parts(), j)?;
+    if has_lasso(alloc, circuit, &wanted, replay.state(), initial, inputs)? {
         Ok(())
     } else {
         Err(JudgeError::NoLasso)
@@ -66,23 +66,23 @@ fn judge_justice(
 /// Whether the replay of these lines shows that the property is violated.
 fn judge_violated(
     alloc: Global,
-    model: &Model,
+    circuit: &Model,
     property: Property,
     initial: &[bool],
     inputs: &[Seq<bool>],
 ) -> Result<(), JudgeError>
-    ensures shown { OnOk result (Shows model.now (Violated property initial.now inputs.now)) }
-    ensures refused { IfErr result (HasCauseIn model.now property initial.now inputs.now) }
+    ensures shown { OnOk result (Shows circuit.now (Violated property initial.now inputs.now)) }
+    ensures refused { IfErr result (HasCauseIn circuit.now property initial.now inputs.now) }
 {
-    check_fit(model.parts(), property, initial, inputs)?;
-    let replay = run(alloc, model, initial, inputs)?;
+    check_fit(circuit.parts(), property, initial, inputs)?;
+    let replay = run(alloc, circuit, initial, inputs)?;
     match property {
-        Property::Bad(n) => judge_bad(model, &replay, model.bad()[n as usize], initial, inputs),
-        Property::Justice(j) => judge_justice(alloc, model, &replay, j, initial, inputs),
+        Property::Bad(n) => judge_bad(circuit, &replay, circuit.bad()[n as usize], initial, inputs),
+        Property::Justice(j) => judge_justice(alloc, circuit, &replay, j, initial, inputs),
         Property::Output(n) => judge_bad(
-            model,
+            circuit,
             &replay,
-            model.outputs()[n as usize],
+            circuit.outputs()[n as usize],
             initial,
             inputs,
         ),
@@ -92,12 +92,12 @@ fn judge_violated(
 /// Whether the replay of a stimulus shows the violation that it tells of (AIGER 1.9): it begins in
 /// a state that the resets allow, keeps the constraints, and sets the bad literal at its last time
 /// or, for a justice property, closes a lasso at the state after its last time. Replaying costs the
-/// gates for each input line, and for a lasso twice that; the memory is a state and a valuation,
+/// gates for each input line, and for a lasso at most twice that; the memory is a state and a valuation,
 /// for a lasso two of each, and a mark for each wanted literal.
-pub fn judge(alloc: Global, model: &Model, stimulus: &Stimulus) -> Result<(), JudgeError>
-    ensures shown { OnOk result (Shows model.now stimulus.now) }
-    ensures refused { IfErr result (HasCause model.now stimulus.now) }
-    ensures exact { IfErr result (λ e. e ≢ JudgeError.OutOfMemory witness → Shows model.now stimulus.now → ⊥) }
+pub fn judge(alloc: Global, circuit: &Model, stimulus: &Stimulus) -> Result<(), JudgeError>
+    ensures shown { OnOk result (Shows circuit.now stimulus.now) }
+    ensures refused { IfErr result (HasCause circuit.now stimulus.now) }
+    ensures exact { IfErr result (λ e. e ≢ JudgeError.OutOfMemory witness → Shows circuit.now stimulus.now → ⊥) }
 {
     match stimulus {
         Stimulus::Violated {
@@ -106,7 +106,7 @@ pub fn judge(alloc: Global, model: &Model, stimulus: &Stimulus) -> Result<(), Ju
             inputs,
         } => judge_violated(
             alloc,
-            model,
+            circuit,
             *property,
             initial.as_slice(),
             inputs.as_slice(),

@@ -41,19 +41,6 @@ fn mark(replay: &Replay<'_>, wanted: &[Lit], marks: &mut [bool])
     }
 }
 
-/// Steps through the lines, and marks the literals that are set at one of the times.
-fn gather(replay: &mut Replay<'_>, wanted: &[Lit], marks: &mut [bool], lines: &[Seq<bool>])
-    requires lines_fit { All (λ line. length line ≡ length replay.old.circuit.inputs) lines.now }
-    requires in_range { All (λ a. variable a ≤ replay.old.circuit.max_var) wanted.now }
-    requires lengths { length marks.old ≡ length wanted.now }
-    ensures { (x : List Valuation) → Course replay.old.circuit replay.old.state lines.now x → Marks wanted.now x (length x) marks.old marks.new }
-{
-    for line in lines {
-        replay.step(line.as_slice());
-        mark(replay, wanted, marks);
-    }
-}
-
 /// Whether every mark is set.
 fn are_all_set(marks: &[bool]) -> bool
     ensures { IsTrue result ↔ ((k : ℕ) → k < length marks.now → place marks.now k ≡ true) }
@@ -64,6 +51,22 @@ fn are_all_set(marks: &[bool]) -> bool
         }
     }
     true
+}
+
+/// Steps through the lines, as far as it takes to mark the literals that are set at one of the times.
+fn gather(replay: &mut Replay<'_>, wanted: &[Lit], marks: &mut [bool], lines: &[Seq<bool>])
+    requires lines_fit { All (λ line. length line ≡ length replay.old.circuit.inputs) lines.now }
+    requires in_range { All (λ a. variable a ≤ replay.old.circuit.max_var) wanted.now }
+    requires lengths { length marks.old ≡ length wanted.now }
+    ensures { (x : List Valuation) → Course replay.old.circuit replay.old.state lines.now x → Marks wanted.now x (length x) marks.old marks.new }
+{
+    for line in lines {
+        if are_all_set(marks) {
+            return;
+        }
+        replay.step(line.as_slice());
+        mark(replay, wanted, marks);
+    }
 }
 
 /// The literals of a justice property, then the fairness literals.
@@ -82,19 +85,19 @@ pub fn wanted(alloc: Global, parts: &Parts, j: u32) -> Result<Vec<Lit>, Refused>
 /// The first time of this state is the best: what is set from a later one is set from it.
 pub fn has_lasso(
     alloc: Global,
-    model: &Model,
+    circuit: &Model,
     wanted: &[Lit],
     closing: &[bool],
     initial: &[bool],
     lines: &[Seq<bool>],
 ) -> Result<bool, JudgeError>
-    requires latches { length initial.now ≡ length model.now.latches }
-    requires lines_fit { All (λ line. length line ≡ length model.now.inputs) lines.now }
-    requires in_range { All (λ a. variable a ≤ model.now.max_var) wanted.now }
-    ensures found { IfOk result (λ found. (x : List Valuation) → Course model.now initial.now lines.now x → (IsTrue found ↔ ((start : ℕ) × ClosesLasso model.now wanted.now closing.now x start))) }
-    ensures refused { IfErr result (HasRunCause model.now initial.now lines.now) }
+    requires latches { length initial.now ≡ length circuit.now.latches }
+    requires lines_fit { All (λ line. length line ≡ length circuit.now.inputs) lines.now }
+    requires in_range { All (λ a. variable a ≤ circuit.now.max_var) wanted.now }
+    ensures found { IfOk result (λ found. (x : List Valuation) → Course circuit.now initial.now lines.now x → (IsTrue found ↔ ((start : ℕ) × ClosesLasso circuit.now wanted.now closing.now x start))) }
+    ensures refused { IfErr result (HasRunCause circuit.now initial.now lines.now) }
 {
-    let mut replay = Replay::new(alloc, model, initial)?;
+    let mut replay = Replay::new(alloc, circuit, initial)?;
     let Some(start) = meet(&mut replay, closing, lines) else {
         return Ok(false);
     };

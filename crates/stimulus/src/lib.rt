@@ -7,8 +7,9 @@
 //!   which each wanted literal is set (`ShowsLasso`). Otherwise the first cause is reported.
 //! - `put_table` puts the values at each time of the replay (`table_text`), row by row.
 //!
-//! Replaying costs the gates times the input lines, and for a lasso twice that. The memory is a state
-//! and a valuation, for a lasso two of each.
+//! Replaying costs the gates times the input lines, and for a lasso at most twice that: after the
+//! replay it goes to the first time of the closing state, and on until each wanted literal was set.
+//! The memory is a state and a valuation, for a lasso two of each.
 #![tactic(auto)]
 
 mod judge_error;

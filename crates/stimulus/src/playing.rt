@@ -42,18 +42,18 @@ fn play(replay: &mut Replay<'_>, constraints: &[Lit], lines: &[Seq<bool>]) -> Op
 /// The replay of all lines, where it is a run that keeps the constraints.
 pub fn run<'a>(
     alloc: Global,
-    model: &'a Model,
+    circuit: &'a Model,
     initial: &[bool],
     inputs: &[Seq<bool>],
 ) -> Result<Replay<'a>, JudgeError>
-    requires latches { length initial.now ≡ length model.now.latches }
-    requires inputs_fit { All (λ line. length line ≡ length model.now.inputs) inputs.now }
+    requires latches { length initial.now ≡ length circuit.now.latches }
+    requires inputs_fit { All (λ line. length line ≡ length circuit.now.inputs) inputs.now }
     requires some { inputs.now ≢ [] }
-    ensures runs { IfOk result (HasRun model.now initial.now inputs.now) }
-    ensures refused { IfErr result (HasRunCause model.now initial.now inputs.now) }
+    ensures runs { IfOk result (HasRun circuit.now initial.now inputs.now) }
+    ensures refused { IfErr result (HasRunCause circuit.now initial.now inputs.now) }
 {
-    let parts = model.parts();
-    let mut replay = Replay::new(alloc, model, initial)?;
+    let parts = circuit.parts();
+    let mut replay = Replay::new(alloc, circuit, initial)?;
     match play(&mut replay, parts.constraints.as_slice(), inputs) {
         None => Ok(replay),
         Some(time) => Err(JudgeError::ConstraintBroken { time: time as u64 }),

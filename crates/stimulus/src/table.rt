@@ -106,39 +106,39 @@ fn put_rest<W: Sink>(
 /// Steps one line, and puts its row.
 fn put_row<W: Sink>(
     out: &mut W,
-    model: &Model,
+    circuit: &Model,
     replay: &mut Replay<'_>,
     time: u64,
     line: &[bool],
 ) -> Result<(), Failed>
     requires sink { W.failed out.old < 2 ^ 64 - 1 }
-    requires circuit { replay.old.circuit ≡ model.now }
-    requires line_fits { length line.now ≡ length model.now.inputs }
-    ensures row { OnOk result (PutsRow model.now replay.old replay.new line.now time (W.contents out.old) (W.contents out.new)) }
-    ensures beginning { OnErr result ((w : Valuation) → IsAt model.now replay.old.state line.now w → PutsBeginning (W.contents out.old) (W.contents out.new) (row_text model.now time w)) }
+    requires circuit { replay.old.circuit ≡ circuit.now }
+    requires line_fits { length line.now ≡ length circuit.now.inputs }
+    ensures row { OnOk result (PutsRow circuit.now replay.old replay.new line.now time (W.contents out.old) (W.contents out.new)) }
+    ensures beginning { OnErr result ((w : Valuation) → IsAt circuit.now replay.old.state line.now w → PutsBeginning (W.contents out.old) (W.contents out.new) (row_text circuit.now time w)) }
     ensures counts { CountsFailure (W.failed out.old) (W.failed out.new) result }
 {
     put_time(out, time, replay.state())?;
     replay.step(line);
-    put_rest(out, model.parts(), replay, line)
+    put_rest(out, circuit.parts(), replay, line)
 }
 
 /// Steps the lines, and puts the row of each.
 fn put_rows<W: Sink>(
     out: &mut W,
-    model: &Model,
+    circuit: &Model,
     replay: &mut Replay<'_>,
     lines: &[Seq<bool>],
 ) -> Result<(), Failed>
     requires sink { W.failed out.old < 2 ^ 64 - 1 }
-    requires circuit { replay.old.circuit ≡ model.now }
-    requires lines_fit { All (λ line. length line ≡ length model.now.inputs) lines.now }
-    ensures rows { OnOk result (PutsRows model.now replay.old.state lines.now (length lines.now) replay.new (W.contents out.old) (W.contents out.new)) }
-    ensures beginning { OnErr result ((x : List Valuation) → Course model.now replay.old.state lines.now x → PutsBeginning (W.contents out.old) (W.contents out.new) (rows_text model.now 0 x)) }
+    requires circuit { replay.old.circuit ≡ circuit.now }
+    requires lines_fit { All (λ line. length line ≡ length circuit.now.inputs) lines.now }
+    ensures rows { OnOk result (PutsRows circuit.now replay.old.state lines.now (length lines.now) replay.new (W.contents out.old) (W.contents out.new)) }
+    ensures beginning { OnErr result ((x : List Valuation) → Course circuit.now replay.old.state lines.now x → PutsBeginning (W.contents out.old) (W.contents out.new) (rows_text circuit.now 0 x)) }
     ensures counts { CountsFailure (W.failed out.old) (W.failed out.new) result }
 {
     for (t, line) in lines.iter().enumerate() {
-        put_row(out, model, replay, t as u64, line.as_slice())?;
+        put_row(out, circuit, replay, t as u64, line.as_slice())?;
     }
     Ok(())
 }
@@ -146,19 +146,19 @@ fn put_rows<W: Sink>(
 /// Steps all lines, and puts the table.
 fn put_replay<W: Sink>(
     out: &mut W,
-    model: &Model,
+    circuit: &Model,
     replay: &mut Replay<'_>,
     lines: &[Seq<bool>],
 ) -> Result<(), Failed>
     requires sink { W.failed out.old < 2 ^ 64 - 1 }
-    requires circuit { replay.old.circuit ≡ model.now }
-    requires lines_fit { All (λ line. length line ≡ length model.now.inputs) lines.now }
+    requires circuit { replay.old.circuit ≡ circuit.now }
+    requires lines_fit { All (λ line. length line ≡ length circuit.now.inputs) lines.now }
     requires some { lines.now ≢ [] }
-    ensures table { OnOk result (PutsReplay model.now replay.old.state lines.now (W.contents out.old) (W.contents out.new)) }
-    ensures beginning { OnErr result ((x : List Valuation) → IsReplay model.now replay.old.state lines.now x → PutsBeginning (W.contents out.old) (W.contents out.new) (table_text model.now x)) }
+    ensures table { OnOk result (PutsReplay circuit.now replay.old.state lines.now (W.contents out.old) (W.contents out.new)) }
+    ensures beginning { OnErr result ((x : List Valuation) → IsReplay circuit.now replay.old.state lines.now x → PutsBeginning (W.contents out.old) (W.contents out.new) (table_text circuit.now x)) }
     ensures counts { CountsFailure (W.failed out.old) (W.failed out.new) result }
 {
-    put_rows(out, model, replay, lines)?;
+    put_rows(out, circuit, replay, lines)?;
     put_time(out, lines.len() as u64, replay.state())?;
     put_all(out, b"\n")
 }
@@ -180,22 +180,22 @@ pub fn check_playable(parts: &Parts, initial: &[bool], inputs: &[Seq<bool>]) -> 
 /// Puts the table of the replay of these lines.
 fn put_violated<W: Sink>(
     alloc: Global,
-    model: &Model,
+    circuit: &Model,
     initial: &[bool],
     inputs: &[Seq<bool>],
     out: &mut W,
 ) -> Result<(), SimError>
     requires { W.failed out.old < 2 ^ 64 - 1 }
-    ensures put { OnOk result (PutsReplay model.now initial.now inputs.now (W.contents out.old) (W.contents out.new)) }
-    ensures starts { OnOk result (Starts model.now.latches initial.now) }
-    ensures refused { IfErr result (HasSimCauseIn model.now initial.now inputs.now (W.contents out.old) (W.contents out.new)) }
+    ensures put { OnOk result (PutsReplay circuit.now initial.now inputs.now (W.contents out.old) (W.contents out.new)) }
+    ensures starts { OnOk result (Starts circuit.now.latches initial.now) }
+    ensures refused { IfErr result (HasSimCauseIn circuit.now initial.now inputs.now (W.contents out.old) (W.contents out.new)) }
     ensures kept { OnOk result (W.failed out.new ≡ W.failed out.old) }
     ensures device { IfErr result (λ e. e ≡ SimError.Device → W.failed out.new ≡ W.failed out.old + 1) }
     ensures untouched { IfErr result (λ e. e ≢ SimError.Device → out.new ≡ out.old) }
 {
-    check_playable(model.parts(), initial, inputs)?;
-    let mut replay = Replay::new(alloc, model, initial)?;
-    put_replay(out, model, &mut replay, inputs)?;
+    check_playable(circuit.parts(), initial, inputs)?;
+    let mut replay = Replay::new(alloc, circuit, initial)?;
+    put_replay(out, circuit, &mut replay, inputs)?;
     Ok(())
 }
 
@@ -208,13 +208,13 @@ fn put_violated<W: Sink>(
 /// for a state and a valuation, and after a failure of the sink a beginning of the table was put.
 pub fn put_table<W: Sink>(
     alloc: Global,
-    model: &Model,
+    circuit: &Model,
     stimulus: &Stimulus,
     out: &mut W,
 ) -> Result<(), SimError>
     requires { W.failed out.old < 2 ^ 64 - 1 }
-    ensures table { OnOk result (PutsTable model.now stimulus.now (W.contents out.old) (W.contents out.new)) }
-    ensures refused { IfErr result (HasSimCause model.now stimulus.now (W.contents out.old) (W.contents out.new)) }
+    ensures table { OnOk result (PutsTable circuit.now stimulus.now (W.contents out.old) (W.contents out.new)) }
+    ensures refused { IfErr result (HasSimCause circuit.now stimulus.now (W.contents out.old) (W.contents out.new)) }
     ensures kept { OnOk result (W.failed out.new ≡ W.failed out.old) }
     ensures device { IfErr result (λ e. e ≡ SimError.Device → W.failed out.new ≡ W.failed out.old + 1) }
     ensures untouched { IfErr result (λ e. e ≢ SimError.Device → out.new ≡ out.old) }
@@ -224,7 +224,7 @@ pub fn put_table<W: Sink>(
             initial,
             inputs,
             ..
-        } => put_violated(alloc, model, initial.as_slice(), inputs.as_slice(), out),
+        } => put_violated(alloc, circuit, initial.as_slice(), inputs.as_slice(), out),
         _ => Err(SimError::NotViolated),
     }
 }

@@ -3,13 +3,16 @@ use Rattle.std.proofs.Common.{◌≡◌, ◌≢◌, ℕ, Bool, List, Option, len
 use Rattle.std.specs.List.{flat_map}
 use Rattle.graph.specs.File.{File}
 use Rattle.graph.specs.Valuation.{Valuation}
+use Rattle.stimulus.specs.declared.value.Stimulus.{Stimulus}
+use Rattle.stimulus.specs.declared.value.Stimulus.TheVariants.{Holds, Violated, Unknown}
 use Rattle.stimulus.specs.declared.sim_error.SimError.{SimError}
 use Rattle.stimulus.specs.declared.sim_error.SimError.TheVariants.{NotViolated, LineLength, NoInputLine, InitialReset, Device, OutOfMemory}
 use Rattle.stimulus.specs.Tables.{HasSimCauseIn}
 use Rattle.trace.specs.declared.bits.Bit.{Bit}
 use Rattle.trace.specs.declared.signals.Signal.{Signal}
 use Rattle.trace.specs.Columns.{values_at}
-use Rattle.trace.specs.Waves.{HasWaveCauseIn, wave_text}
+use Rattle.trace.specs.Lines.{HasLines}
+use Rattle.trace.specs.Waves.{HasWaveCause, HasWaveCauseIn, wave_text}
 
 -- what comes before the sink is the same for a table
 pub wave_cause : (f : File) (all : Bool) (initial : List Bool) (inputs : List (List Bool)) (before after : Option (List ℕ)) (e : SimError) → e ≢ Device →
@@ -20,6 +23,13 @@ wave_cause f all initial inputs before after NoInputLine fits p = p
 wave_cause f all initial inputs before after (InitialReset k) fits p = p
 wave_cause f all initial inputs before after Device fits p = absurd (fits refl)
 wave_cause f all initial inputs before after (OutOfMemory refused) fits p = tt
+
+-- of what shows no violation there is no waveform
+pub no_wave : (f : File) (all : Bool) (s : Stimulus) (before after : Option (List ℕ)) → ((initial : List Bool) (inputs : List (List Bool)) → HasLines s initial inputs → ⊥) →
+    HasWaveCause f all s before after NotViolated
+no_wave f all (Violated p initial inputs) before after none = absurd (none initial inputs (p, refl))
+no_wave f all (Holds p) before after none = refl
+no_wave f all (Unknown p) before after none = refl
 
 -- what is said of a text by references is said by what they are of
 pub wave_at : (bits same_bits : List Bit) (signals same_signals : List Signal) (values same_values : List Bool) (times : ℕ) (text : List ℕ) → bits ≡ same_bits → signals ≡ same_signals → values ≡ same_values →

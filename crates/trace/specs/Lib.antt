@@ -2,6 +2,8 @@ pub mod Numbers
 pub mod Bits
 pub mod Signals
 pub mod Columns
+pub mod Lines
+pub mod SignalValues
 pub mod Traces
 pub mod Scopes
 pub mod Variables

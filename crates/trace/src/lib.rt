@@ -13,9 +13,11 @@
 mod bits;
 mod changes;
 mod columns;
+mod lines;
 mod names;
 mod numbers;
 mod scopes;
+mod signal_values;
 mod signals;
 mod table;
 mod variables;

@@ -7,14 +7,14 @@ ghost use Rattle.trace.specs.Columns.{AreValues, values_at};
 ghost use Rattle.trace.specs.Signals.{bits_of};
 ghost use Rattle.trace.specs.Traces.{HasTraceCause, HasTraceCauseIn, PutsTrace, PutsTraceIn, row_text, spaced_number, trace_text, value_text};
 
-use crate::bits::{Bit, sorted_bits};
-use crate::columns::play;
+use crate::bits::Bit;
+use crate::lines::lines_of;
 use crate::numbers::put_number;
-use crate::signals::{Signal, put_signal_name, signals_of};
+use crate::signal_values::SignalValues;
+use crate::signals::{Signal, put_signal_name};
 use graph::{AigerFile, Failed, Seq, Sink, put_all};
-use simulate::Replay;
 use std::alloc::Global;
-use stimulus::{SimError, Stimulus, check_playable};
+use stimulus::{SimError, Stimulus};
 
 /// Puts a space and the number of some bits.
 fn put_value<W: Sink>(out: &mut W, bits: &[bool]) -> Result<(), Failed>
@@ -104,13 +104,14 @@ fn put_violated<W: Sink>(
     ensures device { IfErr result (λ e. e ≡ SimError.Device → W.failed out.new ≡ W.failed out.old + 1) }
     ensures untouched { IfErr result (λ e. e ≢ SimError.Device → out.new ≡ out.old) }
 {
-    let model = file.model();
-    check_playable(model.parts(), initial, inputs)?;
-    let mut replay = Replay::new(alloc, model, initial)?;
-    let bits = sorted_bits(alloc, file, all)?;
-    let signals = signals_of(alloc, &bits)?;
-    let values = play(alloc, &mut replay, &bits, inputs)?;
-    put_rows(out, &bits, &signals, &values, inputs.len())?;
+    let shown = SignalValues::new(alloc, file, initial, inputs, all)?;
+    put_rows(
+        out,
+        &shown.bits,
+        &shown.signals,
+        &shown.values,
+        inputs.len(),
+    )?;
     Ok(())
 }
 
@@ -136,12 +137,6 @@ pub fn put_trace<W: Sink>(
     ensures device { IfErr result (λ e. e ≡ SimError.Device → W.failed out.new ≡ W.failed out.old + 1) }
     ensures untouched { IfErr result (λ e. e ≢ SimError.Device → out.new ≡ out.old) }
 {
-    match stimulus {
-        Stimulus::Violated {
-            initial,
-            inputs,
-            ..
-        } => put_violated(alloc, file, initial.as_slice(), inputs.as_slice(), all, out),
-        _ => Err(SimError::NotViolated),
-    }
+    let (initial, inputs) = lines_of(stimulus)?;
+    put_violated(alloc, file, initial, inputs, all, out)
 }

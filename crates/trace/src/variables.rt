@@ -66,7 +66,7 @@ fn push_range(text: &mut Vec<u8>, high: u64, low: u64) -> Result<(), Refused>
     Ok(())
 }
 
-/// Adds a space and the indices of so many bits from the lowest on.
+/// Adds a space and the indices of this number of bits from the lowest on.
 fn push_indices(text: &mut Vec<u8>, count: usize, low: u32) -> Result<(), Refused>
     requires some { 0 < count }
     requires few { count < 2 ^ 63 }
@@ -89,7 +89,7 @@ fn push_place(text: &mut Vec<u8>, count: usize, index: Option<u32>) -> Result<()
     }
 }
 
-/// Adds what declares a variable of so many bits, of which this is the first.
+/// Adds what declares a variable of this number of bits, of which this is the first.
 fn push_declared(text: &mut Vec<u8>, bit: &Bit<'_>, count: usize) -> Result<(), Refused>
     requires some { 0 < count }
     requires few { count < 2 ^ 63 }

@@ -6,16 +6,16 @@ ghost use Rattle.graph.specs.Valuation.{Valuation};
 ghost use Rattle.trace.specs.Columns.{AreValues, values_at};
 ghost use Rattle.trace.specs.Waves.{HasWaveCause, HasWaveCauseIn, PutsWave, PutsWaveIn, head_text, wave_text};
 
-use crate::bits::{Bit, sorted_bits};
+use crate::bits::Bit;
 use crate::changes::push_times;
-use crate::columns::play;
-use crate::signals::{Signal, signals_of};
+use crate::lines::lines_of;
+use crate::signal_values::SignalValues;
+use crate::signals::Signal;
 use crate::variables::push_variables;
 use base::{Refused, extend};
 use graph::{AigerFile, Seq, Sink, put_all};
-use simulate::Replay;
 use std::alloc::Global;
-use stimulus::{SimError, Stimulus, check_playable};
+use stimulus::{SimError, Stimulus};
 
 /// Adds what comes before the first time.
 fn push_head(text: &mut Vec<u8>, bits: &[Bit<'_>], signals: &[Signal]) -> Result<(), Refused>
@@ -28,7 +28,7 @@ fn push_head(text: &mut Vec<u8>, bits: &[Bit<'_>], signals: &[Signal]) -> Result
     Ok(())
 }
 
-/// The waveform of the values of all bits at so many times, time after time.
+/// The waveform of the values of all bits at this number of times, time after time.
 fn wave(
     alloc: Global,
     bits: &[Bit<'_>],
@@ -62,13 +62,14 @@ fn put_violated<W: Sink>(
     ensures device { IfErr result (λ e. e ≡ SimError.Device → W.failed out.new ≡ W.failed out.old + 1) }
     ensures untouched { IfErr result (λ e. e ≢ SimError.Device → out.new ≡ out.old) }
 {
-    let model = file.model();
-    check_playable(model.parts(), initial, inputs)?;
-    let mut replay = Replay::new(alloc, model, initial)?;
-    let bits = sorted_bits(alloc, file, all)?;
-    let signals = signals_of(alloc, &bits)?;
-    let values = play(alloc, &mut replay, &bits, inputs)?;
-    let text = wave(alloc, &bits, &signals, &values, inputs.len())?;
+    let shown = SignalValues::new(alloc, file, initial, inputs, all)?;
+    let text = wave(
+        alloc,
+        &shown.bits,
+        &shown.signals,
+        &shown.values,
+        inputs.len(),
+    )?;
     put_all(out, text.as_slice())?;
     Ok(())
 }
@@ -101,12 +102,6 @@ pub fn put_vcd<W: Sink>(
     ensures device { IfErr result (λ e. e ≡ SimError.Device → W.failed out.new ≡ W.failed out.old + 1) }
     ensures untouched { IfErr result (λ e. e ≢ SimError.Device → out.new ≡ out.old) }
 {
-    match stimulus {
-        Stimulus::Violated {
-            initial,
-            inputs,
-            ..
-        } => put_violated(alloc, file, initial.as_slice(), inputs.as_slice(), all, out),
-        _ => Err(SimError::NotViolated),
-    }
+    let (initial, inputs) = lines_of(stimulus)?;
+    put_violated(alloc, file, initial, inputs, all, out)
 }

@@ -3,7 +3,7 @@
 use graph::Property;
 use scan::{Kinds, number};
 
-/// The faults of a position, of which none is told.
+/// The faults of a position, of which none is reported.
 const IN_POSITION: Kinds<()> = Kinds {
     truncated: (),
     number: (),

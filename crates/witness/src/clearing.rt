@@ -25,7 +25,7 @@ use stimulus::{JudgeError, Stimulus, check_playable, judge};
 /// first state and of the inputs.
 fn walk_back(
     alloc: Global,
-    model: &Model,
+    circuit: &Model,
     table: &GateTable,
     latches: &[Lit],
     states: &[Seq<bool>],
@@ -33,15 +33,15 @@ fn walk_back(
     goals: &[Seq<Lit>],
     closing: Seq<Option<bool>>,
 ) -> Result<Option<(Seq<Option<bool>>, Seq<Seq<Option<bool>>>)>, Refused>
-    requires table { IsGateTable model.now table.now }
-    requires latches { latches.now ≡ map (λ l. l.lit) model.now.latches }
+    requires table { IsGateTable circuit.now table.now }
+    requires latches { latches.now ≡ map (λ l. l.lit) circuit.now.latches }
     requires states { length states.now ≡ length lines.now + 1 }
-    requires states_fit { All (λ s. length s ≡ length model.now.latches) states.now }
-    requires lines_fit { All (λ l. length l ≡ length model.now.inputs) lines.now }
+    requires states_fit { All (λ s. length s ≡ length circuit.now.latches) states.now }
+    requires lines_fit { All (λ l. length l ≡ length circuit.now.inputs) lines.now }
     requires goals { length goals.now ≡ length lines.now }
-    requires known { All (λ goal. All (λ a. IsKnown model.now (variable a)) goal) goals.now }
+    requires known { All (λ goal. All (λ a. IsKnown circuit.now (variable a)) goal) goals.now }
     requires closing { Completes closing (slice_index_or states.now (length lines.now) []) }
-    ensures enough { IfOk result (λ found. IfSome found (λ c. AreEnough model.now goals.now closing c.0 c.1)) }
+    ensures enough { IfOk result (λ found. IfSome found (λ c. AreEnough circuit.now goals.now closing c.0 c.1)) }
     ensures state { IfOk result (λ found. IfSome found (λ c. Completes c.0 (slice_index_or states.now 0 []))) }
     ensures rows { IfOk result (λ found. IfSome found (λ c. CompleteAll c.1 lines.now)) }
 {
@@ -52,7 +52,7 @@ fn walk_back(
         let later = state.as_slice();
         let Some(Left { state: before, row }) = left_of_time(
             alloc,
-            model,
+            circuit,
             table,
             latches,
             states[t].as_slice(),
@@ -73,16 +73,16 @@ fn walk_back(
 /// The states of the run of these lines, up to the one after the last time. There are none where the first is against a reset.
 fn states_of(
     alloc: Global,
-    model: &Model,
+    circuit: &Model,
     initial: &[bool],
     lines: &[Seq<bool>],
 ) -> Result<Option<Vec<Seq<bool>>>, Refused>
-    requires playable { IsPlayable model.now initial.now lines.now }
+    requires playable { IsPlayable circuit.now initial.now lines.now }
     ensures count { IfOk result (λ found. IfSome found (λ v. length v.items ≡ length lines.now + 1)) }
-    ensures fit { IfOk result (λ found. IfSome found (λ v. All (λ s. length s ≡ length model.now.latches) v.items)) }
+    ensures fit { IfOk result (λ found. IfSome found (λ v. All (λ s. length s ≡ length circuit.now.latches) v.items)) }
     ensures first { IfOk result (λ found. IfSome found (λ v. slice_index_or v.items 0 [] ≡ initial.now)) }
 {
-    let mut replay = match Replay::new(alloc, model, initial) {
+    let mut replay = match Replay::new(alloc, circuit, initial) {
         Ok(replay) => replay,
         Err(ReplayError::InitialReset { .. }) => return Ok(None),
         Err(ReplayError::OutOfMemory(refused)) => return Err(refused),
@@ -112,7 +112,7 @@ fn passed(
     Ok(states)
 }
 
-/// The goals of a run whose last time sets a literal, behind so many other times.
+/// The goals of a run whose last time sets a literal, behind this number of other times.
 #[tactic(auto, using(crate::proofs::EnoughLaws::goals_more))]
 fn goals_to_set(alloc: Global, before: usize, lit: Lit) -> Result<Vec<Seq<Lit>>, Refused>
     ensures { IfOk result (λ v. v.items ≡ goals_for before lit) }
@@ -137,28 +137,28 @@ fn open_row(alloc: Global, like: &[Lit]) -> Result<Seq<Option<bool>>, Refused>
 /// What the run of these lines rests on, whose last time sets the literal.
 fn clear_bad(
     alloc: Global,
-    model: &Model,
+    circuit: &Model,
     property: Property,
     lit: Lit,
     initial: &[bool],
     lines: &[Seq<bool>],
 ) -> Result<Option<Cleared>, Refused>
-    requires watched { IsWatched model.now property lit }
-    requires playable { IsPlayable model.now initial.now lines.now }
-    ensures enough { IfOk result (λ found. IfSome found (IsEnough model.now)) }
+    requires watched { IsWatched circuit.now property lit }
+    requires playable { IsPlayable circuit.now initial.now lines.now }
+    ensures enough { IfOk result (λ found. IfSome found (IsEnough circuit.now)) }
     ensures is { IfOk result (λ found. IfSome found (λ c. IsClearedOf c (Violated property initial.now lines.now))) }
 {
-    value_laws(model);
-    model.parts();
-    let table = GateTable::new(alloc, model)?;
-    let latches = latch_literals(alloc, model)?;
-    let Some(states) = states_of(alloc, model, initial, lines)? else {
+    value_laws(circuit);
+    circuit.well_formed();
+    let table = GateTable::new(alloc, circuit)?;
+    let latches = latch_literals(alloc, circuit)?;
+    let Some(states) = states_of(alloc, circuit, initial, lines)? else {
         return Ok(None);
     };
     let goals = goals_to_set(alloc, lines.len() - 1, lit)?;
     let closing = open_row(alloc, &latches)?;
     match walk_back(
-        alloc, model, &table, &latches, &states, lines, &goals, closing,
+        alloc, circuit, &table, &latches, &states, lines, &goals, closing,
     )? {
         Some((initial, inputs)) => Ok(Some(Cleared {
             property,
@@ -170,10 +170,10 @@ fn clear_bad(
 }
 
 /// The literal that a property of the circuit watches; none of a justice property, or of one that there is not.
-fn literal_of(model: &Model, property: Property) -> Option<Lit>
-    ensures { IfSome result (IsWatched model.now property) }
+fn literal_of(circuit: &Model, property: Property) -> Option<Lit>
+    ensures { IfSome result (IsWatched circuit.now property) }
 {
-    let parts = model.parts();
+    let parts = circuit.parts();
     if !parts.has_property(property) {
         return None;
     }
@@ -209,13 +209,13 @@ fn whole_rows(alloc: Global, lines: &[Seq<bool>]) -> Result<Seq<Seq<Option<bool>
 /// The run of these lines, of which each value is left.
 fn clear_nothing(
     alloc: Global,
-    model: &Model,
+    circuit: &Model,
     property: Property,
     initial: &[bool],
     lines: &[Seq<bool>],
 ) -> Result<Cleared, Refused>
-    requires { Shows model.now (Violated property initial.now lines.now) }
-    ensures enough { IfOk result (IsEnough model.now) }
+    requires { Shows circuit.now (Violated property initial.now lines.now) }
+    ensures enough { IfOk result (IsEnough circuit.now) }
     ensures is { IfOk result (λ c. IsClearedOf c (Violated property initial.now lines.now)) }
 {
     Ok(Cleared {
@@ -226,10 +226,10 @@ fn clear_nothing(
 }
 
 /// Whether the stimulus shows its violation.
-fn is_shown(alloc: Global, model: &Model, stimulus: &Stimulus) -> Result<bool, Refused>
-    ensures { IfOk result (λ shown. IsTrue shown → Shows model.now stimulus.now) }
+fn is_shown(alloc: Global, circuit: &Model, stimulus: &Stimulus) -> Result<bool, Refused>
+    ensures { IfOk result (λ shown. IsTrue shown → Shows circuit.now stimulus.now) }
 {
-    match judge(alloc, model, stimulus) {
+    match judge(alloc, circuit, stimulus) {
         Ok(()) => Ok(true),
         Err(JudgeError::OutOfMemory(refused)) => Err(refused),
         Err(_) => Ok(false),
@@ -240,8 +240,12 @@ fn is_shown(alloc: Global, model: &Model, stimulus: &Stimulus) -> Result<bool, R
 /// (a justification of the literals that make it, from the last time to the first: Een, Mishchenko, Brayton 2011). Of a justice
 /// property all values are left. There is nothing where the stimulus shows no violation. It costs three passes over the gates for each
 /// time, and takes the state of each time.
-pub fn clear(alloc: Global, model: &Model, stimulus: &Stimulus) -> Result<Option<Cleared>, Refused>
-    ensures enough { IfOk result (λ found. IfSome found (IsEnough model.now)) }
+pub fn clear(
+    alloc: Global,
+    circuit: &Model,
+    stimulus: &Stimulus,
+) -> Result<Option<Cleared>, Refused>
+    ensures enough { IfOk result (λ found. IfSome found (IsEnough circuit.now)) }
     ensures is { IfOk result (λ found. IfSome found (λ c. IsClearedOf c stimulus.now)) }
 {
     let Stimulus::Violated {
@@ -253,13 +257,13 @@ pub fn clear(alloc: Global, model: &Model, stimulus: &Stimulus) -> Result<Option
         return Ok(None);
     };
     let (initial, lines) = (initial.as_slice(), inputs.as_slice());
-    if check_playable(model.parts(), initial, lines).is_err()
-        || !is_shown(alloc, model, stimulus)?
+    if check_playable(circuit.parts(), initial, lines).is_err()
+        || !is_shown(alloc, circuit, stimulus)?
     {
         return Ok(None);
     }
-    match literal_of(model, *property) {
-        Some(lit) => clear_bad(alloc, model, *property, lit, initial, lines),
-        None => Ok(Some(clear_nothing(alloc, model, *property, initial, lines)?)),
+    match literal_of(circuit, *property) {
+        Some(lit) => clear_bad(alloc, circuit, *property, lit, initial, lines),
+        None => Ok(Some(clear_nothing(alloc, circuit, *property, initial, lines)?)),
     }
 }

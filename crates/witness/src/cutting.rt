@@ -27,15 +27,15 @@ fn times_to_set(replay: &mut Replay<'_>, lit: Lit, lines: &[Seq<bool>]) -> Optio
 /// How many times pass up to the first at which a run of these lines sets the literal.
 fn times_to_bad(
     alloc: Global,
-    model: &Model,
+    circuit: &Model,
     lit: Lit,
     initial: &[bool],
     lines: &[Seq<bool>],
 ) -> Result<Option<usize>, JudgeError>
-    requires in_range { variable lit ≤ model.now.max_var }
-    requires playable { IsPlayable model.now initial.now lines.now }
+    requires in_range { variable lit ≤ circuit.now.max_var }
+    requires playable { IsPlayable circuit.now initial.now lines.now }
 {
-    let mut replay = Replay::new(alloc, model, initial)?;
+    let mut replay = Replay::new(alloc, circuit, initial)?;
     Ok(times_to_set(&mut replay, lit, lines))
 }
 
@@ -47,10 +47,10 @@ pub fn nth(lits: &[Lit], n: u32) -> Option<Lit>
 }
 
 /// The literal that a property watches, where the circuit has the property.
-fn watched(model: &Model, property: Property) -> Option<Lit>
-    ensures { IfSome result (λ a. variable a ≤ model.now.max_var) }
+fn watched(circuit: &Model, property: Property) -> Option<Lit>
+    ensures { IfSome result (λ a. variable a ≤ circuit.now.max_var) }
 {
-    let parts = model.parts();
+    let parts = circuit.parts();
     match property {
         Property::Bad(n) => nth(parts.bad.as_slice(), n),
         Property::Output(n) => nth(parts.outputs.as_slice(), n),
@@ -61,19 +61,19 @@ fn watched(model: &Model, property: Property) -> Option<Lit>
 /// How many times pass up to the first violation of the property in the run of these lines, where there is one.
 pub fn times_to_violation(
     alloc: Global,
-    model: &Model,
+    circuit: &Model,
     property: Property,
     initial: &[bool],
     lines: &[Seq<bool>],
 ) -> Result<Option<usize>, JudgeError> {
-    if check_playable(model.parts(), initial, lines).is_err() {
+    if check_playable(circuit.parts(), initial, lines).is_err() {
         return Ok(None);
     }
     if let Property::Justice(j) = property {
-        return first_lasso(alloc, model, j, initial, lines);
+        return first_lasso(alloc, circuit, j, initial, lines);
     }
-    match watched(model, property) {
-        Some(lit) => times_to_bad(alloc, model, lit, initial, lines),
+    match watched(circuit, property) {
+        Some(lit) => times_to_bad(alloc, circuit, lit, initial, lines),
         None => Ok(None),
     }
 }

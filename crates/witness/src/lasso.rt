@@ -90,18 +90,18 @@ fn times_to_close(
 /// How many times pass until the run of these lines first closes a lasso of the justice property.
 pub fn first_lasso(
     alloc: Global,
-    model: &Model,
+    circuit: &Model,
     j: u32,
     initial: &[bool],
     lines: &[Seq<bool>],
 ) -> Result<Option<usize>, JudgeError>
-    requires playable { IsPlayable model.now initial.now lines.now }
+    requires playable { IsPlayable circuit.now initial.now lines.now }
 {
-    let parts = model.parts();
+    let parts = circuit.parts();
     if j as usize >= parts.justice.len() {
         return Ok(None);
     }
     let wanted = wanted(alloc, parts, j)?;
-    let mut replay = Replay::new(alloc, model, initial)?;
+    let mut replay = Replay::new(alloc, circuit, initial)?;
     Ok(times_to_close(alloc, &mut replay, &wanted, lines)?)
 }

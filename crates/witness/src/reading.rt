@@ -81,10 +81,10 @@ fn loose_of(
 /// dot, and have all values on one line; comments (lines that begin with `c`, or `u` and a digit, and what stands behind a `#`) are passed
 /// over. A value is `0` or `1`, or `x`, `X`, `?` or `-`, which leave it open. It costs the length of the text in time, and
 /// in memory its lines and values.
-pub fn read(alloc: Global, model: &Model, text: &[u8]) -> Result<Loose, WitnessError> {
+pub fn read(alloc: Global, circuit: &Model, text: &[u8]) -> Result<Loose, WitnessError> {
     let shape = Shape {
-        latches: model.latches().len(),
-        inputs: model.inputs().len(),
+        latches: circuit.latches().len(),
+        inputs: circuit.inputs().len(),
     };
     let lines = lines(alloc, text, shape)?;
     let behind = after_status(lines.as_slice(), shape)?;

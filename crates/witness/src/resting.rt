@@ -11,7 +11,7 @@ ghost use Rattle.witness.specs.Cleared.{AreTrueFrom, IsTimeEnough, kept_by};
 
 use base::{Refused, copied, extend, filled, push};
 use cones::{GateTable, Reach, extend as extend_marks, value_laws};
-use graph::{Lit, Model, Seq};
+use graph::{Lit, Model, Seq, literal_value};
 use std::alloc::Global;
 
 /// The literal that is true where this one has the value.
@@ -31,12 +31,12 @@ pub fn with_value(lit: Lit, value: bool) -> Lit
 
 /// Literals that are true where the state after a time has the values that are wanted later.
 #[tactic(auto, using(crate::proofs::NextLaws::nexts_given, crate::proofs::NextLaws::nexts_none))]
-fn nexts(alloc: Global, model: &Model, later: &[Option<bool>]) -> Result<Vec<Lit>, Refused>
-    requires { length later.now ≡ length model.now.latches }
-    ensures known { IfOk result (λ v. All (λ a. IsKnown model.now (variable a)) v.items) }
-    ensures means { (w : Valuation) → IfOk result (λ v. All (λ a. value_of w a ≡ true) v.items → Completes later.now (next_state model.now w)) }
+fn nexts(alloc: Global, circuit: &Model, later: &[Option<bool>]) -> Result<Vec<Lit>, Refused>
+    requires { length later.now ≡ length circuit.now.latches }
+    ensures known { IfOk result (λ v. All (λ a. IsKnown circuit.now (variable a)) v.items) }
+    ensures means { (w : Valuation) → IfOk result (λ v. All (λ a. value_of w a ≡ true) v.items → Completes later.now (next_state circuit.now w)) }
 {
-    let latches = model.parts().latches.as_slice();
+    let latches = circuit.parts().latches.as_slice();
     let mut nexts = Vec::new(alloc);
     for (position, given) in later.iter().enumerate() {
         if let Some(value) = *given {
@@ -49,40 +49,31 @@ fn nexts(alloc: Global, model: &Model, later: &[Option<bool>]) -> Result<Vec<Lit
 /// Literals that are true at a time that keeps the constraints, meets the goal, and leads to what is wanted later.
 fn wanted(
     alloc: Global,
-    model: &Model,
+    circuit: &Model,
     goal: &[Lit],
     later: &[Option<bool>],
 ) -> Result<Vec<Lit>, Refused>
-    requires goal { All (λ a. IsKnown model.now (variable a)) goal.now }
-    requires later { length later.now ≡ length model.now.latches }
-    ensures known { IfOk result (λ v. All (λ a. IsKnown model.now (variable a)) v.items) }
-    ensures means { (w : Valuation) → IfOk result (λ v. All (λ a. value_of w a ≡ true) v.items → (KeepsAt model.now w × All (λ a. value_of w a ≡ true) goal.now) × Completes later.now (next_state model.now w)) }
+    requires goal { All (λ a. IsKnown circuit.now (variable a)) goal.now }
+    requires later { length later.now ≡ length circuit.now.latches }
+    ensures known { IfOk result (λ v. All (λ a. IsKnown circuit.now (variable a)) v.items) }
+    ensures means { (w : Valuation) → IfOk result (λ v. All (λ a. value_of w a ≡ true) v.items → (KeepsAt circuit.now w × All (λ a. value_of w a ≡ true) goal.now) × Completes later.now (next_state circuit.now w)) }
 {
-    let mut wanted = copied(alloc, model.parts().constraints.as_slice())?;
-    let nexts = nexts(alloc, model, later)?;
+    let mut wanted = copied(alloc, circuit.parts().constraints.as_slice())?;
+    let nexts = nexts(alloc, circuit, later)?;
     extend(&mut wanted, goal)?;
     extend(&mut wanted, &nexts)?;
     Ok(wanted)
 }
 
-/// Whether the literal is true.
-fn is_true(values: &[bool], lit: Lit) -> bool
-    requires { variable lit < length values.now }
-    ensures { result ≡ value_of values.now lit }
-{
-    let at = values[lit.variable() as usize];
-    if lit.is_negated() { !at } else { at }
-}
-
 /// Whether each literal is true.
-fn are_true(model: &Model, values: &[bool], lits: &[Lit]) -> bool
-    requires places { length values.now ≡ model.now.max_var + 1 }
-    requires known { All (λ a. IsKnown model.now (variable a)) lits.now }
+fn are_true(circuit: &Model, values: &[bool], lits: &[Lit]) -> bool
+    requires places { length values.now ≡ circuit.now.max_var + 1 }
+    requires known { All (λ a. IsKnown circuit.now (variable a)) lits.now }
     ensures { IsTrue result ↔ All (λ a. value_of values.now a ≡ true) lits.now }
 {
-    model.parts();
+    circuit.well_formed();
     for lit in lits {
-        if !is_true(values, *lit) {
+        if !literal_value(*lit, values) {
             return false;
         }
     }
@@ -92,25 +83,25 @@ fn are_true(model: &Model, values: &[bool], lits: &[Lit]) -> bool
 /// Marks the variables on whose values the literals rest. None is marked before.
 fn mark(
     alloc: Global,
-    model: &Model,
+    circuit: &Model,
     table: &GateTable,
     values: &[bool],
     lits: &[Lit],
     marks: &mut [bool],
 ) -> Result<(), Refused>
-    requires table { IsGateTable model.now table.now }
-    requires agrees { Agrees model.now values.now }
-    requires known { All (λ a. IsKnown model.now (variable a)) lits.now }
-    requires places { length marks.old ≡ model.now.max_var + 1 }
+    requires table { IsGateTable circuit.now table.now }
+    requires agrees { Agrees circuit.now values.now }
+    requires known { All (λ a. IsKnown circuit.now (variable a)) lits.now }
+    requires places { length marks.old ≡ circuit.now.max_var + 1 }
     requires clear { (v : ℕ) → place marks.old v ≡ false }
-    ensures justified { OnOk result (IsJustification model.now (IsMarked marks.new) values.now) }
+    ensures justified { OnOk result (IsJustification circuit.now (IsMarked marks.new) values.now) }
     ensures marked { OnOk result (All (λ a. IsMarked marks.new (variable a)) lits.now) }
     ensures same_places { length marks.new ≡ length marks.old }
 {
-    model.parts();
+    circuit.well_formed();
     extend_marks(
         alloc,
-        model,
+        circuit,
         table,
         Reach::Justification,
         values,
@@ -136,7 +127,7 @@ fn kept_value(values: &[bool], marks: &[bool], lit: Lit) -> Option<bool>
     ensures { result ≡ kept_by values.now marks.now lit }
 {
     if is_marked(marks, lit) {
-        Some(is_true(values, lit))
+        Some(literal_value(lit, values))
     } else {
         None
     }
@@ -160,11 +151,11 @@ fn kept(
 }
 
 /// The literals of the latches.
-pub fn latch_literals(alloc: Global, model: &Model) -> Result<Vec<Lit>, Refused>
-    ensures { IfOk result (λ v. v.items ≡ map (λ l. l.lit) model.now.latches) }
+pub fn latch_literals(alloc: Global, circuit: &Model) -> Result<Vec<Lit>, Refused>
+    ensures { IfOk result (λ v. v.items ≡ map (λ l. l.lit) circuit.now.latches) }
 {
     let mut lits = Vec::new(alloc);
-    for latch in model.parts().latches.as_slice() {
+    for latch in circuit.parts().latches.as_slice() {
         push(&mut lits, latch.lit)?;
     }
     Ok(lits)
@@ -182,44 +173,44 @@ pub struct Left {
 /// The values of the latches and inputs that are marked.
 fn left_by(
     alloc: Global,
-    model: &Model,
+    circuit: &Model,
     latches: &[Lit],
     values: &[bool],
     marks: &[bool],
 ) -> Result<Left, Refused>
-    requires latches { latches.now ≡ map (λ l. l.lit) model.now.latches }
-    requires places { length values.now ≡ model.now.max_var + 1 }
+    requires latches { latches.now ≡ map (λ l. l.lit) circuit.now.latches }
+    requires places { length values.now ≡ circuit.now.max_var + 1 }
     ensures state { IfOk result (λ left. left.state ≡ map (kept_by values.now marks.now) latches.now) }
-    ensures row { IfOk result (λ left. left.row ≡ map (kept_by values.now marks.now) model.now.inputs) }
+    ensures row { IfOk result (λ left. left.row ≡ map (kept_by values.now marks.now) circuit.now.inputs) }
 {
-    model.parts();
+    circuit.well_formed();
     let state = kept(alloc, latches, values, marks)?;
-    let row = kept(alloc, model.inputs(), values, marks)?;
+    let row = kept(alloc, circuit.inputs(), values, marks)?;
     Ok(Left { state, row })
 }
 
 /// What literals that are true at the time of these values rest on.
 fn left_of(
     alloc: Global,
-    model: &Model,
+    circuit: &Model,
     table: &GateTable,
     latches: &[Lit],
     values: &[bool],
     lits: &[Lit],
 ) -> Result<Left, Refused>
-    requires table { IsGateTable model.now table.now }
-    requires latches { latches.now ≡ map (λ l. l.lit) model.now.latches }
-    requires agrees { Agrees model.now values.now }
-    requires known { All (λ a. IsKnown model.now (variable a)) lits.now }
+    requires table { IsGateTable circuit.now table.now }
+    requires latches { latches.now ≡ map (λ l. l.lit) circuit.now.latches }
+    requires agrees { Agrees circuit.now values.now }
+    requires known { All (λ a. IsKnown circuit.now (variable a)) lits.now }
     requires are_true { All (λ a. value_of values.now a ≡ true) lits.now }
-    ensures enough { IfOk result (λ left. AreTrueFrom model.now left.state left.row lits.now) }
-    ensures state { IfOk result (λ left. Completes left.state (state_of model.now values.now)) }
-    ensures row { IfOk result (λ left. Completes left.row (inputs_of model.now values.now)) }
+    ensures enough { IfOk result (λ left. AreTrueFrom circuit.now left.state left.row lits.now) }
+    ensures state { IfOk result (λ left. Completes left.state (state_of circuit.now values.now)) }
+    ensures row { IfOk result (λ left. Completes left.row (inputs_of circuit.now values.now)) }
 {
-    value_laws(model);
-    let mut marks = filled(alloc, false, model.parts().max_var as usize + 1)?;
-    mark(alloc, model, table, values, lits, &mut marks)?;
-    let left = left_by(alloc, model, latches, values, &marks)?;
+    value_laws(circuit);
+    let mut marks = filled(alloc, false, circuit.parts().max_var as usize + 1)?;
+    mark(alloc, circuit, table, values, lits, &mut marks)?;
+    let left = left_by(alloc, circuit, latches, values, &marks)?;
     Ok(left)
 }
 
@@ -227,7 +218,7 @@ fn left_of(
 /// where it does not.
 pub fn left_of_time(
     alloc: Global,
-    model: &Model,
+    circuit: &Model,
     table: &GateTable,
     latches: &[Lit],
     state: &[bool],
@@ -235,21 +226,21 @@ pub fn left_of_time(
     goal: &[Lit],
     later: &[Option<bool>],
 ) -> Result<Option<Left>, Refused>
-    requires table { IsGateTable model.now table.now }
-    requires latches { latches.now ≡ map (λ l. l.lit) model.now.latches }
-    requires state { length state.now ≡ length model.now.latches }
-    requires line { length line.now ≡ length model.now.inputs }
-    requires goal { All (λ a. IsKnown model.now (variable a)) goal.now }
-    requires later { length later.now ≡ length model.now.latches }
-    ensures enough { IfOk result (λ left. IfSome left (λ l. IsTimeEnough model.now goal.now later.now l.state l.row)) }
+    requires table { IsGateTable circuit.now table.now }
+    requires latches { latches.now ≡ map (λ l. l.lit) circuit.now.latches }
+    requires state { length state.now ≡ length circuit.now.latches }
+    requires line { length line.now ≡ length circuit.now.inputs }
+    requires goal { All (λ a. IsKnown circuit.now (variable a)) goal.now }
+    requires later { length later.now ≡ length circuit.now.latches }
+    ensures enough { IfOk result (λ left. IfSome left (λ l. IsTimeEnough circuit.now goal.now later.now l.state l.row)) }
     ensures state { IfOk result (λ left. IfSome left (λ l. Completes l.state state.now)) }
     ensures row { IfOk result (λ left. IfSome left (λ l. Completes l.row line.now)) }
 {
-    let mut values = filled(alloc, false, model.parts().max_var as usize + 1)?;
-    model.eval(state, line, &mut values);
-    let wanted = wanted(alloc, model, goal, later)?;
-    if !are_true(model, &values, &wanted) {
+    let mut values = filled(alloc, false, circuit.parts().max_var as usize + 1)?;
+    circuit.eval(state, line, &mut values);
+    let wanted = wanted(alloc, circuit, goal, later)?;
+    if !are_true(circuit, &values, &wanted) {
         return Ok(None);
     }
-    Ok(Some(left_of(alloc, model, table, latches, &values, &wanted)?))
+    Ok(Some(left_of(alloc, circuit, table, latches, &values, &wanted)?))
 }

@@ -30,20 +30,20 @@ fn shortened(lines: Seq<Seq<bool>>, times: usize) -> Seq<Seq<bool>>
 /// The stimulus of these lines, where it shows the violation.
 fn judged(
     alloc: Global,
-    model: &Model,
+    circuit: &Model,
     property: Property,
     initial: Seq<bool>,
     inputs: Seq<Seq<bool>>,
 ) -> Result<Stimulus, JudgeError>
     ensures is { IfOk result (λ s. s ≡ Violated property initial inputs) }
-    ensures shows { IfOk result (Shows model.now) }
+    ensures shows { IfOk result (Shows circuit.now) }
 {
     let stimulus = Stimulus::Violated {
         property,
         initial,
         inputs,
     };
-    judge(alloc, model, &stimulus)?;
+    judge(alloc, circuit, &stimulus)?;
     Ok(stimulus)
 }
 
@@ -51,14 +51,14 @@ fn judged(
 #[tactic(auto, using(crate::proofs::CompletionLaws::complete_cut))]
 fn up_to_violation(
     alloc: Global,
-    model: &Model,
+    circuit: &Model,
     property: Property,
     initial: &[bool],
     inputs: Seq<Seq<bool>>,
 ) -> Result<Seq<Seq<bool>>, JudgeError>
     ensures { (rows : List (List (Option Bool))) → CompleteFirst rows inputs → IfOk result (CompleteFirst rows) }
 {
-    match times_to_violation(alloc, model, property, initial, inputs.as_slice())? {
+    match times_to_violation(alloc, circuit, property, initial, inputs.as_slice())? {
         Some(times) => Ok(shortened(inputs, times)),
         None => Ok(inputs),
     }
@@ -67,21 +67,21 @@ fn up_to_violation(
 /// The stimulus with this first state and inputs, with that value in place of what doesn't matter, where it shows the violation.
 fn try_values(
     alloc: Global,
-    model: &Model,
+    circuit: &Model,
     property: Property,
     state: &[Option<bool>],
     rows: &[Seq<Option<bool>>],
     other: bool,
 ) -> Result<Stimulus, JudgeError>
-    ensures shows { IfOk result (Shows model.now) }
+    ensures shows { IfOk result (Shows circuit.now) }
     ensures property { IfOk result (λ s. property_of s ≡ property) }
     ensures values { IfOk result (HasValues (state.now ∷ rows.now)) }
     ensures inputs { IfOk result (HasValues rows.now) }
 {
-    let initial = completed(alloc, state, model.latches(), other)?;
+    let initial = completed(alloc, state, circuit.latches(), other)?;
     let inputs = completed_rows(alloc, rows, other)?;
-    let inputs = up_to_violation(alloc, model, property, initial.as_slice(), inputs)?;
-    judged(alloc, model, property, initial, inputs)
+    let inputs = up_to_violation(alloc, circuit, property, initial.as_slice(), inputs)?;
+    judged(alloc, circuit, property, initial, inputs)
 }
 
 /// Whether another try may be made after this refusal.
@@ -92,18 +92,18 @@ fn goes_on(error: JudgeError) -> bool {
 /// The same with 0 in place of what doesn't matter, or else with 1.
 fn try_both(
     alloc: Global,
-    model: &Model,
+    circuit: &Model,
     property: Property,
     state: &[Option<bool>],
     rows: &[Seq<Option<bool>>],
 ) -> Result<Stimulus, JudgeError>
-    ensures shows { IfOk result (Shows model.now) }
+    ensures shows { IfOk result (Shows circuit.now) }
     ensures property { IfOk result (λ s. property_of s ≡ property) }
     ensures values { IfOk result (HasValues (state.now ∷ rows.now)) }
     ensures inputs { IfOk result (HasValues rows.now) }
 {
-    match try_values(alloc, model, property, state, rows, false) {
-        Err(error) if goes_on(error) => try_values(alloc, model, property, state, rows, true),
+    match try_values(alloc, circuit, property, state, rows, false) {
+        Err(error) if goes_on(error) => try_values(alloc, circuit, property, state, rows, true),
         tried => tried,
     }
 }
@@ -111,16 +111,16 @@ fn try_both(
 /// The stimulus whose first state is the first row.
 fn try_with_state(
     alloc: Global,
-    model: &Model,
+    circuit: &Model,
     property: Property,
     rows: &[Seq<Option<bool>>],
 ) -> Result<Stimulus, JudgeError>
-    ensures shows { IfOk result (Shows model.now) }
+    ensures shows { IfOk result (Shows circuit.now) }
     ensures property { IfOk result (λ s. property_of s ≡ property) }
     ensures values { IfOk result (HasValues rows.now) }
 {
     match rows {
-        [state, inputs @ ..] => try_both(alloc, model, property, state.as_slice(), inputs),
+        [state, inputs @ ..] => try_both(alloc, circuit, property, state.as_slice(), inputs),
         [] => Err(JudgeError::NoInputLine),
     }
 }
@@ -128,36 +128,36 @@ fn try_with_state(
 /// The stimulus whose inputs are all rows. Its first state is the resets.
 fn try_inputs_alone(
     alloc: Global,
-    model: &Model,
+    circuit: &Model,
     property: Property,
     rows: &[Seq<Option<bool>>],
 ) -> Result<Stimulus, JudgeError>
-    ensures shows { IfOk result (Shows model.now) }
+    ensures shows { IfOk result (Shows circuit.now) }
     ensures property { IfOk result (λ s. property_of s ≡ property) }
     ensures values { IfOk result (HasValues rows.now) }
 {
-    let state: Vec<Option<bool>> = filled_like(alloc, None, model.latches())?;
-    try_both(alloc, model, property, &state, rows)
+    let state: Vec<Option<bool>> = filled_like(alloc, None, circuit.latches())?;
+    try_both(alloc, circuit, property, &state, rows)
 }
 
 /// The stimulus of one property, by each reading of the rows.
 fn try_property(
     alloc: Global,
-    model: &Model,
+    circuit: &Model,
     property: Property,
     loose: &Loose,
 ) -> Result<Stimulus, JudgeError>
-    ensures shows { IfOk result (Shows model.now) }
+    ensures shows { IfOk result (Shows circuit.now) }
     ensures property { IfOk result (λ s. property_of s ≡ property) }
     ensures values { IfOk result (HasValues loose.now.rows) }
 {
     let rows = loose.rows.as_slice();
     if !loose.has_state {
-        return try_inputs_alone(alloc, model, property, rows);
+        return try_inputs_alone(alloc, circuit, property, rows);
     }
-    match try_with_state(alloc, model, property, rows) {
+    match try_with_state(alloc, circuit, property, rows) {
         Err(error) if loose.has_inputs_alone && goes_on(error) => {
-            try_inputs_alone(alloc, model, property, rows)
+            try_inputs_alone(alloc, circuit, property, rows)
         }
         tried => tried,
     }
@@ -170,15 +170,15 @@ fn try_property(
 /// where none shows a violation.
 pub fn strict(
     alloc: Global,
-    model: &Model,
+    circuit: &Model,
     loose: &Loose,
     asked: &[Property],
 ) -> Result<Stimulus, WitnessError>
-    ensures { IfOk result (IsStrict model.now loose.now.rows asked.now) }
+    ensures { IfOk result (IsStrict circuit.now loose.now.rows asked.now) }
 {
     let mut last = JudgeError::NoProperty(0);
     for property in asked {
-        match try_property(alloc, model, *property, loose) {
+        match try_property(alloc, circuit, *property, loose) {
             Ok(stimulus) => return Ok(stimulus),
             Err(JudgeError::OutOfMemory(refused)) => return Err(WitnessError::from(refused)),
             Err(error) => last = error,
@@ -190,7 +190,7 @@ pub fn strict(
 /// The properties to ask for: the one that is chosen, or those that the text names, or else all of the circuit.
 pub fn asked_of(
     alloc: Global,
-    model: &Model,
+    circuit: &Model,
     loose: &Loose,
     chosen: Option<Property>,
 ) -> Result<Vec<Property>, Refused>
@@ -198,7 +198,7 @@ pub fn asked_of(
 {
     match chosen {
         Some(property) => copied(alloc, &[property]),
-        None if loose.properties.is_empty() => all_properties(alloc, model),
+        None if loose.properties.is_empty() => all_properties(alloc, circuit),
         None => copied(alloc, loose.properties.as_slice()),
     }
 }

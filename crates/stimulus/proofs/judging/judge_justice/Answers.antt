@@ -9,11 +9,11 @@ use Rattle.stimulus.proofs.judging.judge_justice.Goals as goal
 
 pub has_lasso-requires-clause-in_range : goal.has_lasso-requires-clause-in_range
 has_lasso-requires-clause-in_range c =
-    rw (c.deref.ensures.value, c.in_ok-wanted.ensures, c.parts.ensures.parts) (wanted_in_range c.args.model.now c.args.j c.parts.ensures.well_formed c.requires.fit.property)
+    rw (c.deref.ensures.value, c.in_ok-wanted.ensures, c.parts.ensures.parts) (wanted_in_range c.args.circuit.now c.args.j c.parts.ensures.well_formed c.requires.fit.property)
 
 pub returns-then-branch-clause-shown : goal.returns-then-branch-clause-shown
 returns-then-branch-clause-shown c =
-    let m = c.args.model.now in
+    let m = c.args.circuit.now in
     let run = c.requires.runs in
     let lists : c.deref.result.now ≡ wanted_of m c.args.j = c.deref.ensures.value ∙ c.in_ok-wanted.ensures ∙ ap (λ (p : Parts). wanted_of p c.args.j) c.parts.ensures.parts in
     let closes : c.state.result.now ≡ closing_state m run.valuations = c.state.ensures ∙ run.has_state in
@@ -33,7 +33,7 @@ returns-then-branch-clause-shown c =
 
 pub returns-clause-refused : goal.returns-clause-refused
 returns-clause-refused c =
-    let m = c.args.model.now in
+    let m = c.args.circuit.now in
     let run = c.requires.runs in
     let lists : c.deref.result.now ≡ wanted_of m c.args.j = c.deref.ensures.value ∙ c.in_ok-wanted.ensures ∙ ap (λ (p : Parts). wanted_of p c.args.j) c.parts.ensures.parts in
     let closes : c.state.result.now ≡ closing_state m run.valuations = c.state.ensures ∙ run.has_state in

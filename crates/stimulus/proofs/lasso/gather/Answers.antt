@@ -1,7 +1,7 @@
 use Rattle.std.proofs.Common.{◌≡◌, ◌<◌, [], length, get_or, refl, sym, ◌∙◌, arith}
 use Rattle.std.proofs.lemmas.List.{get_or_default}
 use Rattle.stimulus.proofs.CourseLaws.{moves_of}
-use Rattle.stimulus.proofs.LassoLaws.{gathered_none, gathered_more, gathered_all}
+use Rattle.stimulus.proofs.LassoLaws.{gathered_none, gathered_more, gathered_all, gathered_early}
 use Rattle.stimulus.proofs.lasso.gather.Goals as goal
 
 pub loop-line-init : goal.loop-line-init
@@ -17,6 +17,10 @@ loop-line-preserved c =
     let marked = c.mark.ensures c.step.ensures.now s.is_now in
     gathered_more m c.args.replay.now.state c.as_slice.result.now c.args.lines.now c.args.wanted.now c.args.marks.now c.loop-line.marks c.mark.new.marks c.loop-line.line-index c.loop-line.replay c.step.new.self
     c.step.ensures.now i_in is_line marked.long c.loop-line.invariant s marked
+
+pub returns-then-are_all_set : goal.returns-then-are_all_set
+returns-then-are_all_set c = gathered_early c.args.replay.now.circuit c.args.replay.now.state c.args.lines.now c.args.wanted.now c.args.marks.now c.loop-line.marks c.loop-line.line-index c.loop-line.replay (omega arith)
+    c.requires.lengths (c.are_all_set.ensures.0 c.if-are_all_set.true) c.loop-line.invariant
 
 pub returns : goal.returns
 returns c = gathered_all c.args.replay.now.circuit c.args.replay.now.state c.args.lines.now c.args.wanted.now c.args.marks.now c.loop-line.marks c.loop-line.line-index c.loop-line.replay (omega arith) c.loop-line.invariant

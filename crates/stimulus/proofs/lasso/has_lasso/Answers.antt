@@ -9,7 +9,7 @@ use Rattle.stimulus.proofs.lasso.has_lasso.Goals as goal
 
 pub returns-clause-found : goal.returns-clause-found
 returns-clause-found c = λ x course.
-    let m = c.args.model.now in
+    let m = c.args.circuit.now in
     let first = c.args.initial.now in
     let lines = c.args.lines.now in
     let wanted = c.args.wanted.now in
@@ -18,7 +18,7 @@ returns-clause-found c = λ x course.
     let now = c.meet.new.replay.state in
     let e = c.in_ok-replay.ensures.begun.0 in
     let met = rw e at c.in-Some.ensures.met in
-    let is_m : c.meet.new.replay.circuit ≡ c.args.model.now = c.in-Some.ensures.circuit ∙ ap (λ r. r.circuit) e in
+    let is_m : c.meet.new.replay.circuit ≡ c.args.circuit.now = c.in-Some.ensures.circuit ∙ ap (λ r. r.circuit) e in
     let rest : Course c.meet.new.replay.circuit now (drop s lines) (drop s x) = subst (λ (p : Parts). Course p now (drop s lines) (drop s x)) (sym is_m) (met.goes_on x course) in
     let tail : take (length lines - s) (drop s lines) ≡ drop s lines = take_all (length lines - s) (drop s lines) (omega (arith, length-drop s lines)) in
     let cut : Course c.meet.new.replay.circuit now (take (length lines - s) (drop s lines)) (drop s x) = subst (λ (ls : List (List Bool)). Course c.meet.new.replay.circuit now ls (drop s x)) (sym tail) rest in

@@ -19,13 +19,13 @@ walk_back-requires-clause-goals c =
 
 pub walk_back-requires-clause-known : goal.walk_back-requires-clause-known
 walk_back-requires-clause-known c =
-    let m = c.args.model.now in
+    let m = c.args.circuit.now in
     subst (λ (gs : List (List Lit)). All (λ goal. All (λ a. IsKnown m (variable a)) goal) gs) (sym (c.deref-4.ensures.value ∙ c.in_ok-goals.ensures))
-    (goals_known m (length c.args.lines.now - 1) c.args.lit (watched_known m c.args.property c.args.lit c.parts.ensures.well_formed c.requires.watched))
+    (goals_known m (length c.args.lines.now - 1) c.args.lit (watched_known m c.args.property c.args.lit c.well_formed-2.ensures c.requires.watched))
 
 pub walk_back-requires-clause-closing : goal.walk_back-requires-clause-closing
 walk_back-requires-clause-closing c =
-    let m = c.args.model.now in
+    let m = c.args.circuit.now in
     let n = length c.args.lines.now in
     let count = if_some_at (λ v. length v.items ≡ n + 1) c.in_ok-states.field-0 c.in-Some.states c.in_ok-states.ensures.count c.in-Some.is in
     let fit = if_some_at (λ v. All (λ s. length s ≡ length m.latches) v.items) c.in_ok-states.field-0 c.in-Some.states c.in_ok-states.ensures.fit c.in-Some.is in
@@ -35,7 +35,7 @@ walk_back-requires-clause-closing c =
 
 pub returns-in-Some-2-clause-enough : goal.returns-in-Some-2-clause-enough
 returns-in-Some-2-clause-enough c =
-    let m = c.args.model.now in
+    let m = c.args.circuit.now in
     let n = length c.args.lines.now in
     let states = c.deref-3.result.now in
     let found : List (Option Bool) × List (List (Option Bool)) = (c.in-Some-2.initial, c.in-Some-2.inputs) in

@@ -13,7 +13,7 @@ left_of_time-requires-clause-later c =
 
 pub loop-t-preserved : goal.loop-t-preserved
 loop-t-preserved c =
-    let m = c.args.model.now in
+    let m = c.args.circuit.now in
     let i = c.loop-t.t - 1 in
     let left = c.in-Some.field-0 in
     let e : i + 1 ≡ c.loop-t.t = omega (arith, c.loop-t-test.true) in

@@ -7,8 +7,8 @@ use Rattle.witness.proofs.cutting.watched.Goals as goal
 
 pub returns-in-Bad : goal.returns-in-Bad
 returns-in-Bad c =
-    rw (c.nth.ensures, c.as_slice.ensures, c.parts-parts.ensures.parts) (found_has (λ (a : Lit). variable a ≤ c.args.model.now.max_var) c.args.model.now.bad c.in-Bad.n (bad_in_range c.args.model.now c.parts-parts.ensures.well_formed))
+    rw (c.nth.ensures, c.as_slice.ensures, c.parts-parts.ensures.parts) (found_has (λ (a : Lit). variable a ≤ c.args.circuit.now.max_var) c.args.circuit.now.bad c.in-Bad.n (bad_in_range c.args.circuit.now c.parts-parts.ensures.well_formed))
 
 pub returns-in-Output : goal.returns-in-Output
 returns-in-Output c =
-    rw (c.nth-in-Output.ensures, c.as_slice-in-Output.ensures, c.parts-parts.ensures.parts) (found_has (λ (a : Lit). variable a ≤ c.args.model.now.max_var) c.args.model.now.outputs c.in-Output.n (outputs_in_range c.args.model.now c.parts-parts.ensures.well_formed))
+    rw (c.nth-in-Output.ensures, c.as_slice-in-Output.ensures, c.parts-parts.ensures.parts) (found_has (λ (a : Lit). variable a ≤ c.args.circuit.now.max_var) c.args.circuit.now.outputs c.in-Output.n (outputs_in_range c.args.circuit.now c.parts-parts.ensures.well_formed))

@@ -7,8 +7,8 @@ use Rattle.witness.proofs.resting.left_by.Goals as goal
 
 pub kept-requires : goal.kept-requires
 kept-requires c = subst (λ (lits : List Lit). All (λ a. variable a < length c.args.values.now) lits) (sym c.requires.latches)
-    (small_latches c.args.model.now.latches c.args.values.now c.args.model.now.max_var (latches_in_range c.args.model.now c.parts.ensures.well_formed) c.requires.places)
+    (small_latches c.args.circuit.now.latches c.args.values.now c.args.circuit.now.max_var (latches_in_range c.args.circuit.now c.well_formed-2.ensures) c.requires.places)
 
 pub kept-requires-2 : goal.kept-requires-2
 kept-requires-2 c = subst (λ (lits : List Lit). All (λ a. variable a < length c.args.values.now) lits) (sym c.inputs.ensures)
-    (small_inputs c.args.model.now c.args.values.now c.parts.ensures.well_formed c.requires.places)
+    (small_inputs c.args.circuit.now c.args.values.now c.well_formed-2.ensures c.requires.places)

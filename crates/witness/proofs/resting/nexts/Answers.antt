@@ -7,7 +7,7 @@ use Rattle.witness.proofs.resting.nexts.Goals as goal
 
 pub loop-position-preserved : goal.loop-position-preserved
 loop-position-preserved c =
-    let m = c.args.model.now in
+    let m = c.args.circuit.now in
     let i = c.loop-position.position in
     let d : Latch = record { lit = record { 0 = 0 }; next = record { 0 = 0 }; reset = record { 0 = 0 } } in
     let inside : i < length m.latches = omega (arith, c.loop-position-test.true, c.requires) in
