@@ -141,7 +141,7 @@ certificate_reads =
 pub one_certificate : (text : List ℕ) (c d : Certificate) → SpellsCertificate text c → SpellsCertificate text d → c ≡ d
 one_certificate text c d s r = spells_one certificate_reads text c d s r
 
--- where a certificate is spelled, only out of memory is told
+-- where a certificate is spelled, only out of memory is reported
 pub refused_for_memory : (n : ℕ) (e : Fault Refusal) (c : Certificate) (read : Option Certificate) → Fails e read → read ≡ Some c → error_of n e ≡ OutOfMemory witness
 refused_for_memory n (Memory refused) c read f s = refl
 refused_for_memory n (Text kind left) c read f s = absurd (none-some c (sym f ∙ s))

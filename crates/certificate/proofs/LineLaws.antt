@@ -1,15 +1,13 @@
 -- Lines are read from the piece that comes next.
-use Rattle.std.proofs.Common.{◌≡◌, ℕ, zero, suc, ◌+◌, ◌^◌, ◌<◌, ◌%◌, Bool, true, leb, ◌&&◌, List, [], ◌∷◌, ◌++◌, length, Option, Some, None, All, ℤ, pos, negsuc, refl, sym, ap, ◌∙◌, append_assoc, arith, inl, inr, unsigned_abs}
+use Rattle.std.proofs.Common.{◌≡◌, ℕ, zero, suc, ◌+◌, ◌^◌, ◌<◌, ◌%◌, Bool, true, leb, ◌&&◌, List, [], ◌∷◌, ◌++◌, length, take, Option, Some, None, All, ℤ, pos, negsuc, refl, sym, ap, ◌∙◌, append_assoc, arith, inl, inr, unsigned_abs}
 use Rattle.std.specs.Prelude.{decimal, codes, flat_map}
 use Rattle.std.specs.Fmt.{signed_decimal}
 use Rattle.std.proofs.lemmas.Bool.{le-leb, cases_Bool, and_parts}
 use Rattle.std.proofs.lemmas.Fmt.{decimal_by_steps}
-use Rattle.std.proofs.lemmas.List.{append-nil}
 use Rattle.std.proofs.lemmas.List.Elements.{All-head, All-tail}
 use Rattle.std.proofs.lemmas.Option.{none-some}
 use Rattle.scan.specs.Reading.{◌>>=◌, Read, ended}
 use Rattle.scan.specs.Words.{any, field_at, IsField}
-use Rattle.scan.specs.Spelling.{Nothing, After}
 use Rattle.scan.proofs.Toolbox.{Reads, reads_as, reads_nothing, reads_after, skips_byte, ended_takes, ended_again}
 use Rattle.scan.proofs.WordLaws.{field_reads}
 use Rattle.graph.specs.declared.circuit.Lit.{Lit}
@@ -208,6 +206,11 @@ letter_of_piece k = of_piece (letter_reads k) (letter_is_line k)
 
 pub line_of_piece : IsOfPiece item_at
 line_of_piece = of_piece item_reads item_is_line
+
+-- what is read of the first bytes takes some
+pub some_taken : {A : Type 0} {p : List ℕ → Read A} → IsOfPiece p → (bytes : List ℕ) (n : ℕ) (x : A) → ended (p (take n bytes)) ≡ Some x → 0 < n
+some_taken law bytes zero x e = absurd (none-some x (sym law.takes ∙ e))
+some_taken law bytes (suc n) x e = omega arith
 
 -- ---- what is read of a whole line
 

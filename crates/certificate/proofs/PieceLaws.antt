@@ -3,6 +3,8 @@ use Rattle.std.proofs.Common.{◌≡◌, ℕ, ◌+◌, ◌<◌, true, false, Lis
 use Rattle.std.proofs.Math.Seq.{take-append-add, drop-append-add, drop-length}
 use Rattle.std.proofs.lemmas.List.{append-nil, take_more, take_all, length-take-le}
 use Rattle.std.specs.Io.KnownBytes.{Consumes, IsAtEnd}
+use Rattle.std.proofs.lemmas.Bool.Decides.{nat_tests}
+use Rattle.memchr.specs.Find.{is_byte, Passes}
 use Rattle.lrat.proofs.Exact.{parts_at}
 use Rattle.certificate.specs.Pieces.{is_inner, piece_at, EndsAt, GoesOn, Splits}
 
@@ -35,6 +37,12 @@ ends_here bytes i lt one other =
     let len : length (take i bytes) ≡ i = length-take-le i bytes (omega arith) in
     let e : EndsAt (take i bytes ++ get_or bytes i 0 ∷ drop (i + 1) bytes) (length (take i bytes) + 1) = goes_ends (take i bytes) (get_or bytes i 0 ∷ drop (i + 1) bytes) 1 one (ends_one (get_or bytes i 0) (drop (i + 1) bytes) other) in
     rw (← parts_at bytes i 0 lt, len) at e
+
+-- the first bytes go on, and the next is a line end
+pub ends_line : (bytes : List ℕ) (i : ℕ) → i < length bytes → GoesOn (take i bytes) → Passes (is_byte 10) bytes i → EndsAt bytes (i + 1)
+ends_line bytes i lt one end =
+    let e : get_or bytes i 0 ≡ 10 = grind (arith, nat_tests) in
+    ends_here bytes i lt one (ap is_inner e)
 
 -- what was taken behind what was held
 whole_held : (old held taken x y : List ℕ) → x ≡ taken ++ y → held ≡ old ++ taken → old ++ x ≡ held ++ y

@@ -1,7 +1,7 @@
 -- A reader finds what the text says, however its source cuts it.
 use Rattle.std.specs.Prelude.{IsErrAnd}
 use Rattle.base.specs.Witness.{witness}
-use Rattle.std.proofs.Common.{◌≡◌, ℕ, zero, suc, ◌+◌, ◌-◌, ◌<◌, ◌≤◌, Bool, true, false, List, [], ◌∷◌, ◌++◌, length, take, drop, Option, Some, None, Result, Ok, Err, refl, sym, ap, subst, ◌∙◌, append_assoc, arith, inl, inr}
+use Rattle.std.proofs.Common.{◌≡◌, ℕ, zero, suc, ◌+◌, ◌-◌, ◌<◌, ◌≤◌, List, [], ◌∷◌, ◌++◌, length, take, drop, Option, Some, None, Result, Ok, Err, refl, sym, ap, subst, ◌∙◌, arith, inl, inr}
 use Rattle.std.proofs.lemmas.Bool.{cases_Bool}
 use Rattle.std.proofs.lemmas.List.{append-nil, length-take-le, length-append, nil_from_length}
 use Rattle.std.proofs.lemmas.Option.{none-some, same_Some}
@@ -18,7 +18,7 @@ use Rattle.certificate.specs.declared.reader_error.ReaderError.TheVariants.{Refu
 use Rattle.certificate.specs.declared.cert_error.CertError.TheVariants as text
 use Rattle.certificate.specs.declared.refusal.Refusal.{Refusal}
 use Rattle.certificate.specs.declared.refusal.Refusal.TheVariants as kind
-use Rattle.certificate.specs.Pieces.{is_inner, piece_at, IsOfPiece, Splits}
+use Rattle.certificate.specs.Pieces.{is_inner, piece_at, Splits}
 use Rattle.certificate.specs.Refusals.{error_of}
 use Rattle.certificate.specs.declared.kinds.SectionKind.{SectionKind}
 use Rattle.certificate.specs.declared.certificate.Certificate.{Certificate}
@@ -54,7 +54,7 @@ pub stuck_from : {A : Type 0} (p : List ℕ → Read A) → FromPiece p → (hel
 stuck_from p law held later ys None b n known splits e = absurd (none-some ys known)
 stuck_from p law held later ys (Some xs) b n known splits e = none_found p law held later ys b n (subst (λ w. Splits held (Some w) later b n) (same_Some xs ys known) splits) e
 
--- a text refusal is told only of a text from which nothing is read
+-- a text refusal is reported only of a text from which nothing is read
 pub for_text : (total : ℕ) (fault : Fault Refusal) (P : Type 0) {A : Type 0} (o : Option A) → (o ≡ None → P) → Fails fault o → ForText (Refused (error_of total fault)) P
 for_text total (Memory refused) P o f none = tt
 for_text total (Text kind.Version left) P o f none = f none
@@ -146,7 +146,7 @@ pub then_finds_with : {A B X Y : Type 0} (O : A → Y → Type 0) (P : B → X �
     → FindsWith O read (Ok y) held source → ((x : A) (zs : List ℕ) → O x y → source ≡ Some zs → FindsWith P (q x (held ++ zs)) r later last) → FindsWith P (read >>= λ r. q r.0 r.1) r later last
 then_finds_with O P read q y held later source last r (x, rest, is, o, left) next = then_finds P read q x held later source last r (rest, is, left) (λ zs known. next x zs o known)
 
--- what is found is told of another value
+-- what is found is reported of another value
 pub finds_if : {A X Y : Type 0} (P : A → X → Type 0) (Q : A → Y → Type 0) (f : X → Y) (read : Read A) (x : X) (held : List ℕ) (source : Option (List ℕ)) → ((a : A) → P a x → Q a (f x)) → FindsWith P read (Ok x) held source → FindsWith Q read (Ok (f x)) held source
 finds_if P Q f read x held source h (a, rest, is, p, left) = (a, rest, is, h a p, left)
 

@@ -1,5 +1,5 @@
 -- How the texts of certificates are read, step by step.
-use Rattle.std.specs.Prelude.{ℕ, List, [], ◌∷◌, ◌++◌, Option, Some, None, codes}
+use Rattle.std.specs.Prelude.{ℕ, Bool, true, false, List, [], ◌∷◌, ◌++◌, Option, Some, None, codes}
 use Rattle.scan.specs.Reading.{◌>>=◌, Read}
 use Rattle.scan.specs.Numbers.{number_at}
 use Rattle.scan.specs.Bytes.{byte_at, tag_at, choice_at}
@@ -75,6 +75,11 @@ clause_at bytes = do
 unfoldable pub item_at : List ℕ → Read (Option Line)
 item_at bytes = choice_at 46 (λ after. byte_at 10 after >>= λ rest. Some (None, rest)) (λ text. line_at text >>= λ line. Some (Some line.0, line.1)) bytes
 
+-- the line that a buffer holds, where one was read
+abbrev pub line_where : Bool → Line → Option Line
+line_where true line = Some line
+line_where false line = None
+
 -- a line with the letter, and the lines up to the dot
 unfoldable pub section_at : ℕ → List ℕ → Read (List Line)
 section_at letter bytes = do
@@ -87,7 +92,7 @@ unfoldable pub lemmas_at : Version → List ℕ → Read (Option (List Line))
 lemmas_at One bytes = Some (None, bytes)
 lemmas_at Two bytes = section_at 108 bytes >>= λ lemmas. Some (Some lemmas.0, lemmas.1)
 
--- the sections for so many clauses
+-- the sections for this number of clauses
 unfoldable pub sections_at : ℕ → List ℕ → Read (List (List Line))
 sections_at clauses bytes = do
   initial ← many_at (section_at 105) clauses bytes

@@ -1,4 +1,4 @@
--- What is told of a text that is refused.
+-- What is reported of a text that is refused.
 use Rattle.std.specs.Prelude.{ℕ, ◌-◌}
 use Rattle.base.specs.Witness.{witness}
 use Rattle.scan.specs.declared.fault.Fault.{Fault}

@@ -1,13 +1,14 @@
 -- What a reader over a source finds.
-use Rattle.std.specs.Prelude.{◌≡◌, ℕ, List, [], ◌∷◌, ◌++◌, Option, Some, None, Result, Ok, Err}
+use Rattle.std.specs.Prelude.{◌≡◌, ℕ, Bool, List, [], ◌∷◌, ◌++◌, Option, Some, None, Result, Ok, Err}
 use Rattle.scan.specs.Reading.{◌>>=◌, Read}
 use Rattle.scan.specs.Bytes.{byte_at}
 use Rattle.graph.specs.declared.circuit.Lit.{Lit}
+use Rattle.lrat.specs.declared.line.Line.{Line}
 use Rattle.graph.specs.declared.circuit.Property.{Property as AProperty}
 use Rattle.certificate.specs.declared.cert_error.CertError.TheVariants.{OutOfMemory}
 use Rattle.certificate.specs.declared.certificate.Certificate.{Certificate}
 use Rattle.certificate.specs.declared.head.Version.{Version}
-use Rattle.certificate.specs.Reading.{lemmas_at, sections_at}
+use Rattle.certificate.specs.Reading.{lemmas_at, line_where, sections_at}
 use Rattle.certificate.specs.declared.kinds.SectionKind.{SectionKind}
 use Rattle.certificate.specs.declared.kinds.SectionKind.TheVariants.{Lemmas, Initial, Step, Bad}
 use Rattle.certificate.specs.declared.reader_error.ReaderError.{ReaderError}
@@ -17,7 +18,7 @@ use Rattle.certificate.specs.declared.reader_error.ReaderError.TheVariants.{Refu
 abbrev pub AreLeft : List ℕ → Option (List ℕ) → List ℕ → Type 0
 AreLeft held source bytes = (zs : List ℕ) × (source ≡ Some zs) × (bytes ≡ held ++ zs)
 
--- want of memory and a failing device aside, this holds of a refusal
+-- out of memory and a failing device aside, this holds of a refusal
 abbrev pub ForText : ReaderError → Type 0 → Type 0
 ForText (Refused (OutOfMemory refused)) P = Unit {0}
 ForText (Refused other) P = P
@@ -34,6 +35,11 @@ Finds read (Ok x) held source = (rest : List ℕ) × (read ≡ Some (x, rest)) �
 Finds read (Err e) held source = ForText e (read ≡ None)
 
 -- ---- what is read of lines
+
+-- an answer, with the line that was read into a buffer
+abbrev pub with_line : Result Bool ReaderError → Line → Result (Option Line) ReaderError
+with_line (Ok there) line = Ok (line_where there line)
+with_line (Err e) line = Err e
 
 -- the letter of a section
 abbrev pub letter_of : SectionKind → ℕ

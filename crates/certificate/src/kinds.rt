@@ -2,14 +2,12 @@
 
 ghost use Rattle.std.specs.Prelude.{◌≡◌};
 ghost use Rattle.scan.specs.Words.{any, field_at};
-ghost use Rattle.certificate.specs.Reading.{first_line_at, greatest, item_at, property_at};
+ghost use Rattle.certificate.specs.Reading.{first_line_at, greatest, property_at};
 ghost use Rattle.certificate.specs.Streams.{letter_at, letter_of};
 
 use crate::head::{GREATEST, Version, first_line, property};
 use crate::refusal::{IN_LETTER, IN_LINE, Refusal};
-use crate::sections::line_or_end;
 use graph::Property;
-use lrat::Line;
 use scan::{Fault, LineKind, byte, field};
 use std::alloc::Global;
 
@@ -120,28 +118,5 @@ impl LineKind for LetterLine {
         let rest = byte(text, kind.letter(), IN_LETTER)?;
         let rest = byte(rest, b'\n', IN_LINE)?;
         Ok(((), rest))
-    }
-}
-
-/// A line of a section's proof, or its end.
-pub struct ProofLine;
-
-impl LineKind for ProofLine {
-    type Item = Option<Line>;
-
-    type Context = ();
-
-    type Refusal = Refusal;
-
-    ghost allows = { λ _. Unit {0} };
-
-    ghost at = { λ _ bytes. item_at bytes };
-
-    fn line(
-        alloc: Global,
-        text: &[u8],
-        _context: (),
-    ) -> Result<(Option<Line>, &[u8]), Fault<Refusal>> {
-        line_or_end(alloc, text)
     }
 }

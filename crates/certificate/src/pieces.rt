@@ -8,6 +8,7 @@ ghost use Rattle.certificate.specs.declared.pieces.PieceError.TheVariants.{Devic
 use crate::cert_error::CertError;
 use crate::reader_error::ReaderError;
 use base::{Failed, Refused, Source, extend, filled};
+use memchr::memchr;
 use std::alloc::Global;
 use std::marker::Model;
 
@@ -36,19 +37,27 @@ impl From<PieceError> for ReaderError {
     }
 }
 
-/// Whether the byte may stand in a line before its end.
+/// Whether the byte may stand in a line before its end. It is reported without a branch.
 fn inner(byte: u8) -> bool
     ensures { result ≡ is_inner byte }
 {
     byte.is_ascii_digit()
-        || byte == b' '
-        || byte == b'-'
-        || byte == b'.'
-        || byte.is_ascii_lowercase()
+        | ((byte == b' ') | ((byte == b'-') | ((byte == b'.') | byte.is_ascii_lowercase())))
+}
+
+/// Whether each byte may stand in a line before its end. It looks at all of them, many at once.
+fn are_inner(bytes: &[u8]) -> bool
+    ensures { IsTrue result → GoesOn bytes.now }
+{
+    let mut are = true;
+    for byte in bytes {
+        are &= inner(*byte);
+    }
+    are
 }
 
 /// How many bytes there are up to the first that may stand in no line before its end, with that.
-fn end_of(bytes: &[u8]) -> Option<usize>
+fn first_other(bytes: &[u8]) -> Option<usize>
     ensures some { IfSome result (λ n. EndsAt bytes.now n) }
     ensures within { IfSome result (λ n. 0 < n × n ≤ length bytes.now) }
     ensures none { IfNone result (GoesOn bytes.now) }
@@ -59,6 +68,19 @@ fn end_of(bytes: &[u8]) -> Option<usize>
         }
     }
     None
+}
+
+/// The same, soonest where that byte is a line end, as in every certificate.
+fn end_of(bytes: &[u8]) -> Option<usize>
+    ensures some { IfSome result (λ n. EndsAt bytes.now n) }
+    ensures within { IfSome result (λ n. 0 < n × n ≤ length bytes.now) }
+    ensures none { IfNone result (GoesOn bytes.now) }
+{
+    match memchr(b'\n', bytes) {
+        Some(end) if are_inner(&bytes[..end]) => Some(end + 1),
+        None if are_inner(bytes) => None,
+        _ => first_other(bytes),
+    }
 }
 
 /// Takes bytes of the source behind those that are held, up to the end of the next piece and a

@@ -5,19 +5,20 @@ ghost use Rattle.scan.specs.Reading.{Gives, ended};
 ghost use Rattle.scan.specs.Words.{any, field_at};
 ghost use Rattle.lrat.specs.Limits.{IsLine};
 ghost use Rattle.certificate.specs.Pieces.{IsOfPiece};
-ghost use Rattle.certificate.specs.Reading.{clause_at, first_line_at, greatest, item_at, property_at};
-ghost use Rattle.certificate.specs.Streams.{Finds, end_at, letter_at};
+ghost use Rattle.certificate.specs.Reading.{clause_at, first_line_at, greatest, item_at, line_where, property_at};
+ghost use Rattle.certificate.specs.Streams.{Finds, end_at, letter_at, with_line};
 ghost use Rattle.certificate.specs.declared.reader_error.ReaderError.TheVariants.{Device};
 
 use crate::cert_error::CertError;
 use crate::head::{ClauseLine, Version};
-use crate::kinds::{CountLine, FirstLine, LetterLine, ProofLine, PropertyLine, SectionKind};
+use crate::kinds::{CountLine, FirstLine, LetterLine, PropertyLine, SectionKind};
 use crate::pieces::Pieces;
 use crate::reader_error::ReaderError;
 use crate::refusal::{Refusal, error};
+use crate::sections::line_into;
 use base::{Refused, Source};
 use graph::{Lit, Property, Seq};
-use lrat::Line;
+use lrat::LineBuffer;
 use scan::{Fault, LineKind};
 use std::alloc::Global;
 use std::marker::Model;
@@ -67,6 +68,48 @@ fn line_from<L: LineKind<Refusal = Refusal>, S: Source>(
     pieces.skip(n);
     *before = total;
     Ok(item)
+}
+
+/// Reads the one line of a section that the whole text is into the buffer, and answers whether it
+/// is one; else it ends the section.
+fn only_item(alloc: Global, line: &mut LineBuffer, text: &[u8]) -> Result<bool, Fault<Refusal>>
+    ensures { Gives (λ there. line_where there line.new) result (ended (item_at text.now)) }
+{
+    let (there, rest) = line_into(alloc, line, text)?;
+    if !rest.is_empty() {
+        return Err(Fault::Text {
+            kind: Refusal::Byte,
+            left: rest.len(),
+        });
+    }
+    Ok(there)
+}
+
+/// Reads the next line of a section into the buffer, and answers whether there is one.
+#[tactic(auto, using(crate::proofs::LineLaws::line_of_piece, crate::proofs::LineLaws::line_within))]
+fn item_from<S: Source>(
+    alloc: Global,
+    pieces: &mut Pieces,
+    before: &mut usize,
+    line: &mut LineBuffer,
+    from: &mut S,
+) -> Result<bool, ReaderError>
+    requires source { S.failed from.old < 2 ^ 64 - 1 }
+    ensures says { (ys : List ℕ) → S.remaining from.old ≡ Some ys → Finds (item_at (pieces.old ++ ys)) (with_line result line.new) pieces.new (S.remaining from.new) }
+    ensures line { IfOk (with_line result line.new) (λ l. IfSome l IsLine) }
+    ensures moves { IfOk result (λ _. length pieces.new + S.most from.new < length pieces.old + S.most from.old) }
+    ensures device { IsErrOf result Device ↔ (S.failed from.new ≡ S.failed from.old + 1) }
+    ensures others { (IsErrOf result Device → ⊥) → S.failed from.new ≡ S.failed from.old }
+{
+    let n = pieces.next(from)?;
+    let total = before.saturating_add(n);
+    let there = match only_item(alloc, line, pieces.first(n)) {
+        Ok(there) => there,
+        Err(fault) => return Err(ReaderError::Refused(error(total, fault))),
+    };
+    pieces.skip(n);
+    *before = total;
+    Ok(there)
 }
 
 /// The text of a certificate, line by line, as a source gives its bytes. It holds the bytes of one
@@ -176,21 +219,23 @@ impl Reader {
         line_from::<LetterLine, S>(alloc, &mut self.pieces, &mut self.before, kind, from)
     }
 
-    /// The next line of a section's proof, or none at its end.
-    #[tactic(auto, using(crate::proofs::LineLaws::line_of_piece, crate::proofs::LineLaws::line_within))]
-    pub fn line<S: Source>(
+    /// Reads the next line of a section's proof into the buffer, and answers whether there is one;
+    /// else the proof is at its end. Memory is asked for only where a list of the line is longer
+    /// than those before.
+    pub fn line_into<S: Source>(
         &mut self,
         alloc: Global,
+        line: &mut LineBuffer,
         from: &mut S,
-    ) -> Result<Option<Line>, ReaderError>
+    ) -> Result<bool, ReaderError>
         requires source { S.failed from.old < 2 ^ 64 - 1 }
-        ensures says { (ys : List ℕ) → S.remaining from.old ≡ Some ys → Finds (item_at (self.old ++ ys)) result self.new (S.remaining from.new) }
-        ensures line { IfOk result (λ l. IfSome l IsLine) }
+        ensures says { (ys : List ℕ) → S.remaining from.old ≡ Some ys → Finds (item_at (self.old ++ ys)) (with_line result line.new) self.new (S.remaining from.new) }
+        ensures line { IfOk (with_line result line.new) (λ l. IfSome l IsLine) }
         ensures moves { IfOk result (λ _. length self.new + S.most from.new < length self.old + S.most from.old) }
         ensures device { IsErrOf result Device ↔ (S.failed from.new ≡ S.failed from.old + 1) }
         ensures others { (IsErrOf result Device → ⊥) → S.failed from.new ≡ S.failed from.old }
     {
-        line_from::<ProofLine, S>(alloc, &mut self.pieces, &mut self.before, (), from)
+        item_from::<S>(alloc, &mut self.pieces, &mut self.before, line, from)
     }
 
     /// Says that nothing is left: the source must be at its end.

@@ -13,7 +13,7 @@ use thiserror::Error;
 /// Why the parts of a certificate's text are not read on.
 #[derive(Clone, Copy, Debug, PartialEq, Eq, Error)]
 pub enum ReaderError {
-    /// the text is refused, or memory is wanting
+    /// the text is refused, or memory is refused
     #[error("{0}")]
     Refused(CertError),
     /// the source failed

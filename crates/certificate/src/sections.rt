@@ -3,19 +3,19 @@
 ghost use Rattle.std.specs.Prelude.{◌≡◌, ◌++◌, OnOk};
 ghost use Rattle.scan.specs.Reading.{Gives};
 ghost use Rattle.scan.specs.Lists.{items_at};
-ghost use Rattle.certificate.specs.Reading.{item_at, lemmas_at, section_at, sections_at};
+ghost use Rattle.certificate.specs.Reading.{item_at, lemmas_at, line_where, section_at, sections_at};
 
 use crate::head::Version;
 use crate::refusal::{IN_LETTER, IN_LINE, Refusal};
 use base::{Refused, push};
 use graph::Seq;
-use lrat::{Line, Proof, next_line};
+use lrat::{Line, LineBuffer, Proof, next_line};
 use scan::{Fault, LineKind, byte, lines};
 use std::alloc::Global;
 
 /// A line of a section, or none where a line with a dot ends it, and what follows.
 #[tactic(auto, unfolding(crate::specs::Reading::item_at))]
-pub fn line_or_end(alloc: Global, text: &[u8]) -> Result<(Option<Line>, &[u8]), Fault<Refusal>>
+fn line_or_end(alloc: Global, text: &[u8]) -> Result<(Option<Line>, &[u8]), Fault<Refusal>>
     ensures { Gives (λ x. (x.0, x.1.now)) result (item_at text.now) }
 {
     match text {
@@ -26,6 +26,28 @@ pub fn line_or_end(alloc: Global, text: &[u8]) -> Result<(Option<Line>, &[u8]), 
         _ => {
             let (line, rest) = next_line(alloc, text, IN_LINE)?;
             Ok((Some(line), rest))
+        }
+    }
+}
+
+/// Reads a line of a section into the buffer, and answers whether there is one; else a line with a
+/// dot ends the section. What follows comes with the answer.
+#[tactic(auto, unfolding(crate::specs::Reading::item_at))]
+pub fn line_into<'t>(
+    alloc: Global,
+    line: &mut LineBuffer,
+    text: &'t [u8],
+) -> Result<(bool, &'t [u8]), Fault<Refusal>>
+    ensures { Gives (λ x. (line_where x.0 line.new, x.1.now)) result (item_at text.now) }
+{
+    match text {
+        [b'.', behind @ ..] => {
+            let rest = byte(behind, b'\n', IN_LINE)?;
+            Ok((false, rest))
+        }
+        _ => {
+            let rest = line.read(alloc, text, IN_LINE)?;
+            Ok((true, rest))
         }
     }
 }
@@ -108,7 +130,7 @@ fn append(list: &mut Vec<Proof>, proofs: Vec<Proof>) -> Result<(), Refused>
     Ok(())
 }
 
-/// The sections for an invariant of so many clauses, and what follows the last one.
+/// The sections for an invariant of this number of clauses, and what follows the last one.
 #[tactic(auto, unfolding(crate::specs::Reading::sections_at))]
 pub fn sections(
     alloc: Global,

@@ -11,9 +11,10 @@ use crate::reader::Reader;
 use crate::reader_error::ReaderError;
 use base::{Source, push};
 use graph::{Lit, Seq};
+use lrat::LineBuffer;
 use std::alloc::Global;
 
-/// Reads so many clauses. The list grows clause by clause: no memory is taken ahead by a count that
+/// Reads this number of clauses. The list grows clause by clause: no memory is taken ahead by a count that
 /// the text states.
 pub fn read_clauses<S: Source>(
     alloc: Global,
@@ -46,10 +47,11 @@ pub fn skip_lines<S: Source>(
     ensures device { IsErrOf result Device ↔ (S.failed from.new ≡ S.failed from.old + 1) }
     ensures others { (IsErrOf result Device → ⊥) → S.failed from.new ≡ S.failed from.old }
 {
+    let mut line = LineBuffer::new(alloc);
     'skipping: loop {
-        match reader.line(alloc, from)? {
-            Some(_) => {}
-            None => return Ok(()),
+        let there = reader.line_into(alloc, &mut line, from)?;
+        if !there {
+            return Ok(());
         }
     }
 }
@@ -70,7 +72,7 @@ pub fn skip_section<S: Source>(
     skip_lines(alloc, reader, from)
 }
 
-/// Reads so many sections, and forgets their lines.
+/// Reads this number of sections, and forgets their lines.
 pub fn skip_sections<S: Source>(
     alloc: Global,
     kind: SectionKind,

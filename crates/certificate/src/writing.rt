@@ -129,7 +129,7 @@ fn put_each<W: Sink>(out: &mut W, letter: u8, proofs: &[Proof]) -> Result<(), Fa
     Ok(())
 }
 
-/// Puts the sections for an invariant of so many clauses.
+/// Puts the sections for an invariant of this number of clauses.
 fn put_sections<W: Sink>(out: &mut W, clauses: usize, proofs: &[Proof]) -> Result<(), Failed>
     requires room { W.failed out.old < 2 ^ 64 - 1 }
     requires enough { clauses + clauses ≤ length proofs.now }

@@ -15,7 +15,7 @@ use Rattle.checker.specs.declared.stop.Stop.TheVariants as stop
 use Rattle.checker.specs.Lines.{yes_line, no_line, Tells, BeginsToTell}
 use Rattle.checker.specs.Stops.{stop_of, stop_of_load, IsStop}
 
--- a refusal with this number stops, where the number is a reason unless memory was wanting
+-- a refusal with this number stops, where the number is a reason unless memory was refused
 pub stops : (N : ℕ → Type 0) (n : ℕ) → ((n ≡ 20 → ⊥) → N n) → IsStop N (stop_of n)
 stops N n reason = elim (cases_eq n 20) [
   | inl memory ↦ rw (eq-eqb n 20 memory) tt

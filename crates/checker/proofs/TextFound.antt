@@ -117,7 +117,7 @@ pub behind_clauses : {X : Type 0} (P : Certificate → X → Type 0) (v : Versio
 behind_clauses P v p n inv bytes held later source last r many first next =
     then_finds P (many_at clause_at n bytes) (parts_at v p n) inv held later source last r first (λ zs known. subst (λ k. FindsWith P (parts_at v p k inv (held ++ zs)) r later last) many (next zs known))
 
--- the property is told with what is found
+-- the property is reported with what is found
 abbrev pub IsOutcome : Parts → AProperty → Certificate → Option ℕ → Type 0
 IsOutcome m p c found = (p ≡ c.property) × IsFound m c found
 

@@ -98,7 +98,7 @@ IsRefusedSection m a c e k =
     IsRefusedLemma m c.invariant c.lemmas e k
     ⊎ ((b : Base) × IsShared m c.invariant c.lemmas b × IsFirstRefused (lemma_sections c.lemmas) (cases m b c.invariant a) c.sections e k)
 
--- how the refusal of a proof is told of the section at k: out of memory has no section
+-- how the refusal of a proof is reported of the section at k: out of memory has no section
 abbrev pub IsSectionError : StepError → ℕ → CheckError → Type 0
 IsSectionError e k r = ((e.fault ≡ NoMemory witness) × (r ≡ OutOfMemory witness)) ⊎ ((e.fault ≢ NoMemory witness) × (r ≡ Section e k))
 

@@ -47,7 +47,7 @@ pub record IsNotShown (f : File) (s : Stimulus) (n : ℕ) : Type 0 where
   pub cause : HasCause f.model s error
   pub number : n ≡ judge_number_of error
 
--- why the answer is no, with the number told: the first text is looked at first, then the second, and then what they say
+-- why the answer is no, with the number reported: the first text is looked at first, then the second, and then what they say
 abbrev pub IsRunRefusal : List ℕ → List ℕ → ℕ → Type 0
 IsRunRefusal xs ys n =
     SpellsNoFile xs n

@@ -52,7 +52,7 @@ pub record IsNotAccepted (f : File) (c : Certificate) (n : ℕ) : Type 0 where
   pub cause : HasCause f.model c error
   pub number : n ≡ number_of error
 
--- why the answer is no, with the number told: the first text is looked at first, then the second, and then what they say
+-- why the answer is no, with the number reported: the first text is looked at first, then the second, and then what they say
 abbrev pub IsRefusal : List ℕ → List ℕ → ℕ → Type 0
 IsRefusal xs ys n =
     SpellsNoFile xs n

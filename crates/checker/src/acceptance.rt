@@ -42,7 +42,7 @@ fn examine(
             found: sections as u64,
         });
     }
-    circuit.parts();
+    circuit.well_formed();
     let table = NextTable::new(alloc, circuit)?;
     check_clauses(alloc, circuit, &table, invariant)?;
     check_sections(alloc, circuit, &table, certificate, bad)
@@ -52,15 +52,15 @@ fn examine(
 /// of the one bad literal of its shadow circuit.
 fn examine_justice(
     alloc: Global,
-    model: &Model,
+    circuit: &Model,
     n: u32,
     certificate: &Certificate,
 ) -> Result<(), CheckError>
     requires { certificate.now.property ≡ Justice n }
-    ensures accepted { OnOk result (IsAcceptedCertificate model.now certificate.now) }
-    ensures refused { IfErr result (HasCause model.now certificate.now) }
+    ensures accepted { OnOk result (IsAcceptedCertificate circuit.now certificate.now) }
+    ensures refused { IfErr result (HasCause circuit.now certificate.now) }
 {
-    match to_safety(alloc, model, n) {
+    match to_safety(alloc, circuit, n) {
         Ok(shadow) => examine(alloc, &shadow, shadow.bad()[0], certificate),
         Err(LiveError::NoProperty(_)) => Err(CheckError::NoProperty { property: n }),
         Err(LiveError::Limit) => Err(CheckError::Limit),
@@ -79,20 +79,20 @@ pub fn no_property(property: Property) -> CheckError
 /// Looks for the first cause: the property, and then what there is for its circuit and literal.
 fn examine_property(
     alloc: Global,
-    model: &Model,
+    circuit: &Model,
     certificate: &Certificate,
 ) -> Result<(), CheckError>
-    ensures accepted { OnOk result (IsAcceptedCertificate model.now certificate.now) }
-    ensures refused { IfErr result (HasCause model.now certificate.now) }
+    ensures accepted { OnOk result (IsAcceptedCertificate circuit.now certificate.now) }
+    ensures refused { IfErr result (HasCause circuit.now certificate.now) }
 {
     let property = certificate.property;
-    if !model.parts().has_property(property) {
+    if !circuit.parts().has_property(property) {
         return Err(no_property(property));
     }
     match property {
-        Property::Bad(n) => examine(alloc, model, model.bad()[n as usize], certificate),
-        Property::Justice(n) => examine_justice(alloc, model, n, certificate),
-        Property::Output(n) => examine(alloc, model, model.outputs()[n as usize], certificate),
+        Property::Bad(n) => examine(alloc, circuit, circuit.bad()[n as usize], certificate),
+        Property::Justice(n) => examine_justice(alloc, circuit, n, certificate),
+        Property::Output(n) => examine(alloc, circuit, circuit.outputs()[n as usize], certificate),
     }
 }
 
@@ -106,12 +106,12 @@ fn examine_property(
 /// sections, the clauses, the lemmas, the sections of the cases.
 ///
 /// It costs the certificate's length and one circuit.
-pub fn check(alloc: Global, model: &Model, certificate: &Certificate) -> Result<(), CheckError>
-    ensures accepted { OnOk result (IsAcceptedCertificate model.now certificate.now) }
-    ensures refused { IfErr result (HasCause model.now certificate.now) }
-    ensures complete { IfErr result (λ e. e ≢ OutOfMemory witness → IsAcceptedCertificate model.now certificate.now → ⊥) }
-    ensures upheld { OnOk result (IsUpheld model.now certificate.now.property) }
+pub fn check(alloc: Global, circuit: &Model, certificate: &Certificate) -> Result<(), CheckError>
+    ensures accepted { OnOk result (IsAcceptedCertificate circuit.now certificate.now) }
+    ensures refused { IfErr result (HasCause circuit.now certificate.now) }
+    ensures complete { IfErr result (λ e. e ≢ OutOfMemory witness → IsAcceptedCertificate circuit.now certificate.now → ⊥) }
+    ensures upheld { OnOk result (IsUpheld circuit.now certificate.now.property) }
 {
-    model.parts();
-    examine_property(alloc, model, certificate)
+    circuit.well_formed();
+    examine_property(alloc, circuit, certificate)
 }

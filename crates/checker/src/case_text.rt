@@ -16,35 +16,37 @@ use crate::section_text::check_section;
 use certificate::{Reader, ReaderError, SectionKind, skip_section, skip_sections};
 use cnf::{NextTable, bad_unit, init_units, step_units};
 use graph::{Lit, Model, Seq, Source};
-use lrat::{Fault, Refuter};
+use lrat::{Fault, LineBuffer, Refuter};
 use std::alloc::Global;
 
-/// Reads the sections of the initial cases, and checks them. After the first fault they are only
-/// read.
+/// Reads the sections of the initial cases, line by line into the buffer, and checks them. After the
+/// first fault they are only read.
 pub fn check_initial<S: Source>(
     alloc: Global,
-    model: &Model,
+    circuit: &Model,
     invariant: &[Seq<Lit>],
     refuter: &mut Refuter,
+    line: &mut LineBuffer,
     reader: &mut Reader,
     from: &mut S,
 ) -> Result<Option<Fault>, ReaderError>
     requires source { S.failed from.old < 2 ^ 64 - 1 }
     requires fresh { refuter.old.refusal ≡ None }
-    requires base { refuter.old.base ≡ base_of (start_formula model.now) }
-    requires invariant { IsInvariant model.now invariant.now }
-    ensures says { (ys : List ℕ) → S.remaining from.old ≡ Some ys → FindsWith (AreOfCases (map (init_case model.now) invariant.now)) (many_at (section_at 105) (length invariant.now) (reader.old ++ ys)) result reader.new (S.remaining from.new) }
+    requires base { refuter.old.base ≡ base_of (start_formula circuit.now) }
+    requires invariant { IsInvariant circuit.now invariant.now }
+    ensures says { (ys : List ℕ) → S.remaining from.old ≡ Some ys → FindsWith (AreOfCases (map (init_case circuit.now) invariant.now)) (many_at (section_at 105) (length invariant.now) (reader.old ++ ys)) result reader.new (S.remaining from.new) }
     ensures device { IsErrOf result Device ↔ (S.failed from.new ≡ S.failed from.old + 1) }
     ensures others { (IsErrOf result Device → ⊥) → S.failed from.new ≡ S.failed from.old }
 {
-    model.parts();
+    circuit.well_formed();
     for (k, clause) in invariant.iter().enumerate() {
-        let units = init_units(alloc, model, clause.as_slice())?;
+        let units = init_units(alloc, circuit, clause.as_slice())?;
         let found = check_section(
             alloc,
             SectionKind::Initial,
             refuter,
             units.as_slice(),
+            line,
             reader,
             from,
         )?;
@@ -57,35 +59,38 @@ pub fn check_initial<S: Source>(
     Ok(None)
 }
 
-/// Reads the sections of the step cases, and checks them. After the first fault they are only read.
+/// Reads the sections of the step cases, line by line into the buffer, and checks them. After the
+/// first fault they are only read.
 pub fn check_steps<S: Source>(
     alloc: Global,
-    model: &Model,
+    circuit: &Model,
     table: &NextTable,
     invariant: &[Seq<Lit>],
     refuter: &mut Refuter,
+    line: &mut LineBuffer,
     reader: &mut Reader,
     from: &mut S,
 ) -> Result<Option<Fault>, ReaderError>
     requires source { S.failed from.old < 2 ^ 64 - 1 }
     requires fresh { refuter.old.refusal ≡ None }
-    requires vars { refuter.old.base.vars ≡ model.now.max_var + 1 }
-    requires invariant { IsInvariant model.now invariant.now }
-    requires table { IsTableOf model.now.latches table.now }
+    requires vars { refuter.old.base.vars ≡ circuit.now.max_var + 1 }
+    requires invariant { IsInvariant circuit.now invariant.now }
+    requires table { IsTableOf circuit.now.latches table.now }
     ensures base { refuter.new.base ≡ refuter.old.base }
     ensures fresh { IfOk result (λ found. IfNone found (refuter.new.refusal ≡ None)) }
-    ensures says { (ys : List ℕ) → S.remaining from.old ≡ Some ys → FindsWith (AreOfCases (map (step_case model.now refuter.old.base) invariant.now)) (many_at (section_at 115) (length invariant.now) (reader.old ++ ys)) result reader.new (S.remaining from.new) }
+    ensures says { (ys : List ℕ) → S.remaining from.old ≡ Some ys → FindsWith (AreOfCases (map (step_case circuit.now refuter.old.base) invariant.now)) (many_at (section_at 115) (length invariant.now) (reader.old ++ ys)) result reader.new (S.remaining from.new) }
     ensures device { IsErrOf result Device ↔ (S.failed from.new ≡ S.failed from.old + 1) }
     ensures others { (IsErrOf result Device → ⊥) → S.failed from.new ≡ S.failed from.old }
 {
-    model.parts();
+    circuit.well_formed();
     for (k, clause) in invariant.iter().enumerate() {
-        let units = step_units(alloc, model, table, clause.as_slice())?;
+        let units = step_units(alloc, circuit, table, clause.as_slice())?;
         let found = check_section(
             alloc,
             SectionKind::Step,
             refuter,
             units.as_slice(),
+            line,
             reader,
             from,
         )?;
@@ -99,10 +104,11 @@ pub fn check_steps<S: Source>(
 }
 
 /// Reads the sections of all cases, and checks them with the refuter of the initial cases and the
-/// one of the others. After the first fault they are only read.
+/// one of the others. After the first fault they are only read. One buffer holds the lines, one
+/// after the other.
 pub fn check_cases<S: Source>(
     alloc: Global,
-    model: &Model,
+    circuit: &Model,
     table: &NextTable,
     invariant: &[Seq<Lit>],
     bad: Lit,
@@ -112,29 +118,40 @@ pub fn check_cases<S: Source>(
     from: &mut S,
 ) -> Result<Option<Fault>, ReaderError>
     requires source { S.failed from.old < 2 ^ 64 - 1 }
-    requires invariant { IsInvariant model.now invariant.now }
-    requires table { IsTableOf model.now.latches table.now }
-    requires bad { Contains (used model.now) bad }
+    requires invariant { IsInvariant circuit.now invariant.now }
+    requires table { IsTableOf circuit.now.latches table.now }
+    requires bad { Contains (used circuit.now) bad }
     requires start { start.old.refusal ≡ None }
-    requires start_base { start.old.base ≡ base_of (start_formula model.now) }
+    requires start_base { start.old.base ≡ base_of (start_formula circuit.now) }
     requires shared { shared.old.refusal ≡ None }
-    requires vars { shared.old.base.vars ≡ model.now.max_var + 1 }
-    ensures says { (ys : List ℕ) → S.remaining from.old ≡ Some ys → FindsWith (AreOfCases (cases model.now shared.old.base invariant.now bad)) (sections_at (length invariant.now) (reader.old ++ ys)) result reader.new (S.remaining from.new) }
+    requires vars { shared.old.base.vars ≡ circuit.now.max_var + 1 }
+    ensures says { (ys : List ℕ) → S.remaining from.old ≡ Some ys → FindsWith (AreOfCases (cases circuit.now shared.old.base invariant.now bad)) (sections_at (length invariant.now) (reader.old ++ ys)) result reader.new (S.remaining from.new) }
     ensures device { IsErrOf result Device ↔ (S.failed from.new ≡ S.failed from.old + 1) }
     ensures others { (IsErrOf result Device → ⊥) → S.failed from.new ≡ S.failed from.old }
 {
     let count = invariant.len() as u32;
-    let initial = check_initial(alloc, model, invariant, start, reader, from)?;
+    let mut line = LineBuffer::new(alloc);
+    let initial = check_initial(alloc, circuit, invariant, start, &mut line, reader, from)?;
     if let Some(fault) = initial {
         skip_sections(alloc, SectionKind::Step, count, reader, from)?;
         skip_section(alloc, SectionKind::Bad, reader, from)?;
         return Ok(Some(fault));
     }
-    let steps = check_steps(alloc, model, table, invariant, shared, reader, from)?;
+    let steps = check_steps(
+        alloc, circuit, table, invariant, shared, &mut line, reader, from,
+    )?;
     if let Some(fault) = steps {
         skip_section(alloc, SectionKind::Bad, reader, from)?;
         return Ok(Some(fault));
     }
-    let unit = bad_unit(model, bad);
-    check_section(alloc, SectionKind::Bad, shared, &[unit], reader, from)
+    let unit = bad_unit(circuit, bad);
+    check_section(
+        alloc,
+        SectionKind::Bad,
+        shared,
+        &[unit],
+        &mut line,
+        reader,
+        from,
+    )
 }

@@ -31,7 +31,7 @@ use base::Refused;
 use certificate::{
     Reader, ReaderError, SectionKind, Version, read_clauses, skip_section, skip_sections,
 };
-use cnf::{NextTable, shared_base};
+use cnf::{NextTable, shared_row};
 use graph::{Lit, Model, Property, Seq, Source};
 use live_safe::{LiveError, to_safety};
 use lrat::{Fault, Refuter};
@@ -123,21 +123,21 @@ fn share_lemmas<S: Source>(
 /// The refuter of the clauses of the circuit and of the invariant, which has taken no lemmas.
 fn invariant_refuter(
     alloc: Global,
-    model: &Model,
+    circuit: &Model,
     invariant: &[Seq<Lit>],
 ) -> Result<Refuter, Refused>
-    requires { IsInvariant model.now invariant.now }
-    ensures { IfOk result (λ r. r ≡ at_formula (shared_formula model.now invariant.now)) }
+    requires { IsInvariant circuit.now invariant.now }
+    ensures { IfOk result (λ r. r ≡ at_formula (shared_formula circuit.now invariant.now)) }
 {
-    let base = shared_base(alloc, model, invariant)?;
-    Refuter::new(alloc, &base)
+    let clauses = shared_row(alloc, circuit, invariant)?;
+    Refuter::over(alloc, circuit.max_var() + 1, clauses)
 }
 
 /// Reads the lemmas and all sections, and checks them with the refuter of the initial cases and the
 /// one of the others, which has taken no lemmas yet. After the first fault they are only read.
 fn check_lemmas_and_cases<S: Source>(
     alloc: Global,
-    model: &Model,
+    circuit: &Model,
     table: &NextTable,
     invariant: &[Seq<Lit>],
     bad: Lit,
@@ -148,12 +148,12 @@ fn check_lemmas_and_cases<S: Source>(
     from: &mut S,
 ) -> Result<Option<Fault>, ReaderError>
     requires source { S.failed from.old < 2 ^ 64 - 1 }
-    requires invariant { IsInvariant model.now invariant.now }
-    requires table { IsTableOf model.now.latches table.now }
-    requires bad { Contains (used model.now) bad }
-    requires start { start.old ≡ at_formula (start_formula model.now) }
-    requires shared { shared.old ≡ at_formula (shared_formula model.now invariant.now) }
-    ensures says { (ys : List ℕ) (p : AProperty) → S.remaining from.old ≡ Some ys → FindsWith (HasSections model.now bad) (parts_at version p (length invariant.now) invariant.now (reader.old ++ ys)) result reader.new (S.remaining from.new) }
+    requires invariant { IsInvariant circuit.now invariant.now }
+    requires table { IsTableOf circuit.now.latches table.now }
+    requires bad { Contains (used circuit.now) bad }
+    requires start { start.old ≡ at_formula (start_formula circuit.now) }
+    requires shared { shared.old ≡ at_formula (shared_formula circuit.now invariant.now) }
+    ensures says { (ys : List ℕ) (p : AProperty) → S.remaining from.old ≡ Some ys → FindsWith (HasSections circuit.now bad) (parts_at version p (length invariant.now) invariant.now (reader.old ++ ys)) result reader.new (S.remaining from.new) }
     ensures device { IsErrOf result Device ↔ (S.failed from.new ≡ S.failed from.old + 1) }
     ensures others { (IsErrOf result Device → ⊥) → S.failed from.new ≡ S.failed from.old }
 {
@@ -163,7 +163,7 @@ fn check_lemmas_and_cases<S: Source>(
         return Ok(Some(fault));
     }
     check_cases(
-        alloc, model, table, invariant, bad, start, shared, reader, from,
+        alloc, circuit, table, invariant, bad, start, shared, reader, from,
     )
 }
 
@@ -171,7 +171,7 @@ fn check_lemmas_and_cases<S: Source>(
 /// holds the clauses that the cases share, those of one section, and one line.
 fn check_parts<S: Source>(
     alloc: Global,
-    model: &Model,
+    circuit: &Model,
     table: &NextTable,
     invariant: &[Seq<Lit>],
     bad: Lit,
@@ -180,18 +180,18 @@ fn check_parts<S: Source>(
     from: &mut S,
 ) -> Result<Option<Fault>, ReaderError>
     requires source { S.failed from.old < 2 ^ 64 - 1 }
-    requires invariant { IsInvariant model.now invariant.now }
-    requires table { IsTableOf model.now.latches table.now }
-    requires bad { Contains (used model.now) bad }
-    ensures says { (ys : List ℕ) (p : AProperty) → S.remaining from.old ≡ Some ys → FindsWith (HasSections model.now bad) (parts_at version p (length invariant.now) invariant.now (reader.old ++ ys)) result reader.new (S.remaining from.new) }
+    requires invariant { IsInvariant circuit.now invariant.now }
+    requires table { IsTableOf circuit.now.latches table.now }
+    requires bad { Contains (used circuit.now) bad }
+    ensures says { (ys : List ℕ) (p : AProperty) → S.remaining from.old ≡ Some ys → FindsWith (HasSections circuit.now bad) (parts_at version p (length invariant.now) invariant.now (reader.old ++ ys)) result reader.new (S.remaining from.new) }
     ensures device { IsErrOf result Device ↔ (S.failed from.new ≡ S.failed from.old + 1) }
     ensures others { (IsErrOf result Device → ⊥) → S.failed from.new ≡ S.failed from.old }
 {
-    let mut start = start_refuter(alloc, model)?;
-    let mut shared = invariant_refuter(alloc, model, invariant)?;
+    let mut start = start_refuter(alloc, circuit)?;
+    let mut shared = invariant_refuter(alloc, circuit, invariant)?;
     check_lemmas_and_cases(
         alloc,
-        model,
+        circuit,
         table,
         invariant,
         bad,
@@ -233,7 +233,7 @@ fn check_for<S: Source>(
     ensures device { IsErrOf result Device ↔ (S.failed from.new ≡ S.failed from.old + 1) }
     ensures others { (IsErrOf result Device → ⊥) → S.failed from.new ≡ S.failed from.old }
 {
-    circuit.parts();
+    circuit.well_formed();
     match prepare(alloc, circuit, invariant) {
         Ok(table) => {
             let found = check_parts(
@@ -252,7 +252,7 @@ fn check_for<S: Source>(
 /// bad literal of its shadow circuit.
 fn check_justice<S: Source>(
     alloc: Global,
-    model: &Model,
+    circuit: &Model,
     n: u32,
     version: Version,
     invariant: &[Seq<Lit>],
@@ -261,12 +261,12 @@ fn check_justice<S: Source>(
 ) -> Result<Option<u8>, ReaderError>
     requires source { S.failed from.old < 2 ^ 64 - 1 }
     requires few { length invariant.now ≤ 4194303 }
-    ensures says { (ys : List ℕ) → S.remaining from.old ≡ Some ys → FindsWith (IsFound model.now) (parts_at version (Justice n) (length invariant.now) invariant.now (reader.old ++ ys)) result reader.new (S.remaining from.new) }
+    ensures says { (ys : List ℕ) → S.remaining from.old ≡ Some ys → FindsWith (IsFound circuit.now) (parts_at version (Justice n) (length invariant.now) invariant.now (reader.old ++ ys)) result reader.new (S.remaining from.new) }
     ensures device { IsErrOf result Device ↔ (S.failed from.new ≡ S.failed from.old + 1) }
     ensures others { (IsErrOf result Device → ⊥) → S.failed from.new ≡ S.failed from.old }
 {
     let count = invariant.len() as u32;
-    match to_safety(alloc, model, n) {
+    match to_safety(alloc, circuit, n) {
         Ok(shadow) => check_for(
             alloc,
             &shadow,
@@ -291,7 +291,7 @@ fn check_justice<S: Source>(
 /// the number of the first cause.
 fn check_property<S: Source>(
     alloc: Global,
-    model: &Model,
+    circuit: &Model,
     property: Property,
     version: Version,
     invariant: &[Seq<Lit>],
@@ -300,11 +300,11 @@ fn check_property<S: Source>(
 ) -> Result<Option<u8>, ReaderError>
     requires source { S.failed from.old < 2 ^ 64 - 1 }
     requires few { length invariant.now ≤ 4194303 }
-    ensures says { (ys : List ℕ) → S.remaining from.old ≡ Some ys → FindsWith (IsFound model.now) (parts_at version property (length invariant.now) invariant.now (reader.old ++ ys)) result reader.new (S.remaining from.new) }
+    ensures says { (ys : List ℕ) → S.remaining from.old ≡ Some ys → FindsWith (IsFound circuit.now) (parts_at version property (length invariant.now) invariant.now (reader.old ++ ys)) result reader.new (S.remaining from.new) }
     ensures device { IsErrOf result Device ↔ (S.failed from.new ≡ S.failed from.old + 1) }
     ensures others { (IsErrOf result Device → ⊥) → S.failed from.new ≡ S.failed from.old }
 {
-    if !model.parts().has_property(property) {
+    if !circuit.parts().has_property(property) {
         let error = no_property(property);
         return skip_parts(alloc, error, version, invariant.len() as u32, reader, from);
     }
@@ -312,20 +312,20 @@ fn check_property<S: Source>(
         Property::Bad(n) => {
             check_for(
                 alloc,
-                model,
-                model.bad()[n as usize],
+                circuit,
+                circuit.bad()[n as usize],
                 version,
                 invariant,
                 reader,
                 from,
             )
         }
-        Property::Justice(n) => check_justice(alloc, model, n, version, invariant, reader, from),
+        Property::Justice(n) => check_justice(alloc, circuit, n, version, invariant, reader, from),
         Property::Output(n) => {
             check_for(
                 alloc,
-                model,
-                model.outputs()[n as usize],
+                circuit,
+                circuit.outputs()[n as usize],
                 version,
                 invariant,
                 reader,
@@ -347,12 +347,12 @@ pub struct Outcome {
 /// Reads a certificate, and checks it while it is read.
 fn check_text<S: Source>(
     alloc: Global,
-    model: &Model,
+    circuit: &Model,
     reader: &mut Reader,
     from: &mut S,
 ) -> Result<Outcome, ReaderError>
     requires source { S.failed from.old < 2 ^ 64 - 1 }
-    ensures says { (ys : List ℕ) → S.remaining from.old ≡ Some ys → FindsWith (λ c found. (found.property ≡ c.property) × IsFound model.now c found.refusal) (certificate_at (reader.old ++ ys)) result reader.new (S.remaining from.new) }
+    ensures says { (ys : List ℕ) → S.remaining from.old ≡ Some ys → FindsWith (λ c found. (found.property ≡ c.property) × IsFound circuit.now c found.refusal) (certificate_at (reader.old ++ ys)) result reader.new (S.remaining from.new) }
     ensures device { IsErrOf result Device ↔ (S.failed from.new ≡ S.failed from.old + 1) }
     ensures others { (IsErrOf result Device → ⊥) → S.failed from.new ≡ S.failed from.old }
 {
@@ -362,7 +362,7 @@ fn check_text<S: Source>(
     let invariant = read_clauses(alloc, count, reader, from)?;
     let refusal = check_property(
         alloc,
-        model,
+        circuit,
         property,
         version,
         invariant.as_slice(),
@@ -378,16 +378,16 @@ fn check_text<S: Source>(
 /// nothing more is taken.
 pub fn check_source<S: Source>(
     alloc: Global,
-    model: &Model,
+    circuit: &Model,
     from: &mut S,
 ) -> Result<Outcome, ReaderError>
     requires source { S.failed from.old < 2 ^ 64 - 1 }
-    ensures says { (ys : List ℕ) → S.remaining from.old ≡ Some ys → MatchResult result (λ found. (c : ACertificate) × SpellsCertificate ys c × (found.property ≡ c.property) × IsFound model.now c found.refusal) (λ e. ForText e ((c : ACertificate) → SpellsCertificate ys c → ⊥)) }
+    ensures says { (ys : List ℕ) → S.remaining from.old ≡ Some ys → MatchResult result (λ found. (c : ACertificate) × SpellsCertificate ys c × (found.property ≡ c.property) × IsFound circuit.now c found.refusal) (λ e. ForText e ((c : ACertificate) → SpellsCertificate ys c → ⊥)) }
     ensures device { IsErrOf result Device ↔ (S.failed from.new ≡ S.failed from.old + 1) }
     ensures others { (IsErrOf result Device → ⊥) → S.failed from.new ≡ S.failed from.old }
 {
     let mut reader = Reader::new(alloc)?;
-    let outcome = check_text(alloc, model, &mut reader, from)?;
+    let outcome = check_text(alloc, circuit, &mut reader, from)?;
     reader.end(from)?;
     Ok(outcome)
 }

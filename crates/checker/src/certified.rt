@@ -48,7 +48,7 @@ fn safe_property<M: Source, C: Source>(
 /// A yes means that no run of the circuit that keeps the constraints sets that bad literal, or the
 /// output that is taken as one, at any time or, for a justice property, holds more rounds of it than
 /// the circuit has states. A fault of the first text is reported without reading the second, and a fault
-/// of the second, anywhere in it, before every fault of the certificate. Where memory is wanting or a
+/// of the second, anywhere in it, before every fault of the certificate. Where memory is refused or a
 /// source fails, nothing is put.
 ///
 /// The certificate is checked while it is read. It takes no memory beyond the file, the clauses of

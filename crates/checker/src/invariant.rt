@@ -23,20 +23,20 @@ pub enum ClauseFault {
 /// The first fault of a clause. `seen` has for each variable a number that is `stamp` once the
 /// variable was seen in this clause.
 fn clause_fault(
-    model: &Model,
+    circuit: &Model,
     table: &NextTable,
     seen: &mut [u32],
     stamp: u32,
     clause: &[Lit],
 ) -> Option<ClauseFault>
-    requires table { IsTableOf model.now.latches table.now }
-    requires whole { length seen.old ≡ model.now.max_var + 1 }
+    requires table { IsTableOf circuit.now.latches table.now }
+    requires whole { length seen.old ≡ circuit.now.max_var + 1 }
     requires below { All (λ s. s < stamp) seen.old }
-    ensures fault { MatchOption result (IsGood model.now clause.now) (IsClauseFault model.now clause.now) }
+    ensures fault { MatchOption result (IsGood circuit.now clause.now) (IsClauseFault circuit.now clause.now) }
     ensures most { All (λ s. s ≤ stamp) seen.new }
     ensures same_length { length seen.new ≡ length seen.old }
 {
-    model.parts();
+    circuit.well_formed();
     for (i, lit) in clause.iter().enumerate() {
         let variable = lit.variable();
         if !table.is_latch(variable) {
@@ -54,20 +54,26 @@ fn clause_fault(
 /// costs the literals and the variables.
 pub fn check_clauses(
     alloc: Global,
-    model: &Model,
+    circuit: &Model,
     table: &NextTable,
     invariant: &[Seq<Lit>],
 ) -> Result<(), ClauseError>
-    requires table { IsTableOf model.now.latches table.now }
+    requires table { IsTableOf circuit.now.latches table.now }
     requires few { length invariant.now ≤ 4194303 }
-    ensures good { OnOk result (All (IsGood model.now) invariant.now) }
-    ensures refused { IfErr result (IsClausesFault model.now invariant.now) }
+    ensures good { OnOk result (All (IsGood circuit.now) invariant.now) }
+    ensures refused { IfErr result (IsClausesFault circuit.now invariant.now) }
 {
-    model.parts();
-    let mut seen = filled(alloc, 0u32, model.max_var() as usize + 1)?;
+    circuit.well_formed();
+    let mut seen = filled(alloc, 0u32, circuit.max_var() as usize + 1)?;
     for (k, clause) in invariant.iter().enumerate() {
         let stamp = k as u32 + 1;
-        match clause_fault(model, table, seen.as_mut_slice(), stamp, clause.as_slice()) {
+        match clause_fault(
+            circuit,
+            table,
+            seen.as_mut_slice(),
+            stamp,
+            clause.as_slice(),
+        ) {
             None => {}
             Some(ClauseFault::NotLatch) => return Err(ClauseError::NotLatch { clause: k as u64 }),
             Some(ClauseFault::Repeated) => return Err(ClauseError::Repeated { clause: k as u64 }),

@@ -58,7 +58,7 @@ fn violated_property<M: Source, C: Source>(
 /// A yes means that the one replay of the stimulus is a run that keeps the constraints, and sets the
 /// bad literal, or the output that is taken as one, at its last time, or closes a lasso in which each
 /// wanted literal is set. A fault of the first text is reported without reading the second, and a fault
-/// of the second, anywhere in it, before what its replay shows. Where memory is wanting or a source
+/// of the second, anywhere in it, before what its replay shows. Where memory is refused or a source
 /// fails, nothing is put.
 ///
 /// It takes no memory beyond the file, the stimulus, two states and a valuation. While a text is read,

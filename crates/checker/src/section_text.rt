@@ -12,7 +12,7 @@ ghost use Rattle.checker.specs.Streamed.{AreLemmas, IsFed, IsOfCase};
 
 use certificate::{Reader, ReaderError, SectionKind, skip_lines};
 use graph::Source;
-use lrat::{Fault, Refuter};
+use lrat::{Fault, LineBuffer, Refuter};
 use std::alloc::Global;
 
 /// Reads the rest of a section in which this fault was found. Out of memory is no fault of the
@@ -38,11 +38,12 @@ fn skip_refused<S: Source>(
     }
 }
 
-/// Reads the lines of a section up to its end, and feeds them to the refuter. It holds one line.
-/// After the first fault the lines are only read.
+/// Reads the lines of a section up to its end into the buffer, one after the other, and feeds them
+/// to the refuter. After the first fault the lines are only read.
 fn feed_lines<S: Source>(
     alloc: Global,
     refuter: &mut Refuter,
+    line: &mut LineBuffer,
     reader: &mut Reader,
     from: &mut S,
 ) -> Result<Option<Fault>, ReaderError>
@@ -55,25 +56,27 @@ fn feed_lines<S: Source>(
     ensures others { (IsErrOf result Device → ⊥) → S.failed from.new ≡ S.failed from.old }
 {
     'feeding: loop {
-        let Some(line) = reader.line(alloc, from)? else {
+        let there = reader.line_into(alloc, line, from)?;
+        if !there {
             return match refuter.finish() {
                 Ok(()) => Ok(None),
                 Err(fault) => Ok(Some(fault)),
             };
-        };
-        if let Err(fault) = refuter.feed(alloc, &line) {
+        }
+        if let Err(fault) = refuter.feed(alloc, line.as_ref()) {
             return skip_refused(alloc, fault, reader, from);
         }
     }
 }
 
 /// Reads a section of this kind, and checks it as a refutation of what the refuter shares, with the
-/// units. It costs the units and the section, and holds one line.
+/// units. It costs the units and the section. The buffer holds one line after the other.
 pub fn check_section<S: Source>(
     alloc: Global,
     kind: SectionKind,
     refuter: &mut Refuter,
     units: &[i32],
+    line: &mut LineBuffer,
     reader: &mut Reader,
     from: &mut S,
 ) -> Result<Option<Fault>, ReaderError>
@@ -90,7 +93,7 @@ pub fn check_section<S: Source>(
     if let Err(fault) = refuter.begin(alloc, units) {
         return skip_refused(alloc, fault, reader, from);
     }
-    feed_lines(alloc, refuter, reader, from)
+    feed_lines(alloc, refuter, line, reader, from)
 }
 
 /// Reads the lines of the lemmas up to their end, checks them, and lets the refuter share them. It
@@ -109,14 +112,16 @@ fn share_lines<S: Source>(
     ensures device { IsErrOf result Device ↔ (S.failed from.new ≡ S.failed from.old + 1) }
     ensures others { (IsErrOf result Device → ⊥) → S.failed from.new ≡ S.failed from.old }
 {
+    let mut line = LineBuffer::new(alloc);
     'taking: loop {
-        let Some(line) = reader.line(alloc, from)? else {
+        let there = reader.line_into(alloc, &mut line, from)?;
+        if !there {
             return match refuter.share() {
                 Ok(()) => Ok(None),
                 Err(_) => unreachable!(),
             };
-        };
-        if let Err(fault) = refuter.lemma(&line) {
+        }
+        if let Err(fault) = refuter.lemma(line.as_ref()) {
             return skip_refused(alloc, fault, reader, from);
         }
     }

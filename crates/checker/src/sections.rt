@@ -14,7 +14,7 @@ ghost use Rattle.checker.specs.Causes.{IsCaseAt, IsCaseFault, IsRefusedCase, IsS
 use crate::check_error::CheckError;
 use base::Refused;
 use certificate::Certificate;
-use cnf::{NextTable, bad_unit, init_units, shared_base, start_base, step_units};
+use cnf::{NextTable, bad_unit, init_units, shared_base, start_row, step_units};
 use graph::{Lit, Model};
 use lrat::{Fault, Proof, Refuter, StepError, extends};
 use std::alloc::Global;
@@ -40,7 +40,7 @@ fn refute(
     }
     let lines = proof.lines();
     for (i, line) in lines.iter().enumerate() {
-        match refuter.feed(alloc, line) {
+        match refuter.feed(alloc, line.as_ref()) {
             Ok(()) => {}
             Err(fault) => return Err(StepError::at(fault, i as u64)),
         }
@@ -102,26 +102,26 @@ fn check_case(
 }
 
 /// The refuter of the initial cases.
-pub fn start_refuter(alloc: Global, model: &Model) -> Result<Refuter, Refused>
-    ensures { IfOk result (λ r. r ≡ at_formula (start_formula model.now)) }
+pub fn start_refuter(alloc: Global, circuit: &Model) -> Result<Refuter, Refused>
+    ensures { IfOk result (λ r. r ≡ at_formula (start_formula circuit.now)) }
 {
-    let base = start_base(alloc, model)?;
-    Refuter::new(alloc, &base)
+    let clauses = start_row(alloc, circuit)?;
+    Refuter::over(alloc, circuit.max_var() + 1, clauses)
 }
 
 /// The refuter of the step cases and the bad case, which has taken the lemmas where there are
 /// some. It costs the circuit, the invariant and the lemmas.
 fn shared_refuter(
     alloc: Global,
-    model: &Model,
+    circuit: &Model,
     certificate: &Certificate,
 ) -> Result<Refuter, CheckError>
-    requires { IsInvariant model.now certificate.now.invariant }
+    requires { IsInvariant circuit.now certificate.now.invariant }
     ensures fresh { IfOk result (λ r. r.refusal ≡ None) }
-    ensures shared { IfOk result (λ r. IsShared model.now certificate.now.invariant certificate.now.lemmas r.base) }
-    ensures refused { IfErr result (λ e. (a : ALit) → IsSectionFault model.now a certificate.now e) }
+    ensures shared { IfOk result (λ r. IsShared circuit.now certificate.now.invariant certificate.now.lemmas r.base) }
+    ensures refused { IfErr result (λ e. (a : ALit) → IsSectionFault circuit.now a certificate.now e) }
 {
-    let base = shared_base(alloc, model, certificate.invariant.as_slice())?;
+    let base = shared_base(alloc, circuit, certificate.invariant.as_slice())?;
     match &certificate.lemmas {
         None => Ok(Refuter::new(alloc, &base)?),
         Some(lemmas) => {
@@ -138,21 +138,21 @@ fn shared_refuter(
 /// Whether the first sections refute the initial cases.
 fn check_initial(
     alloc: Global,
-    model: &Model,
+    circuit: &Model,
     certificate: &Certificate,
     refuter: &mut Refuter,
 ) -> Result<(), CheckError>
-    requires invariant { IsInvariant model.now certificate.now.invariant }
+    requires invariant { IsInvariant circuit.now certificate.now.invariant }
     requires count { length certificate.now.sections ≡ 2 * length certificate.now.invariant + 1 }
     requires fresh { refuter.old.refusal ≡ None }
-    requires base { refuter.old.base ≡ base_of (start_formula model.now) }
-    ensures ok { OnOk result ((b : Base) (a : ALit) → RefuteBelow (cases model.now b certificate.now.invariant a) certificate.now.sections (length certificate.now.invariant)) }
-    ensures err { IfErr result (λ e. (b : Base) (a : ALit) → IsCaseFault (lemma_count certificate.now.lemmas) (cases model.now b certificate.now.invariant a) certificate.now.sections e) }
+    requires base { refuter.old.base ≡ base_of (start_formula circuit.now) }
+    ensures ok { OnOk result ((b : Base) (a : ALit) → RefuteBelow (cases circuit.now b certificate.now.invariant a) certificate.now.sections (length certificate.now.invariant)) }
+    ensures err { IfErr result (λ e. (b : Base) (a : ALit) → IsCaseFault (lemma_count certificate.now.lemmas) (cases circuit.now b certificate.now.invariant a) certificate.now.sections e) }
 {
-    model.parts();
+    circuit.well_formed();
     let invariant = certificate.invariant.as_slice();
     for (k, clause) in invariant.iter().enumerate() {
-        let units = init_units(alloc, model, clause.as_slice())?;
+        let units = init_units(alloc, circuit, clause.as_slice())?;
         check_case(alloc, refuter, units.as_slice(), certificate, k)?;
     }
     Ok(())
@@ -161,29 +161,29 @@ fn check_initial(
 /// Whether the sections behind those of the initial cases refute the step cases and the bad case.
 fn check_others(
     alloc: Global,
-    model: &Model,
+    circuit: &Model,
     table: &NextTable,
     certificate: &Certificate,
     bad: Lit,
     refuter: &mut Refuter,
 ) -> Result<(), CheckError>
-    requires invariant { IsInvariant model.now certificate.now.invariant }
-    requires table { IsTableOf model.now.latches table.now }
-    requires bad { Contains (used model.now) bad }
+    requires invariant { IsInvariant circuit.now certificate.now.invariant }
+    requires table { IsTableOf circuit.now.latches table.now }
+    requires bad { Contains (used circuit.now) bad }
     requires count { length certificate.now.sections ≡ 2 * length certificate.now.invariant + 1 }
     requires fresh { refuter.old.refusal ≡ None }
-    requires vars { refuter.old.base.vars ≡ model.now.max_var + 1 }
-    requires initial { RefuteBelow (cases model.now refuter.old.base certificate.now.invariant bad) certificate.now.sections (length certificate.now.invariant) }
-    ensures ok { OnOk result (RefuteBelow (cases model.now refuter.old.base certificate.now.invariant bad) certificate.now.sections (length certificate.now.sections)) }
-    ensures err { IfErr result (IsCaseFault (lemma_count certificate.now.lemmas) (cases model.now refuter.old.base certificate.now.invariant bad) certificate.now.sections) }
+    requires vars { refuter.old.base.vars ≡ circuit.now.max_var + 1 }
+    requires initial { RefuteBelow (cases circuit.now refuter.old.base certificate.now.invariant bad) certificate.now.sections (length certificate.now.invariant) }
+    ensures ok { OnOk result (RefuteBelow (cases circuit.now refuter.old.base certificate.now.invariant bad) certificate.now.sections (length certificate.now.sections)) }
+    ensures err { IfErr result (IsCaseFault (lemma_count certificate.now.lemmas) (cases circuit.now refuter.old.base certificate.now.invariant bad) certificate.now.sections) }
 {
     let invariant = certificate.invariant.as_slice();
     let count = invariant.len();
     for (k, clause) in invariant.iter().enumerate() {
-        let units = step_units(alloc, model, table, clause.as_slice())?;
+        let units = step_units(alloc, circuit, table, clause.as_slice())?;
         check_case(alloc, refuter, units.as_slice(), certificate, count + k)?;
     }
-    let unit = bad_unit(model, bad);
+    let unit = bad_unit(circuit, bad);
     check_case(alloc, refuter, &[unit], certificate, 2 * count)
 }
 
@@ -191,20 +191,20 @@ fn check_others(
 /// sections, and the circuit and the invariant once.
 pub fn check_sections(
     alloc: Global,
-    model: &Model,
+    circuit: &Model,
     table: &NextTable,
     certificate: &Certificate,
     bad: Lit,
 ) -> Result<(), CheckError>
-    requires invariant { IsInvariant model.now certificate.now.invariant }
-    requires table { IsTableOf model.now.latches table.now }
-    requires bad { Contains (used model.now) bad }
+    requires invariant { IsInvariant circuit.now certificate.now.invariant }
+    requires table { IsTableOf circuit.now.latches table.now }
+    requires bad { Contains (used circuit.now) bad }
     requires count { length certificate.now.sections ≡ 2 * length certificate.now.invariant + 1 }
-    ensures ok { OnOk result ((b : Base) × IsShared model.now certificate.now.invariant certificate.now.lemmas b × RefuteBelow (cases model.now b certificate.now.invariant bad) certificate.now.sections (length certificate.now.sections)) }
-    ensures err { IfErr result (IsSectionFault model.now bad certificate.now) }
+    ensures ok { OnOk result ((b : Base) × IsShared circuit.now certificate.now.invariant certificate.now.lemmas b × RefuteBelow (cases circuit.now b certificate.now.invariant bad) certificate.now.sections (length certificate.now.sections)) }
+    ensures err { IfErr result (IsSectionFault circuit.now bad certificate.now) }
 {
-    let mut shared = shared_refuter(alloc, model, certificate)?;
-    let mut start = start_refuter(alloc, model)?;
-    check_initial(alloc, model, certificate, &mut start)?;
-    check_others(alloc, model, table, certificate, bad, &mut shared)
+    let mut shared = shared_refuter(alloc, circuit, certificate)?;
+    let mut start = start_refuter(alloc, circuit)?;
+    check_initial(alloc, circuit, certificate, &mut start)?;
+    check_others(alloc, circuit, table, certificate, bad, &mut shared)
 }

@@ -5,7 +5,7 @@ use Rattle.scan.specs.Bytes.{choice_at, either}
 use Rattle.scan.specs.Words.{any, word_at}
 use Rattle.graph.specs.declared.circuit.Lit.{Lit}
 
--- the literals up to the line end, in at most so many steps
+-- the literals up to the line end, in at most this number of steps
 unfoldable pub literals_at : ℕ → List ℕ → Read (List Lit)
 literals_at zero bytes = None
 literals_at (suc n) bytes = do

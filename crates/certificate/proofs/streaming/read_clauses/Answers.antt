@@ -1,4 +1,4 @@
-use Rattle.std.proofs.Common.{rules, ◌-◌, ◌+◌, ◌≡◌, ◌++◌, ◌∷◌, [], List, ℕ, Some, Ok, ap, subst, sym, ◌∙◌}
+use Rattle.std.proofs.Common.{rules, ◌-◌, ◌+◌, ◌++◌, List, Ok, ap, subst, sym, ◌∙◌}
 use Rattle.std.proofs.lemmas.List.{length_push}
 use Rattle.scan.specs.Lists.{many_at}
 use Rattle.graph.specs.declared.circuit.Lit.{Lit}

@@ -1,6 +1,5 @@
-use Rattle.std.proofs.Common.{rules, ◌++◌, ◌∷◌, [], List}
+use Rattle.std.proofs.Common.{rules, ◌++◌, ◌∷◌, []}
 use Rattle.scan.specs.Lists.{many_at}
-use Rattle.lrat.specs.declared.line.Line.{Line}
 use Rattle.certificate.specs.Reading.{section_at}
 use Rattle.certificate.specs.Streams.{letter_of}
 use Rattle.certificate.proofs.StreamLaws.{err_finds, many_goes_with, many_read, many_refused}

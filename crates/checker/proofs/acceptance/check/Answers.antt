@@ -9,10 +9,10 @@ use Rattle.checker.proofs.acceptance.check.Goals as goal
 
 pub returns-clause-complete : goal.returns-clause-complete
 returns-clause-complete c =
-    if_err (HasCause c.args.model.now c.args.certificate.now) (λ e. e ≢ OutOfMemory witness → IsAcceptedCertificate c.args.model.now c.args.certificate.now → ⊥) _
-    (λ e cause. cause_refuses c.args.model.now c.args.certificate.now e cause) c.examine_property.ensures.refused
+    if_err (HasCause c.args.circuit.now c.args.certificate.now) (λ e. e ≢ OutOfMemory witness → IsAcceptedCertificate c.args.circuit.now c.args.certificate.now → ⊥) _
+    (λ e cause. cause_refuses c.args.circuit.now c.args.certificate.now e cause) c.examine_property.ensures.refused
 
 pub returns-clause-upheld : goal.returns-clause-upheld
 returns-clause-upheld c =
-    if_on_ok {P = IsAcceptedCertificate c.args.model.now c.args.certificate.now} {Q = IsUpheld c.args.model.now c.args.certificate.now.property} _ c.examine_property.ensures.accepted
-    (λ accepted. accepted_law c.args.model.now c.args.certificate.now c.parts.ensures.well_formed accepted)
+    if_on_ok {P = IsAcceptedCertificate c.args.circuit.now c.args.certificate.now} {Q = IsUpheld c.args.circuit.now c.args.certificate.now.property} _ c.examine_property.ensures.accepted
+    (λ accepted. accepted_law c.args.circuit.now c.args.certificate.now c.well_formed-2.ensures accepted)

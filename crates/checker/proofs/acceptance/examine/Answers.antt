@@ -10,7 +10,7 @@ use Rattle.checker.proofs.acceptance.examine.Goals as goal
 pub check_sections-requires-clause-invariant : goal.check_sections-requires-clause-invariant
 check_sections-requires-clause-invariant c =
     subst (IsInvariant c.args.circuit.now) c.as_slice-invariant.ensures
-    (invariant_from c.args.circuit.now c.as_slice-invariant.result.now c.parts.ensures.well_formed (let few = c.if-invariant-gt-MOST_CLAUSES.false in omega arith) c.in_ok-check_clauses.ensures.good)
+    (invariant_from c.args.circuit.now c.as_slice-invariant.result.now c.well_formed-2.ensures (let few = c.if-invariant-gt-MOST_CLAUSES.false in omega arith) c.in_ok-check_clauses.ensures.good)
 
 pub returns-clause-accepted : goal.returns-clause-accepted
 returns-clause-accepted c =

@@ -6,11 +6,11 @@ use Rattle.checker.proofs.Watched.{closing_is, closing_used}
 use Rattle.checker.proofs.acceptance.examine_justice.Goals as goal
 
 pub examine-requires : goal.examine-requires
-examine-requires c = closing_used c.args.model.now c.in-Ok.shadow c.args.n c.bad.result.now c.in-Ok.ensures.shadow c.bad.ensures
+examine-requires c = closing_used c.args.circuit.now c.in-Ok.shadow c.args.n c.bad.result.now c.in-Ok.ensures.shadow c.bad.ensures
 
 pub returns-in-Ok-clause-accepted : goal.returns-in-Ok-clause-accepted
 returns-in-Ok-clause-accepted c =
-    let m = c.args.model.now in
+    let m = c.args.circuit.now in
     let n = c.args.n in
     let showable : IsShowable m (Justice n) = record { exists = c.in-Ok.ensures.exists; within = c.in-Ok.ensures.within } in
     accepted_of m c.in-Ok.shadow _ c.args.certificate.now _ (subst (IsShowable m) (sym c.requires) showable) (c.in-Ok.ensures.shadow ∙ ap (circuit_of m) (sym c.requires))
@@ -18,7 +18,7 @@ returns-in-Ok-clause-accepted c =
 
 pub returns-in-Ok-clause-refused : goal.returns-in-Ok-clause-refused
 returns-in-Ok-clause-refused c =
-    let m = c.args.model.now in
+    let m = c.args.circuit.now in
     let n = c.args.n in
     let showable : IsShowable m (Justice n) = record { exists = c.in-Ok.ensures.exists; within = c.in-Ok.ensures.within } in
     refused_of m c.in-Ok.shadow _ c.args.certificate.now _ (subst (IsShowable m) (sym c.requires) showable) (c.in-Ok.ensures.shadow ∙ ap (circuit_of m) (sym c.requires))

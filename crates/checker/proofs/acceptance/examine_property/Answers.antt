@@ -9,12 +9,12 @@ use Rattle.checker.proofs.acceptance.examine_property.Goals as goal
 
 pub examine-requires : goal.examine-requires
 examine-requires c =
-    let there : HasProperty c.args.model.now c.args.certificate.now.property = search rules in
-    bad_used c.args.model.now c.args.certificate.now.property c.in-Bad.n c.bad.result.now c.in-Bad.is c.bad.ensures there
+    let there : HasProperty c.args.circuit.now c.args.certificate.now.property = search rules in
+    bad_used c.args.circuit.now c.args.certificate.now.property c.in-Bad.n c.bad.result.now c.in-Bad.is c.bad.ensures there
 
 pub returns-in-Bad-clause-accepted : goal.returns-in-Bad-clause-accepted
 returns-in-Bad-clause-accepted c =
-    let m = c.args.model.now in
+    let m = c.args.circuit.now in
     let p = c.args.certificate.now.property in
     let there : HasProperty m p = search rules in
     let circuit : m ≡ circuit_of m p = ap (circuit_of m) (sym c.in-Bad.is) in
@@ -23,7 +23,7 @@ returns-in-Bad-clause-accepted c =
 
 pub returns-in-Bad-clause-refused : goal.returns-in-Bad-clause-refused
 returns-in-Bad-clause-refused c =
-    let m = c.args.model.now in
+    let m = c.args.circuit.now in
     let p = c.args.certificate.now.property in
     let there : HasProperty m p = search rules in
     let circuit : m ≡ circuit_of m p = ap (circuit_of m) (sym c.in-Bad.is) in
@@ -34,12 +34,12 @@ returns-in-Bad-clause-refused c =
 
 pub examine-requires-in-Output : goal.examine-requires-in-Output
 examine-requires-in-Output c =
-    let there : HasProperty c.args.model.now c.args.certificate.now.property = search rules in
-    output_used c.args.model.now c.args.certificate.now.property c.in-Output.n c.outputs.result.now c.in-Output.is c.outputs.ensures there
+    let there : HasProperty c.args.circuit.now c.args.certificate.now.property = search rules in
+    output_used c.args.circuit.now c.args.certificate.now.property c.in-Output.n c.outputs.result.now c.in-Output.is c.outputs.ensures there
 
 pub returns-in-Output-clause-accepted : goal.returns-in-Output-clause-accepted
 returns-in-Output-clause-accepted c =
-    let m = c.args.model.now in
+    let m = c.args.circuit.now in
     let p = c.args.certificate.now.property in
     let there : HasProperty m p = search rules in
     let circuit : m ≡ circuit_of m p = ap (circuit_of m) (sym c.in-Output.is) in
@@ -48,7 +48,7 @@ returns-in-Output-clause-accepted c =
 
 pub returns-in-Output-clause-refused : goal.returns-in-Output-clause-refused
 returns-in-Output-clause-refused c =
-    let m = c.args.model.now in
+    let m = c.args.circuit.now in
     let p = c.args.certificate.now.property in
     let there : HasProperty m p = search rules in
     let circuit : m ≡ circuit_of m p = ap (circuit_of m) (sym c.in-Output.is) in

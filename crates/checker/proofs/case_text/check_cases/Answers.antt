@@ -16,12 +16,12 @@ pub returns-in_err-initial-clause-says : goal.returns-in_err-initial-clause-says
 returns-in_err-initial-clause-says g c ys known =
     let n = length c.args.invariant.now in
     let bytes : List ℕ = c.args.reader.now ++ ys in
-    err_finds (AreOfCases (cases c.args.model.now c.args.shared.now.base c.args.invariant.now c.args.bad)) (sections_at n bytes) _ c.in_err-initial.field-0.0 c.check_initial.new.reader (g.S.Source.remaining c.check_initial.new.from) c.from_residual.ensures.1
+    err_finds (AreOfCases (cases c.args.circuit.now c.args.shared.now.base c.args.invariant.now c.args.bad)) (sections_at n bytes) _ c.in_err-initial.field-0.0 c.check_initial.new.reader (g.S.Source.remaining c.check_initial.new.from) c.from_residual.ensures.1
     (subst (λ o. ForText c.in_err-initial.field-0.0 (o ≡ None)) (sections_is n bytes) (then_none (many_at (section_at 105) n bytes) (then_steps n) c.in_err-initial.field-0.0 (c.in_err-initial.ensures.says ys known)))
 
 pub returns-in_err-steps-clause-says : goal.returns-in_err-steps-clause-says
 returns-in_err-steps-clause-says g c ys known =
-    let m = c.args.model.now in
+    let m = c.args.circuit.now in
     let inv = c.args.invariant.now in
     let n = length inv in
     let bytes : List ℕ = c.args.reader.now ++ ys in
@@ -36,7 +36,7 @@ returns-in_err-steps-clause-says g c ys known =
 
 pub returns-in_err-skip_sections-clause-says : goal.returns-in_err-skip_sections-clause-says
 returns-in_err-skip_sections-clause-says g c ys known =
-    let m = c.args.model.now in
+    let m = c.args.circuit.now in
     let inv = c.args.invariant.now in
     let b = c.args.shared.now.base in
     let n = length inv in
@@ -50,7 +50,7 @@ returns-in_err-skip_sections-clause-says g c ys known =
 
 pub returns-in_err-skip_section-clause-says : goal.returns-in_err-skip_section-clause-says
 returns-in_err-skip_section-clause-says g c ys known =
-    let m = c.args.model.now in
+    let m = c.args.circuit.now in
     let inv = c.args.invariant.now in
     let b = c.args.shared.now.base in
     let n = length inv in
@@ -65,7 +65,7 @@ returns-in_err-skip_section-clause-says g c ys known =
 
 pub returns-in-Some-clause-says : goal.returns-in-Some-clause-says
 returns-in-Some-clause-says g c ys known =
-    let m = c.args.model.now in
+    let m = c.args.circuit.now in
     let inv = c.args.invariant.now in
     let b = c.args.shared.now.base in
     let n = length inv in
@@ -81,7 +81,7 @@ returns-in-Some-clause-says g c ys known =
 
 pub returns-in_err-skip_section-2-clause-says : goal.returns-in_err-skip_section-2-clause-says
 returns-in_err-skip_section-2-clause-says g c ys known =
-    let m = c.args.model.now in
+    let m = c.args.circuit.now in
     let inv = c.args.invariant.now in
     let b = c.args.shared.now.base in
     let n = length inv in
@@ -97,7 +97,7 @@ returns-in_err-skip_section-2-clause-says g c ys known =
 
 pub returns-in-Some-steps-clause-says : goal.returns-in-Some-steps-clause-says
 returns-in-Some-steps-clause-says g c ys known =
-    let m = c.args.model.now in
+    let m = c.args.circuit.now in
     let inv = c.args.invariant.now in
     let b = c.args.shared.now.base in
     let n = length inv in
@@ -115,7 +115,7 @@ returns-in-Some-steps-clause-says g c ys known =
 
 pub returns-clause-says : goal.returns-clause-says
 returns-clause-says g c ys known =
-    let m = c.args.model.now in
+    let m = c.args.circuit.now in
     let inv = c.args.invariant.now in
     let b = c.args.shared.now.base in
     let bad = c.args.bad in

@@ -13,6 +13,6 @@ abbrev pub invariant-loop-k : goal.invariant-loop-k
 invariant-loop-k g l = record {
   steady : g.S.Source.failed l.from ≡ g.S.Source.failed l.fn.from;
   fresh : l.refuter.refusal ≡ None;
-  base : l.refuter.base ≡ base_of (start_formula l.model);
-  reads : (ys : List ℕ) → g.S.Source.remaining l.fn.from ≡ Some ys → (front : List (List Line)) × AreProofs (map (init_case l.model) (take l.k l.fn.invariant)) front × StillReads (many_at (section_at 105) (length l.fn.invariant) (l.fn.reader ++ ys)) front (many_at (section_at 105) (length l.fn.invariant - l.k)) l.reader (g.S.Source.remaining l.from);
+  base : l.refuter.base ≡ base_of (start_formula l.circuit);
+  reads : (ys : List ℕ) → g.S.Source.remaining l.fn.from ≡ Some ys → (front : List (List Line)) × AreProofs (map (init_case l.circuit) (take l.k l.fn.invariant)) front × StillReads (many_at (section_at 105) (length l.fn.invariant) (l.fn.reader ++ ys)) front (many_at (section_at 105) (length l.fn.invariant - l.k)) l.reader (g.S.Source.remaining l.from);
 }

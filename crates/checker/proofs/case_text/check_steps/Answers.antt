@@ -12,22 +12,22 @@ use Rattle.checker.proofs.TextParts.{others_refused}
 use Rattle.checker.proofs.case_text.check_steps.Goals as goal
 
 pub step_units-requires-clause-over : goal.step_units-requires-clause-over
-step_units-requires-clause-over g c = over_here c.args.model.now c.args.invariant.now c.loop-k.k c.index-invariant-k.result c.as_slice.result.now c.requires.invariant c.loop-k-test.true c.index-invariant-k.is c.as_slice.ensures
+step_units-requires-clause-over g c = over_here c.args.circuit.now c.args.invariant.now c.loop-k.k c.index-invariant-k.result c.as_slice.result.now c.requires.invariant c.loop-k-test.true c.index-invariant-k.is c.as_slice.ensures
 
 pub returns-in_err-units-clause-says : goal.returns-in_err-units-clause-says
 returns-in_err-units-clause-says g c ys known =
-    memory_finds (AreOfCases (map (step_case c.args.model.now c.args.refuter.now.base) c.args.invariant.now)) (many_at (section_at 115) (length c.args.invariant.now) (c.args.reader.now ++ ys)) _ c.loop-k.reader (g.S.Source.remaining c.loop-k.from) c.from_residual.ensures.1
+    memory_finds (AreOfCases (map (step_case c.args.circuit.now c.args.refuter.now.base) c.args.invariant.now)) (many_at (section_at 115) (length c.args.invariant.now) (c.args.reader.now ++ ys)) _ c.loop-k.reader (g.S.Source.remaining c.loop-k.from) c.from_residual.ensures.1
 
 pub returns-in_err-found-clause-says : goal.returns-in_err-found-clause-says
 returns-in_err-found-clause-says g c ys known =
     let read = many_at (section_at 115) (length c.args.invariant.now) (c.args.reader.now ++ ys) in
     let (front, are, still) = c.loop-k.invariant.reads ys known in
-    err_finds (AreOfCases (map (step_case c.args.model.now c.args.refuter.now.base) c.args.invariant.now)) read _ c.in_err-found.field-0.0 c.check_section.new.reader (g.S.Source.remaining c.check_section.new.from) c.from_residual-in_err-found.ensures.1
+    err_finds (AreOfCases (map (step_case c.args.circuit.now c.args.refuter.now.base) c.args.invariant.now)) read _ c.in_err-found.field-0.0 c.check_section.new.reader (g.S.Source.remaining c.check_section.new.from) c.from_residual-in_err-found.ensures.1
     (many_refused (section_at 115) read front (length c.args.invariant.now) c.loop-k.k c.in_err-found.field-0.0 c.loop-k.reader _ c.loop-k-test.true still (λ zs left. c.in_err-found.ensures.says zs left))
 
 pub returns-in_err-skip_sections-clause-says : goal.returns-in_err-skip_sections-clause-says
 returns-in_err-skip_sections-clause-says g c ys known =
-    let m = c.args.model.now in
+    let m = c.args.circuit.now in
     let inv = c.args.invariant.now in
     let one = section_at 115 in
     let read = many_at one (length inv) (c.args.reader.now ++ ys) in
@@ -40,7 +40,7 @@ returns-in_err-skip_sections-clause-says g c ys known =
 
 pub returns-in-Some-clause-says : goal.returns-in-Some-clause-says
 returns-in-Some-clause-says g c ys known =
-    let m = c.args.model.now in
+    let m = c.args.circuit.now in
     let inv = c.args.invariant.now in
     let one = section_at 115 in
     let fault = c.in-Some.fault in
@@ -63,7 +63,7 @@ loop-k-preserved g c =
       fresh = subst (λ o. IfNone o (c.check_section.new.refuter.refusal ≡ None)) none c.in_ok-found.ensures.fresh;
       base = c.in_ok-found.ensures.base ∙ c.loop-k.invariant.base;
       reads = λ ys known.
-          let m = c.args.model.now in
+          let m = c.args.circuit.now in
           let inv = c.args.invariant.now in
           let one = section_at 115 in
           let read = many_at one (length inv) (c.args.reader.now ++ ys) in
@@ -82,4 +82,4 @@ returns-clause-says g c ys known =
     let read = many_at (section_at 115) (length inv) (c.args.reader.now ++ ys) in
     let (front, are, still) = c.loop-k.invariant.reads ys known in
     let (rest, is, left) = many_read (section_at 115) read front (length inv) c.loop-k.k c.loop-k.reader (g.S.Source.remaining c.loop-k.from) c.loop-k-test.false still in
-    (front, rest, is, all_proofs (step_case c.args.model.now c.args.refuter.now.base) inv c.loop-k.k front c.loop-k-test.false are, left)
+    (front, rest, is, all_proofs (step_case c.args.circuit.now c.args.refuter.now.base) inv c.loop-k.k front c.loop-k-test.false are, left)

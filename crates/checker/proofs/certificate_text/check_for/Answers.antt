@@ -4,7 +4,7 @@ use Rattle.checker.proofs.Good.{invariant_from}
 use Rattle.checker.proofs.certificate_text.check_for.Goals as goal
 
 pub check_parts-requires-clause-invariant : goal.check_parts-requires-clause-invariant
-check_parts-requires-clause-invariant g c = invariant_from c.args.circuit.now c.args.invariant.now c.parts.ensures.well_formed c.requires.few c.in-Ok.ensures.good
+check_parts-requires-clause-invariant g c = invariant_from c.args.circuit.now c.args.invariant.now c.well_formed-2.ensures c.requires.few c.in-Ok.ensures.good
 
 pub returns-in-None-clause-says : goal.returns-in-None-clause-says
 returns-in-None-clause-says g c ys p known =

@@ -8,11 +8,11 @@ use Rattle.checker.proofs.TextFound.{found_here, no_such, refused_here, too_many
 use Rattle.checker.proofs.certificate_text.check_justice.Goals as goal
 
 pub check_for-requires-clause-bad : goal.check_for-requires-clause-bad
-check_for-requires-clause-bad g c = closing_used c.args.model.now c.in-Ok.shadow c.args.n c.bad.result.now c.in-Ok.ensures.shadow c.bad.ensures
+check_for-requires-clause-bad g c = closing_used c.args.circuit.now c.in-Ok.shadow c.args.n c.bad.result.now c.in-Ok.ensures.shadow c.bad.ensures
 
 pub returns-in-Ok-clause-says : goal.returns-in-Ok-clause-says
 returns-in-Ok-clause-says g c ys known =
-    let m = c.args.model.now in
+    let m = c.args.circuit.now in
     let n = c.args.n in
     let inv = c.args.invariant.now in
     found_here m c.in-Ok.shadow _ c.args.version (Justice n) (length inv) inv (c.args.reader.now ++ ys) c.check_for.new.reader (g.S.Source.remaining c.check_for.new.from) c.check_for.result
@@ -21,7 +21,7 @@ returns-in-Ok-clause-says g c ys known =
 
 pub returns-in-Err-NoProperty-clause-says : goal.returns-in-Err-NoProperty-clause-says
 returns-in-Err-NoProperty-clause-says g c ys known =
-    let m = c.args.model.now in
+    let m = c.args.circuit.now in
     let n = c.args.n in
     let inv = c.args.invariant.now in
     let none : HasProperty m (Justice n) → ⊥ = search rules in
@@ -30,7 +30,7 @@ returns-in-Err-NoProperty-clause-says g c ys known =
 
 pub returns-in-Err-Limit-clause-says : goal.returns-in-Err-Limit-clause-says
 returns-in-Err-Limit-clause-says g c ys known =
-    let m = c.args.model.now in
+    let m = c.args.circuit.now in
     let n = c.args.n in
     let inv = c.args.invariant.now in
     let there : n < length m.justice = search rules in

@@ -11,7 +11,7 @@ use Rattle.checker.proofs.certificate_text.check_lemmas_and_cases.Goals as goal
 
 pub returns-in_err-found-clause-says : goal.returns-in_err-found-clause-says
 returns-in_err-found-clause-says g c ys p known =
-    let m = c.args.model.now in
+    let m = c.args.circuit.now in
     let inv = c.args.invariant.now in
     let bytes : List ℕ = c.args.reader.now ++ ys in
     let e = c.in_err-found.field-0.0 in
@@ -22,7 +22,7 @@ returns-in_err-found-clause-says g c ys p known =
 
 pub returns-in_err-skip_cases-clause-says : goal.returns-in_err-skip_cases-clause-says
 returns-in_err-skip_cases-clause-says g c ys p known =
-    let m = c.args.model.now in
+    let m = c.args.circuit.now in
     let inv = c.args.invariant.now in
     let n = length inv in
     let b = c.share_lemmas.new.refuter.base in
@@ -37,7 +37,7 @@ returns-in_err-skip_cases-clause-says g c ys p known =
 
 pub returns-in-Some-clause-says : goal.returns-in-Some-clause-says
 returns-in-Some-clause-says g c ys p known =
-    let m = c.args.model.now in
+    let m = c.args.circuit.now in
     let inv = c.args.invariant.now in
     let n = length inv in
     let b = c.share_lemmas.new.refuter.base in
@@ -58,7 +58,7 @@ check_cases-requires-clause-vars g c = c.in_ok-found.ensures.vars ∙ ap (λ (r 
 
 pub returns-clause-says : goal.returns-clause-says
 returns-clause-says g c ys p known =
-    let m = c.args.model.now in
+    let m = c.args.circuit.now in
     let inv = c.args.invariant.now in
     let n = length inv in
     let b = c.share_lemmas.new.refuter.base in

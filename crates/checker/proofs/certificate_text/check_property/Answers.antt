@@ -8,7 +8,7 @@ use Rattle.checker.proofs.certificate_text.check_property.Goals as goal
 
 pub returns-then-not-has_property-clause-says : goal.returns-then-not-has_property-clause-says
 returns-then-not-has_property-clause-says g c ys known =
-    let m = c.args.model.now in
+    let m = c.args.circuit.now in
     let p = c.args.property in
     let inv = c.args.invariant.now in
     let e = c.no_property-error.result in
@@ -20,12 +20,12 @@ returns-then-not-has_property-clause-says g c ys known =
 
 pub check_for-requires-clause-bad : goal.check_for-requires-clause-bad
 check_for-requires-clause-bad g c =
-    let there : HasProperty c.args.model.now c.args.property = search rules in
-    bad_used c.args.model.now c.args.property c.in-Bad.n c.bad.result.now c.in-Bad.is c.bad.ensures there
+    let there : HasProperty c.args.circuit.now c.args.property = search rules in
+    bad_used c.args.circuit.now c.args.property c.in-Bad.n c.bad.result.now c.in-Bad.is c.bad.ensures there
 
 pub returns-in-Bad-clause-says : goal.returns-in-Bad-clause-says
 returns-in-Bad-clause-says g c ys known =
-    let m = c.args.model.now in
+    let m = c.args.circuit.now in
     let p = c.args.property in
     let inv = c.args.invariant.now in
     let there : HasProperty m p = search rules in
@@ -37,12 +37,12 @@ returns-in-Bad-clause-says g c ys known =
 
 pub check_for-requires-in-Output-clause-bad : goal.check_for-requires-in-Output-clause-bad
 check_for-requires-in-Output-clause-bad g c =
-    let there : HasProperty c.args.model.now c.args.property = search rules in
-    output_used c.args.model.now c.args.property c.in-Output.n c.outputs.result.now c.in-Output.is c.outputs.ensures there
+    let there : HasProperty c.args.circuit.now c.args.property = search rules in
+    output_used c.args.circuit.now c.args.property c.in-Output.n c.outputs.result.now c.in-Output.is c.outputs.ensures there
 
 pub returns-in-Output-clause-says : goal.returns-in-Output-clause-says
 returns-in-Output-clause-says g c ys known =
-    let m = c.args.model.now in
+    let m = c.args.circuit.now in
     let p = c.args.property in
     let inv = c.args.invariant.now in
     let there : HasProperty m p = search rules in

@@ -12,18 +12,18 @@ use Rattle.checker.proofs.certificate_text.check_source.Goals as goal
 pub returns-in_err-outcome-clause-says : goal.returns-in_err-outcome-clause-says
 returns-in_err-outcome-clause-says g c ys known =
     let e = c.in_err-outcome.field-0.0 in
-    match_gives (λ (found : Outcome). (d : Certificate) × SpellsCertificate ys d × (found.property ≡ d.property) × IsFound c.args.model.now d found.refusal) (λ x. ForText x ((d : Certificate) → SpellsCertificate ys d → ⊥)) c.from_residual-in_err-outcome.result e c.from_residual-in_err-outcome.ensures.1
+    match_gives (λ (found : Outcome). (d : Certificate) × SpellsCertificate ys d × (found.property ≡ d.property) × IsFound c.args.circuit.now d found.refusal) (λ x. ForText x ((d : Certificate) → SpellsCertificate ys d → ⊥)) c.from_residual-in_err-outcome.result e c.from_residual-in_err-outcome.ensures.1
     (text_refused c.in_ok-reader.reader ys e c.in_ok-reader.ensures (c.in_err-outcome.ensures.says ys known))
 
 pub returns-in_err-end-clause-says : goal.returns-in_err-end-clause-says
 returns-in_err-end-clause-says g c ys known =
     let e = c.in_err-end.field-0.0 in
-    let P = λ (d : Certificate) (found : Outcome). (found.property ≡ d.property) × IsFound c.args.model.now d found.refusal in
-    match_gives (λ (found : Outcome). (d : Certificate) × SpellsCertificate ys d × (found.property ≡ d.property) × IsFound c.args.model.now d found.refusal) (λ x. ForText x ((d : Certificate) → SpellsCertificate ys d → ⊥)) c.from_residual-in_err-end.result e c.from_residual-in_err-end.ensures.1
+    let P = λ (d : Certificate) (found : Outcome). (found.property ≡ d.property) × IsFound c.args.circuit.now d found.refusal in
+    match_gives (λ (found : Outcome). (d : Certificate) × SpellsCertificate ys d × (found.property ≡ d.property) × IsFound c.args.circuit.now d found.refusal) (λ x. ForText x ((d : Certificate) → SpellsCertificate ys d → ⊥)) c.from_residual-in_err-end.result e c.from_residual-in_err-end.ensures.1
     (text_goes_on P c.in_ok-reader.reader c.check_text.new.reader ys (g.S.Source.remaining c.check_text.new.from) c.in_ok-outcome.outcome e c.in_ok-reader.ensures (c.in_ok-outcome.ensures.says ys known) (λ zs here. c.in_err-end.ensures.says zs here))
 
 pub returns-clause-says : goal.returns-clause-says
 returns-clause-says g c ys known =
-    let P = λ (d : Certificate) (found : Outcome). (found.property ≡ d.property) × IsFound c.args.model.now d found.refusal in
+    let P = λ (d : Certificate) (found : Outcome). (found.property ≡ d.property) × IsFound c.args.circuit.now d found.refusal in
     let (d, spelled, both) = text_whole P c.in_ok-reader.reader c.check_text.new.reader c.end.new.self ys (g.S.Source.remaining c.check_text.new.from) (g.S.Source.remaining c.end.new.from) c.in_ok-outcome.outcome c.in_ok-reader.ensures (c.in_ok-outcome.ensures.says ys known) (λ zs here. c.in_ok-end.ensures.says zs here) in
     (d, spelled, both.0, both.1)

@@ -11,14 +11,14 @@ use Rattle.checker.proofs.certificate_text.check_text.Goals as goal
 
 pub returns-in_err-version-clause-says : goal.returns-in_err-version-clause-says
 returns-in_err-version-clause-says g c ys known =
-    let P = λ (d : Certificate) (found : Outcome). (found.property ≡ d.property) × IsFound c.args.model.now d found.refusal in
+    let P = λ (d : Certificate) (found : Outcome). (found.property ≡ d.property) × IsFound c.args.circuit.now d found.refusal in
     let bytes : List ℕ = c.args.reader.now ++ ys in
     let e = c.in_err-version.field-0.0 in
     err_finds P (certificate_at bytes) _ e c.version.new.self (g.S.Source.remaining c.version.new.from) c.from_residual.ensures.1 (version_stops bytes e (c.in_err-version.ensures.says ys known))
 
 pub returns-in_err-property-clause-says : goal.returns-in_err-property-clause-says
 returns-in_err-property-clause-says g c ys known =
-    let P = λ (d : Certificate) (found : Outcome). (found.property ≡ d.property) × IsFound c.args.model.now d found.refusal in
+    let P = λ (d : Certificate) (found : Outcome). (found.property ≡ d.property) × IsFound c.args.circuit.now d found.refusal in
     let bytes : List ℕ = c.args.reader.now ++ ys in
     let v = c.in_ok-version.version in
     let e = c.in_err-property.field-0.0 in
@@ -30,7 +30,7 @@ returns-in_err-property-clause-says g c ys known =
 
 pub returns-in_err-count-clause-says : goal.returns-in_err-count-clause-says
 returns-in_err-count-clause-says g c ys known =
-    let P = λ (d : Certificate) (found : Outcome). (found.property ≡ d.property) × IsFound c.args.model.now d found.refusal in
+    let P = λ (d : Certificate) (found : Outcome). (found.property ≡ d.property) × IsFound c.args.circuit.now d found.refusal in
     let bytes : List ℕ = c.args.reader.now ++ ys in
     let v = c.in_ok-version.version in
     let p = c.in_ok-property.property in
@@ -44,7 +44,7 @@ returns-in_err-count-clause-says g c ys known =
 
 pub returns-in_err-invariant-clause-says : goal.returns-in_err-invariant-clause-says
 returns-in_err-invariant-clause-says g c ys known =
-    let P = λ (d : Certificate) (found : Outcome). (found.property ≡ d.property) × IsFound c.args.model.now d found.refusal in
+    let P = λ (d : Certificate) (found : Outcome). (found.property ≡ d.property) × IsFound c.args.circuit.now d found.refusal in
     let bytes : List ℕ = c.args.reader.now ++ ys in
     let v = c.in_ok-version.version in
     let p = c.in_ok-property.property in
@@ -64,7 +64,7 @@ check_property-requires-clause-few g c =
 
 pub returns-in_err-refusal-clause-says : goal.returns-in_err-refusal-clause-says
 returns-in_err-refusal-clause-says g c ys known =
-    let P = λ (d : Certificate) (found : Outcome). (found.property ≡ d.property) × IsFound c.args.model.now d found.refusal in
+    let P = λ (d : Certificate) (found : Outcome). (found.property ≡ d.property) × IsFound c.args.circuit.now d found.refusal in
     let bytes : List ℕ = c.args.reader.now ++ ys in
     let v = c.in_ok-version.version in
     let p = c.in_ok-property.property in
@@ -83,7 +83,7 @@ returns-in_err-refusal-clause-says g c ys known =
 
 pub returns-clause-says : goal.returns-clause-says
 returns-clause-says g c ys known =
-    let m = c.args.model.now in
+    let m = c.args.circuit.now in
     let P = λ (d : Certificate) (found : Outcome). (found.property ≡ d.property) × IsFound m d found.refusal in
     let bytes : List ℕ = c.args.reader.now ++ ys in
     let v = c.in_ok-version.version in

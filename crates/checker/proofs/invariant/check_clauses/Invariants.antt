@@ -4,7 +4,7 @@ use Rattle.checker.proofs.invariant.check_clauses.Given as goal
 
 abbrev pub invariant-loop-k : goal.invariant-loop-k
 invariant-loop-k l = record {
-  good : All (IsGood l.model) (take l.k l.fn.invariant);
+  good : All (IsGood l.circuit) (take l.k l.fn.invariant);
   below : All (λ s. s < l.k + 1) l.seen.items;
-  whole : length l.seen.items ≡ l.model.max_var + 1;
+  whole : length l.seen.items ≡ l.circuit.max_var + 1;
 }

@@ -6,7 +6,7 @@ use Rattle.checker.proofs.invariant.clause_fault.Given as goal
 
 abbrev pub invariant-loop-i : goal.invariant-loop-i
 invariant-loop-i l = record {
-  good : IsGood l.model (take l.i l.clause);
+  good : IsGood l.circuit (take l.i l.clause);
   seen : IsSeen l.stamp (map variable (take l.i l.clause)) l.seen;
   most : All (λ s. s ≤ l.stamp) l.seen;
   whole : length l.seen ≡ length l.fn.seen;

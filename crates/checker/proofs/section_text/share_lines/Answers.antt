@@ -5,29 +5,29 @@ use Rattle.base.specs.Witness.{witness}
 use Rattle.scan.specs.Lists.{items_at}
 use Rattle.lrat.specs.declared.fault.Fault.TheVariants.{OutOfMemory}
 use Rattle.lrat.specs.Courses.{Course}
-use Rattle.lrat.specs.Lemmas.{IsNoLemma, base_at}
+use Rattle.lrat.specs.Lemmas.{AddsEmpty, IsNoLemma, base_at}
 use Rattle.lrat.specs.Limits.{IsLine}
 use Rattle.lrat.specs.Stages.{Goes}
-use Rattle.certificate.specs.Reading.{item_at}
+use Rattle.certificate.specs.Reading.{item_at, line_where}
 use Rattle.certificate.specs.Streams.{Finds}
 use Rattle.certificate.proofs.StreamLaws.{err_finds, items_go, items_end, items_refused, others_found}
 use Rattle.checker.specs.Streamed.{AreLemmas}
 use Rattle.checker.proofs.Streaming.{extends_more, lemma_halts}
 use Rattle.checker.proofs.section_text.share_lines.Goals as goal
 
-pub returns-in_err-line-clause-says : goal.returns-in_err-line-clause-says
-returns-in_err-line-clause-says g c ys known =
+pub returns-in_err-there-clause-says : goal.returns-in_err-there-clause-says
+returns-in_err-there-clause-says g c ys known =
     let read = items_at item_at (c.args.reader.now ++ ys) in
     let (front, all, extends, still) = c.taking.invariant.reads ys known in
-    err_finds (AreLemmas c.args.refuter.now.base.vars c.args.refuter.now.stage c.taking.refuter.base) read c.from_residual.result c.in_err-line.field-0.0 c.line.new.self (g.S.Source.remaining c.line.new.from) c.from_residual.ensures.1
-    (items_refused read front c.in_err-line.field-0.0 c.taking.reader _ still (λ zs left. c.in_err-line.ensures.says zs left))
+    err_finds (AreLemmas c.args.refuter.now.base.vars c.args.refuter.now.stage c.taking.refuter.base) read c.from_residual.result c.in_err-there.field-0.0 c.line_into.new.self (g.S.Source.remaining c.line_into.new.from) c.from_residual.ensures.1
+    (items_refused read front c.in_err-there.field-0.0 c.taking.reader _ still (λ zs left. c.in_err-there.ensures.says zs left))
 
-pub returns-in_default-clause-says : goal.returns-in_default-clause-says
-returns-in_default-clause-says g c ys known =
+pub returns-then-not-there-clause-says : goal.returns-then-not-there-clause-says
+returns-then-not-there-clause-says g c ys known =
     let read = items_at item_at (c.args.reader.now ++ ys) in
     let (front, all, extends, still) = c.taking.invariant.reads ys known in
-    let (rest, is, left) = items_end read front c.taking.reader c.line.new.self _ (g.S.Source.remaining c.line.new.from) still
-    (λ zs here. subst (λ o. Finds (item_at (c.taking.reader ++ zs)) (Ok o) c.line.new.self (g.S.Source.remaining c.line.new.from)) c.in_default.is (c.in_ok-line.ensures.says zs here)) in
+    let (rest, is, left) = items_end read front c.taking.reader c.line_into.new.self _ (g.S.Source.remaining c.line_into.new.from) still
+    (λ zs here. subst (λ b. Finds (item_at (c.taking.reader ++ zs)) (Ok (line_where b c.line_into.new.line)) c.line_into.new.self (g.S.Source.remaining c.line_into.new.from)) c.if-not-there.true (c.in_ok-there.ensures.says zs here)) in
     let vars : c.taking.refuter.base.vars ≡ c.args.refuter.now.base.vars = ap (λ b. b.vars) c.taking.invariant.base in
     (front, rest, is, (c.taking.refuter.stage, all, extends, ap (λ (r : Course). r.base) c.in-Ok.ensures.ok.1 ∙ ap (λ k. base_at k c.taking.refuter.stage) vars), left)
 
@@ -36,54 +36,33 @@ returns-in-Err-lemma-clause-says g c ys known =
     let n = c.args.refuter.now.base.vars in
     let s = c.args.refuter.now.stage in
     let fault = c.in-Err-lemma.fault in
-    let line = c.in-Some.line in
+    let line = c.line_into.new.line in
     let read = items_at item_at (c.args.reader.now ++ ys) in
     let (front, all, extends, still) = c.taking.invariant.reads ys known in
     let vars : c.taking.refuter.base.vars ≡ n = ap (λ b. b.vars) c.taking.invariant.base in
-    let none : IsNoLemma n c.taking.refuter.stage line fault = subst (λ k. IsNoLemma k c.taking.refuter.stage line fault) vars (c.in-Err-lemma.ensures.refused c.taking.invariant.open_) in
-    let further = items_go read front line c.taking.reader c.line.new.self _ (g.S.Source.remaining c.line.new.from) still
-    (λ zs here. subst (λ o. Finds (item_at (c.taking.reader ++ zs)) (Ok o) c.line.new.self (g.S.Source.remaining c.line.new.from)) c.in-Some.is (c.in_ok-line.ensures.says zs here)) in
-    others_found (λ lines found. (found ≡ Some fault) × (fault ≢ OutOfMemory witness)) (AreLemmas n s c.lemma.new.self.base) read (front ++ line ∷ []) (items_at item_at) c.line.new.self c.skip_refused.new.reader _ (g.S.Source.remaining c.skip_refused.new.from) c.skip_refused.result further
+    let none : IsNoLemma n c.taking.refuter.stage line fault = subst (λ k. IsNoLemma k c.taking.refuter.stage line fault) vars (subst (λ l. IsNoLemma c.taking.refuter.base.vars c.taking.refuter.stage l fault) c.as_ref.ensures (c.in-Err-lemma.ensures.refused c.taking.invariant.open_)) in
+    let further = items_go read front line c.taking.reader c.line_into.new.self _ (g.S.Source.remaining c.line_into.new.from) still
+    (λ zs here. subst (λ b. Finds (item_at (c.taking.reader ++ zs)) (Ok (line_where b c.line_into.new.line)) c.line_into.new.self (g.S.Source.remaining c.line_into.new.from)) c.if-not-there.false (c.in_ok-there.ensures.says zs here)) in
+    others_found (λ lines found. (found ≡ Some fault) × (fault ≢ OutOfMemory witness)) (AreLemmas n s c.lemma.new.self.base) read (front ++ line ∷ []) (items_at item_at) c.line_into.new.self c.skip_refused.new.reader _ (g.S.Source.remaining c.skip_refused.new.from) c.skip_refused.result further
     (λ zs here. c.skip_refused.ensures.says zs here) (λ more x found. lemma_halts n s c.taking.refuter.stage c.lemma.new.self.base front line fault more x extends none found)
-
-pub taking-preserved-in_default-lemma : goal.taking-preserved-in_default-lemma
-taking-preserved-in_default-lemma g c = record {
-  steady = search rules;
-  base = c.in_default-lemma.ensures.base ∙ c.taking.invariant.base;
-  open_ = c.in_default-lemma.ensures.ok.1;
-  reads = λ ys known.
-      let n = c.args.refuter.now.base.vars in
-      let line = c.in-Some.line in
-      let read = items_at item_at (c.args.reader.now ++ ys) in
-      let (front, all, extends, still) = c.taking.invariant.reads ys known in
-      let vars : c.taking.refuter.base.vars ≡ n = ap (λ b. b.vars) c.taking.invariant.base in
-      let within : IsLine line = subst (λ o. IfSome o IsLine) c.in-Some.is c.in_ok-line.ensures.line in
-      let goes : Goes n c.taking.refuter.stage line c.lemma.new.self.stage = subst (λ k. Goes k c.taking.refuter.stage line c.lemma.new.self.stage) vars c.in_default-lemma.ensures.ok.2 in (
-        front ++ line ∷ [],
-        All-push IsLine front line all within,
-        extends_more n front c.args.refuter.now.stage c.taking.refuter.stage c.lemma.new.self.stage line extends goes c.in_default-lemma.ensures.not_empty,
-        items_go read front line c.taking.reader c.line.new.self _ (g.S.Source.remaining c.line.new.from) still
-            (λ zs here. subst (λ o. Finds (item_at (c.taking.reader ++ zs)) (Ok o) c.line.new.self (g.S.Source.remaining c.line.new.from)) c.in-Some.is (c.in_ok-line.ensures.says zs here)),
-      );
-}
 
 pub taking-preserved : goal.taking-preserved
 taking-preserved g c = record {
   steady = search rules;
-  base = c.in_default-lemma.ensures.base ∙ c.taking.invariant.base;
-  open_ = c.in_default-lemma.ensures.ok.1;
+  base = c.in_default.ensures.base ∙ c.taking.invariant.base;
+  open_ = c.in_default.ensures.ok.1;
   reads = λ ys known.
       let n = c.args.refuter.now.base.vars in
-      let line = c.in-Some.line in
+      let line = c.line_into.new.line in
       let read = items_at item_at (c.args.reader.now ++ ys) in
       let (front, all, extends, still) = c.taking.invariant.reads ys known in
       let vars : c.taking.refuter.base.vars ≡ n = ap (λ b. b.vars) c.taking.invariant.base in
-      let within : IsLine line = subst (λ o. IfSome o IsLine) c.in-Some.is c.in_ok-line.ensures.line in
-      let goes : Goes n c.taking.refuter.stage line c.lemma.new.self.stage = subst (λ k. Goes k c.taking.refuter.stage line c.lemma.new.self.stage) vars c.in_default-lemma.ensures.ok.2 in (
+      let within : IsLine line = subst (λ b. IfSome (line_where b line) IsLine) c.if-not-there.false c.in_ok-there.ensures.line in
+      let goes : Goes n c.taking.refuter.stage line c.lemma.new.self.stage = subst (λ k. Goes k c.taking.refuter.stage line c.lemma.new.self.stage) vars (subst (λ l. Goes c.taking.refuter.base.vars c.taking.refuter.stage l c.lemma.new.self.stage) c.as_ref.ensures c.in_default.ensures.ok.2) in (
         front ++ line ∷ [],
         All-push IsLine front line all within,
-        extends_more n front c.args.refuter.now.stage c.taking.refuter.stage c.lemma.new.self.stage line extends goes c.in_default-lemma.ensures.not_empty,
-        items_go read front line c.taking.reader c.line.new.self _ (g.S.Source.remaining c.line.new.from) still
-            (λ zs here. subst (λ o. Finds (item_at (c.taking.reader ++ zs)) (Ok o) c.line.new.self (g.S.Source.remaining c.line.new.from)) c.in-Some.is (c.in_ok-line.ensures.says zs here)),
+        extends_more n front c.args.refuter.now.stage c.taking.refuter.stage c.lemma.new.self.stage line extends goes (subst (λ l. AddsEmpty l → ⊥) c.as_ref.ensures c.in_default.ensures.not_empty),
+        items_go read front line c.taking.reader c.line_into.new.self _ (g.S.Source.remaining c.line_into.new.from) still
+            (λ zs here. subst (λ b. Finds (item_at (c.taking.reader ++ zs)) (Ok (line_where b c.line_into.new.line)) c.line_into.new.self (g.S.Source.remaining c.line_into.new.from)) c.if-not-there.false (c.in_ok-there.ensures.says zs here)),
       );
 }

@@ -9,12 +9,12 @@ use Rattle.checker.proofs.sections.check_initial.Goals as goal
 
 pub init_units-requires : goal.init_units-requires
 init_units-requires c =
-    clause_over c.args.model.now c.args.certificate.now.invariant c.as_slice-invariant.result.now c.loop-k.k c.index-invariant-k.result c.as_slice.result.now c.requires.invariant
+    clause_over c.args.circuit.now c.args.certificate.now.invariant c.as_slice-invariant.result.now c.loop-k.k c.index-invariant-k.result c.as_slice.result.now c.requires.invariant
     c.as_slice-invariant.ensures c.loop-k-test.true c.index-invariant-k.is c.as_slice.ensures
 
 pub returns-in_err-check_case-clause-err : goal.returns-in_err-check_case-clause-err
 returns-in_err-check_case-clause-err c =
-    let m = c.args.model.now in
+    let m = c.args.circuit.now in
     let inv = c.args.certificate.now.invariant in
     let ps = c.args.certificate.now.sections in
     let made = init_made m inv c.as_slice-invariant.result.now c.loop-k.k c.index-invariant-k.result c.as_slice.result.now c.loop-k.refuter.base c.as_slice-in-loop-k.result.now
@@ -24,7 +24,7 @@ returns-in_err-check_case-clause-err c =
 
 pub loop-k-preserved : goal.loop-k-preserved
 loop-k-preserved c =
-    let m = c.args.model.now in
+    let m = c.args.circuit.now in
     let inv = c.args.certificate.now.invariant in
     let made = init_made m inv c.as_slice-invariant.result.now c.loop-k.k c.index-invariant-k.result c.as_slice.result.now c.loop-k.refuter.base c.as_slice-in-loop-k.result.now
     c.as_slice-invariant.ensures c.loop-k-test.true c.index-invariant-k.is c.as_slice.ensures c.loop-k.invariant.base (c.as_slice-in-loop-k.ensures.value ∙ c.in_ok-units.ensures.units) in

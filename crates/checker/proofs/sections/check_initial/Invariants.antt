@@ -8,6 +8,6 @@ use Rattle.checker.proofs.sections.check_initial.Given as goal
 abbrev pub invariant-loop-k : goal.invariant-loop-k
 invariant-loop-k l = record {
   fresh : l.refuter.refusal ≡ None;
-  base : l.refuter.base ≡ base_of (start_formula l.model);
-  below : (b : Base) (a : Lit) → RefuteBelow (cases l.model b l.certificate.invariant a) l.certificate.sections l.k;
+  base : l.refuter.base ≡ base_of (start_formula l.circuit);
+  below : (b : Base) (a : Lit) → RefuteBelow (cases l.circuit b l.certificate.invariant a) l.certificate.sections l.k;
 }

@@ -17,12 +17,12 @@ loop-k-init c = record {
 
 pub step_units-requires-clause-over : goal.step_units-requires-clause-over
 step_units-requires-clause-over c =
-    clause_over c.args.model.now c.args.certificate.now.invariant c.as_slice-invariant.result.now c.loop-k.k c.index-invariant-k.result c.as_slice.result.now c.requires.invariant
+    clause_over c.args.circuit.now c.args.certificate.now.invariant c.as_slice-invariant.result.now c.loop-k.k c.index-invariant-k.result c.as_slice.result.now c.requires.invariant
     c.as_slice-invariant.ensures c.loop-k-test.true c.index-invariant-k.is c.as_slice.ensures
 
 pub returns-in_err-check_case-clause-err : goal.returns-in_err-check_case-clause-err
 returns-in_err-check_case-clause-err c =
-    let m = c.args.model.now in
+    let m = c.args.circuit.now in
     let b : Base = c.args.refuter.now.base in
     let inv = c.args.certificate.now.invariant in
     let ps = c.args.certificate.now.sections in
@@ -35,7 +35,7 @@ returns-in_err-check_case-clause-err c =
 
 pub loop-k-preserved : goal.loop-k-preserved
 loop-k-preserved c =
-    let m = c.args.model.now in
+    let m = c.args.circuit.now in
     let b : Base = c.args.refuter.now.base in
     let inv = c.args.certificate.now.invariant in
     let ps = c.args.certificate.now.sections in
@@ -53,7 +53,7 @@ loop-k-preserved c =
 
 pub returns-clause-ok : goal.returns-clause-ok
 returns-clause-ok c =
-    let m = c.args.model.now in
+    let m = c.args.circuit.now in
     let b : Base = c.args.refuter.now.base in
     let inv = c.args.certificate.now.invariant in
     let ps = c.args.certificate.now.sections in
@@ -66,7 +66,7 @@ returns-clause-ok c =
 
 pub returns-clause-err : goal.returns-clause-err
 returns-clause-err c =
-    let m = c.args.model.now in
+    let m = c.args.circuit.now in
     let b : Base = c.args.refuter.now.base in
     let inv = c.args.certificate.now.invariant in
     let ps = c.args.certificate.now.sections in

@@ -6,5 +6,5 @@ abbrev pub invariant-loop-k : goal.invariant-loop-k
 invariant-loop-k l = record {
   fresh : l.refuter.refusal ≡ None;
   base : l.refuter.base ≡ l.fn.refuter.base;
-  below : RefuteBelow (cases l.model l.fn.refuter.base l.certificate.invariant l.bad) l.certificate.sections (length l.certificate.invariant + l.k);
+  below : RefuteBelow (cases l.circuit l.fn.refuter.base l.certificate.invariant l.bad) l.certificate.sections (length l.certificate.invariant + l.k);
 }

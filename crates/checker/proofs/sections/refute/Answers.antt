@@ -23,7 +23,7 @@ loop-i-preserved c =
       base = c.in-Ok-feed.ensures.base ∙ i.base;
       open_ = c.in-Ok-feed.ensures.ok.1;
       along = along_next _ _ _ _ _ _ _ _ c.loop-i-test.true i.along c.index-lines-i.is
-          (subst (λ k. Goes k c.loop-i.refuter.stage c.index-lines-i.result c.feed.new.self.stage) n c.in-Ok-feed.ensures.ok.2);
+          (subst (λ k. Goes k c.loop-i.refuter.stage c.index-lines-i.result c.feed.new.self.stage) n (subst (λ l. Goes c.loop-i.refuter.base.vars c.loop-i.refuter.stage l c.feed.new.self.stage) c.as_ref.ensures c.in-Ok-feed.ensures.ok.2));
     }
 
 pub returns-in-Err-feed-clause-refused : goal.returns-in-Err-feed-clause-refused
@@ -35,7 +35,7 @@ returns-in-Err-feed-clause-refused c =
     let a = c.at-in-Err-feed.ensures in
     subst (λ ls. IsRefusedCase case ls c.at-in-Err-feed.result) c.lines-lines.ensures.lines
     (refused_line case c.lines-lines.result.now c.loop-i.i c.loop-i.refuter.stage c.index-lines-i.result c.in-Err-feed.fault _ ids c.loop-i-test.true i.along c.index-lines-i.is
-    (subst (λ k. Halts k c.loop-i.refuter.stage c.index-lines-i.result c.in-Err-feed.fault) n (c.in-Err-feed.ensures.refused i.open_)) a.fault a.line a.memory)
+    (subst (λ k. Halts k c.loop-i.refuter.stage c.index-lines-i.result c.in-Err-feed.fault) n (subst (λ l. Halts c.loop-i.refuter.base.vars c.loop-i.refuter.stage l c.in-Err-feed.fault) c.as_ref.ensures (c.in-Err-feed.ensures.refused i.open_))) a.fault a.line a.memory)
 
 pub returns-in-Err-finish-clause-refused : goal.returns-in-Err-finish-clause-refused
 returns-in-Err-finish-clause-refused c =

@@ -11,7 +11,7 @@ use Rattle.checker.proofs.sections.shared_refuter.Goals as goal
 
 pub returns-in-Ok-clause-shared : goal.returns-in-Ok-clause-shared
 returns-in-Ok-clause-shared c =
-    let m = c.args.model.now in
+    let m = c.args.circuit.now in
     let inv = c.args.certificate.now.invariant in
     let base : c.in_ok-base.base ≡ shared_formula m inv = c.in_ok-base.ensures.formula ∙ ap (shared_formula m) c.as_slice.ensures in
     let extended : (t : Stage) × Extends (m.max_var + 1) (first_stage (shared_formula m inv)) c.in-Some.lemmas t × (c.in-Ok.refuter ≡ at_units (base_at (m.max_var + 1) t) []) =

@@ -1,4 +1,4 @@
-use Rattle.std.proofs.Common.{rules, ◌≡◌, ◌<◌, ℕ, List, ◌++◌, Some, None, subst, sym, arith}
+use Rattle.std.proofs.Common.{rules, ◌≡◌, ◌<◌}
 use Rattle.certificate.specs.Pieces.{Splits}
 use Rattle.certificate.proofs.StreamLaws.{end_found, end_missed}
 use Rattle.certificate.proofs.reader.Reader.end.Goals as goal
