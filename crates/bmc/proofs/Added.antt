@@ -23,3 +23,6 @@ then_both (Err e) p q f = tt
 pub then_pair : {T E : Type 0} (P Q : Type 0) (r : Result T E) → OnOk r P → OnOk r Q → OnOk r (P × Q)
 then_pair P Q (Ok x) p q = (p, q)
 then_pair P Q (Err e) p q = tt
+
+pub four_more : {X : Type 0} (old a b c d : List X) (x y z w : X) → a ≡ old ++ x ∷ [] → b ≡ a ++ y ∷ [] → c ≡ b ++ z ∷ [] → d ≡ c ++ w ∷ [] → d ≡ old ++ x ∷ y ∷ z ∷ w ∷ []
+four_more old a b c d x y z w p q r s = s ∙ ap (λ u. u ++ w ∷ []) (three_more old a b c x y z p q r) ∙ simp append_assoc

@@ -1,6 +1,6 @@
 -- What satisfies the clauses that are given is completed to what gives each conjunction its value.
-use Rattle.std.proofs.Common.{◌≡◌, ◌≢◌, ℕ, zero, suc, ◌<◌, ◌≤◌, ◌⊎◌, ◌&&◌, Bool, true, List, get_or, All, ℤ, pos, negsuc, unsigned_abs, inl, inr, refl, sym, ◌∙◌, subst, ap, arith}
-use Rattle.std.proofs.lemmas.Bool.{cases_eq, cases_lt, ne_eqb}
+use Rattle.std.proofs.Common.{◌≡◌, ◌≢◌, ℕ, zero, suc, ◌<◌, ◌⊎◌, ◌&&◌, Bool, List, get_or, ℤ, pos, negsuc, unsigned_abs, inl, inr, refl, sym, ◌∙◌, subst, arith}
+use Rattle.std.proofs.lemmas.Bool.{cases_lt, ne_eqb}
 use Rattle.lrat.specs.Literals.{is_true, IsSatisfied, IsLiteral}
 use Rattle.cnf.specs.Meaning.{AreSatisfied}
 use Rattle.cones.specs.Marks.{IsMarked}

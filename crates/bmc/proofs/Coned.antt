@@ -1,5 +1,5 @@
 -- Positions that are marked, gates in their order, and the cone that they make.
-use Rattle.std.proofs.Common.{◌≡◌, ◌≢◌, ℕ, ◌+◌, ◌*◌, ◌%◌, ◌==◌, ◌<◌, ◌≤◌, ◌⊎◌, Bool, true, List, [], ◌∷◌, ◌++◌, map, length, get_or, All, AllPairs, Contains, refl, inl, inr, sym, ◌∙◌, ap, subst, arith, length-append}
+use Rattle.std.proofs.Common.{◌≡◌, ◌≢◌, ℕ, ◌+◌, ◌*◌, ◌%◌, ◌==◌, ◌<◌, ◌≤◌, ◌⊎◌, Bool, List, [], ◌∷◌, ◌++◌, map, length, get_or, All, AllPairs, Contains, refl, inl, inr, sym, ◌∙◌, ap, subst, arith, length-append}
 use Rattle.std.proofs.lemmas.Bool.{cases_Bool, cases_lt, eqb-true}
 use Rattle.std.proofs.lemmas.Bool.Decides.{Decides-eqb}
 use Rattle.std.proofs.lemmas.List.{get_or_append_left, get_or_at, get_or_default, get_or-map, length-map}
@@ -13,7 +13,7 @@ use Rattle.graph.specs.declared.circuit.Latch.{Latch}
 use Rattle.graph.specs.declared.circuit.Gate.{Gate}
 use Rattle.graph.specs.declared.parts.Parts.{Parts}
 use Rattle.graph.specs.Valuation.{variable, defined}
-use Rattle.graph.specs.WellFormed.{IsWellFormed, IsOrder, gate_in, used}
+use Rattle.graph.specs.WellFormed.{IsWellFormed, IsOrder, gate_in}
 use Rattle.graph.proofs.Evaluation.{Contains-map, defined_nonzero, held, latches_even, rights0, rights1}
 use Rattle.graph.proofs.Gates.{left}
 use Rattle.graph.proofs.Tabled.{holds_of_used}

@@ -1,9 +1,9 @@
 -- Clauses that are given on demand, one variable after the other.
-use Rattle.std.proofs.Common.{◌≡◌, ◌≢◌, ℕ, zero, suc, ◌+◌, ◌<◌, ◌≤◌, ◌⊎◌, ◌&&◌, Bool, true, false, not, List, [], ◌∷◌, ◌++◌, map, set, length, get_or, All, Contains, replicate, ℤ, pos, negsuc, neg_ℤ, unsigned_abs, inl, inr, refl, sym, ◌∙◌, ap, subst, arith, below_more, length-append, length-set, get_or-set_same, get_or-set_other, take}
+use Rattle.std.proofs.Common.{◌≡◌, ◌≢◌, ℕ, zero, suc, ◌+◌, ◌<◌, ◌≤◌, ◌⊎◌, ◌&&◌, Bool, true, false, List, [], ◌∷◌, ◌++◌, map, set, length, get_or, All, Contains, replicate, ℤ, pos, negsuc, neg_ℤ, unsigned_abs, inl, inr, refl, sym, ◌∙◌, ap, subst, arith, below_more, length-append, length-set, get_or-set_same, get_or-set_other, take}
 use Rattle.std.proofs.lemmas.Bool.{cases_eq, false≢true}
 use Rattle.std.proofs.lemmas.List.{get_or_append_left, get_or_default, length-replicate, take_more, map-append}
 use Rattle.std.proofs.lemmas.List.Elements.{All-nil, All-cons, All-head, All-append, All-weaker, All-map, All-contains, Contains-append_left, Contains-append_right}
-use Rattle.graph.proofs.Evaluation.{All-left, All-right, All-unmap}
+use Rattle.graph.proofs.Evaluation.{All-left, All-right}
 use Rattle.graph.specs.declared.circuit.Lit.{Lit}
 use Rattle.graph.specs.Valuation.{place, variable}
 use Rattle.lrat.specs.Shared.{unit_clauses}
@@ -72,22 +72,13 @@ up_from n vs t u from small up x on = elim (from x on) [
   | inr found ↦ All-contains (λ v. v ≤ n) vs x small found
 ]
 
-one_small : (n v : ℕ) → v ≤ n → All (λ x. x ≤ n) (v ∷ [])
+pub one_small : (n v : ℕ) → v ≤ n → All (λ x. x ≤ n) (v ∷ [])
 one_small n v le = All-cons (λ x. x ≤ n) v [] le (All-nil (λ x. x ≤ n))
 
 -- what is given is so with more clauses and marks
 pub decided_later : (rs : List (ℤ × ℤ)) (cs ds : List (List ℤ)) (t u : List Bool) (x : ℕ) → ((v : ℕ → Bool) → AreSatisfied v ds → AreSatisfied v cs) → ((y : ℕ) → IsMarked t y → IsMarked u y) →
     IsDecided rs cs t x → IsDecided rs ds u x
 decided_later rs cs ds t u x weaker kept is gate w z satisfied defined agree = is gate w z (weaker w satisfied) defined (λ y y_in on. agree y y_in (kept y on))
-
--- a variable of its own
-pub given_leaf : (e : Encoder) (t : List Bool) (cs : List (List ℤ)) (x : ℕ) → (rights_at e.rights.items x).0 ≡ pos 0 → IsGivenOne e t t cs cs x
-given_leaf e t cs x none = record {
-  range = λ up. up;
-  over = λ over. over;
-  more = more_same e.rights.items cs;
-  decided = λ gate. absurd (gate none);
-}
 
 -- a conjunction
 pub given_conjunction : (e : Encoder) (t s u : List Bool) (cs ds : List (List ℤ)) (x : ℕ) (a b : ℤ) → IsEncoding e → IsMarked t x → rights_at e.rights.items x ≡ (a, b) → a ≢ pos 0 →

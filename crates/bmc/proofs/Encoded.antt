@@ -1,20 +1,18 @@
 -- Variables that become conjunctions, and the table of literals that were made.
-use Rattle.std.proofs.Common.{◌≡◌, ◌≢◌, ℕ, zero, suc, ◌+◌, ◌<◌, ◌≤◌, ◌⊎◌, ◌&&◌, ◌||◌, ◌==◌, if◌then◌else◌, Bool, true, false, not, List, [], ◌∷◌, ◌++◌, length, get_or, All, ℤ, pos, negsuc, neg_ℤ, unsigned_abs, Option, Some, inl, inr, refl, sym, ◌∙◌, ap, subst, arith}
+use Rattle.std.proofs.Common.{◌≡◌, ◌≢◌, ℕ, zero, suc, ◌+◌, ◌≤◌, ◌⊎◌, ◌&&◌, ◌||◌, ◌==◌, if◌then◌else◌, Bool, true, false, not, List, [], ◌∷◌, ◌++◌, length, get_or, All, ℤ, pos, negsuc, neg_ℤ, unsigned_abs, Some, inl, inr, refl, sym, ◌∙◌, ap, subst, arith}
 use Rattle.std.specs.HashMap.{get}
 use Rattle.std.specs.Ordering.{int_eq}
 use Rattle.std.proofs.lemmas.Bool.{cases_Bool, cases_eq, eq-eqb, ne_eqb, and_parts}
 use Rattle.std.proofs.lemmas.Bool.Decides.{Decides-int_eq}
 use Rattle.std.proofs.lemmas.List.{get_or_at}
-use Rattle.std.proofs.lemmas.List.Elements.{All-head, All-tail, All-append, All-weaker, All-contains, All-cons, All-nil}
+use Rattle.std.proofs.lemmas.List.Elements.{All-head, All-tail, All-weaker, All-contains}
 use Rattle.std.proofs.lemmas.Option.{same_Some}
-use Rattle.graph.proofs.Evaluation.{All-left, All-right}
 use Rattle.lrat.specs.Literals.{is_true, IsSatisfied, IsLiteral}
 use Rattle.cnf.specs.Meaning.{AreSatisfied}
 use Rattle.cnf.proofs.Listed.{satisfied-any}
 use Rattle.bmc.specs.declared.encoder.Encoder.{Encoder}
 use Rattle.bmc.specs.Encodings.{conjunction_clauses, rights_at, IsGate, IsDefined, IsConjunctionIn, IsBelow, IsEncoding, IsExtended, IsGrown, same_pair}
-use Rattle.bmc.proofs.Satisfied.{conjunction_satisfied}
-use Rattle.bmc.proofs.Negated.{negation_true, literal_up, negation_literal}
+use Rattle.bmc.proofs.Negated.{negation_true, literal_up}
 
 -- a literal is as true where its variable has the same value
 pub same_true : (u v : ℕ → Bool) (l : ℤ) → u (unsigned_abs l) ≡ v (unsigned_abs l) → is_true u l ≡ is_true v l

@@ -1,5 +1,5 @@
 -- What satisfies the clauses is a run.
-use Rattle.std.proofs.Common.{◌≡◌, ◌≢◌, ℕ, zero, suc, ◌+◌, ◌-◌, ◌*◌, ◌<◌, ◌≤◌, Bool, true, false, not, List, [], ◌∷◌, map, length, get_or, All, ℤ, pos, negsuc, unsigned_abs, inl, inr, refl, sym, ◌∙◌, ap, subst, arith}
+use Rattle.std.proofs.Common.{◌≡◌, ℕ, ◌+◌, ◌-◌, ◌<◌, Bool, true, false, not, List, [], ◌∷◌, map, length, get_or, All, ℤ, negsuc, unsigned_abs, refl, sym, ◌∙◌, ap, subst, arith}
 use Rattle.std.proofs.lemmas.List.{get_or_default, get_or-map, length-map}
 use Rattle.std.proofs.lemmas.List.Elements.{All-nil, All-cons, All-head, All-tail, All-contains}
 use Rattle.std.proofs.lemmas.Option.{slice_get-get_or}
@@ -7,8 +7,8 @@ use Rattle.graph.specs.declared.circuit.Lit.{Lit}
 use Rattle.graph.specs.declared.circuit.Latch.{Latch}
 use Rattle.graph.specs.declared.circuit.Property.TheVariants.{Bad}
 use Rattle.graph.specs.declared.parts.Parts.{Parts}
-use Rattle.graph.specs.Valuation.{variable, place, value_of, Agrees, state_of, inputs_of}
-use Rattle.graph.specs.Runs.{IsRun, IsReset, IsInitial, KeepsConstraints, Steps, next_state}
+use Rattle.graph.specs.Valuation.{value_of, Agrees, state_of, inputs_of}
+use Rattle.graph.specs.Runs.{IsRun, IsReset, IsInitial, Steps, next_state}
 use Rattle.graph.specs.Justice.{at}
 use Rattle.graph.specs.WellFormed.{IsWellFormed}
 use Rattle.graph.proofs.Evaluation.{inputs_even, latches_even}
@@ -27,8 +27,8 @@ use Rattle.bmc.specs.Cones.{IsConeOf, latch_at, no_latch}
 use Rattle.bmc.specs.Depths.{IsUnsetAfter}
 use Rattle.bmc.specs.Encodings.{IsGate, AreKept, told}
 use Rattle.bmc.specs.Demands.{AreGiven}
-use Rattle.bmc.specs.Lines.{IsLine, AreLines}
-use Rattle.bmc.specs.Unrollings.{Leaves, Follows, IsUnrolled, literal_at, input_of, latch_of}
+use Rattle.bmc.specs.Lines.{AreLines}
+use Rattle.bmc.specs.Unrollings.{Leaves, Follows, IsUnrolled, literal_at, latch_of}
 use Rattle.bmc.proofs.Completed.{IsWhole, made_whole}
 use Rattle.bmc.proofs.Encoded.{same_true}
 use Rattle.bmc.proofs.Depths.{some_bad}

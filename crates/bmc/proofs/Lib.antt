@@ -6,6 +6,7 @@ pub mod Encoded
 pub mod Completed
 pub mod Tabled
 pub mod Demanded
+pub mod Selected
 pub mod Closed
 pub mod Coned
 pub mod Unrolled

@@ -1,5 +1,5 @@
 -- Tables of literals that stand for a circuit's variables at a time.
-use Rattle.std.proofs.Common.{◌≡◌, ◌≢◌, ℕ, zero, suc, ◌+◌, ◌*◌, ◌%◌, ◌<◌, ◌≤◌, ◌⊎◌, ◌&&◌, ◌==◌, if◌then◌else◌, Bool, true, false, not, List, [], ◌∷◌, ◌++◌, map, set, length, get_or, All, Contains, ℤ, pos, negsuc, neg_ℤ, inl, inr, refl, sym, ◌∙◌, ap, subst, arith, get_or-set_same, get_or-set_other, length-set}
+use Rattle.std.proofs.Common.{◌≡◌, ◌≢◌, ℕ, zero, suc, ◌+◌, ◌*◌, ◌%◌, ◌<◌, ◌≤◌, ◌⊎◌, Bool, not, List, [], ◌++◌, map, set, length, get_or, All, Contains, ℤ, pos, negsuc, neg_ℤ, inl, inr, refl, sym, ◌∙◌, ap, subst, arith, get_or-set_same, get_or-set_other, length-set}
 use Rattle.std.proofs.lemmas.Bool.{cases_eq, cases_lt, eq-eqb, ne_eqb}
 use Rattle.std.proofs.lemmas.List.Elements.{All-weaker, All-contains}
 use Rattle.graph.specs.declared.circuit.Lit.{Lit}
@@ -14,9 +14,8 @@ use Rattle.lrat.specs.Literals.{is_true, IsLiteral}
 use Rattle.cnf.specs.Formulas.{IsGateIn}
 use Rattle.cnf.proofs.Frames.{gates_in_range}
 use Rattle.bmc.specs.declared.cone.Cone.{Cone}
-use Rattle.bmc.specs.declared.encoder.Encoder.{Encoder}
 use Rattle.bmc.specs.Cones.{IsConeOf, IsFilled, gate_at, no_gate, no_latch}
-use Rattle.bmc.specs.Encodings.{IsConjunctionIn, IsEncoding, Told, AreKept}
+use Rattle.bmc.specs.Encodings.{IsConjunctionIn, Told, AreKept}
 use Rattle.bmc.specs.Unrollings.{Leaves, Follows, Stands, IsTable, AreFresh, AreStates, literal_at, literal_of, input_of, latch_of}
 use Rattle.bmc.proofs.Negated.{negation_literal, negation_true, literal_up}
 

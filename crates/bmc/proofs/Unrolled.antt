@@ -1,18 +1,17 @@
 -- One time more of a circuit in clauses.
-use Rattle.std.proofs.Common.{◌≡◌, ◌≢◌, ℕ, zero, suc, ◌+◌, ◌-◌, ◌*◌, ◌%◌, ◌<◌, ◌≤◌, ◌⊎◌, if◌then◌else◌, Bool, true, false, not, List, [], ◌∷◌, ◌++◌, map, length, get_or, All, Contains, None, Some, ℤ, pos, negsuc, neg_ℤ, inl, inr, refl, sym, ◌∙◌, ap, subst, arith, length-append, set}
+use Rattle.std.proofs.Common.{◌≡◌, ◌≢◌, ℕ, zero, suc, ◌+◌, ◌-◌, ◌*◌, ◌<◌, ◌≤◌, if◌then◌else◌, Bool, true, false, not, List, [], ◌∷◌, ◌++◌, map, length, get_or, All, Contains, None, Some, ℤ, pos, negsuc, inl, inr, refl, sym, ◌∙◌, ap, subst, arith, length-append}
 use Rattle.std.proofs.Math.Dec.{leb}
 use Rattle.std.proofs.lemmas.Bool.{le-leb}
 use Rattle.std.proofs.lemmas.Bool.Decides.{leb_tells}
-use Rattle.std.proofs.lemmas.Bool.{cases_eq, cases_lt}
+use Rattle.std.proofs.lemmas.Bool.{cases_lt}
 use Rattle.std.proofs.lemmas.List.{get_or_append_left, get_or_at, get_or-map, length-map}
 use Rattle.std.proofs.lemmas.List.{get_or_default}
 use Rattle.std.specs.HashMap.{get}
-use Rattle.std.proofs.lemmas.List.Elements.{All-nil, All-cons, All-head, All-map, All-push, All-append, All-weaker, All-contains, Contains-get_or}
+use Rattle.std.proofs.lemmas.List.Elements.{All-nil, All-cons, All-map, All-push, All-append, All-weaker}
 use Rattle.graph.specs.declared.circuit.Lit.{Lit}
 use Rattle.graph.specs.declared.circuit.Latch.{Latch}
 use Rattle.graph.specs.declared.parts.Parts.{Parts}
 use Rattle.graph.specs.Valuation.{variable, place, value_of}
-use Rattle.graph.specs.Runs.{IsRun, KeepsConstraints}
 use Rattle.graph.specs.Justice.{at}
 use Rattle.graph.specs.WellFormed.{IsWellFormed}
 use Rattle.graph.proofs.Evaluation.{All-left, All-right, All-unmap, Contains-map, held, latches_even, latches_in_range}
@@ -26,14 +25,14 @@ use Rattle.cnf.proofs.CaseLaws.{next_value, nexts_in_range, constraints_in_range
 use Rattle.cnf.proofs.Listed.{satisfied-unit, unit-satisfied}
 use Rattle.bmc.specs.declared.cone.Cone.{Cone}
 use Rattle.bmc.specs.declared.encoder.Encoder.{Encoder}
-use Rattle.bmc.specs.Cones.{IsConeOf, IsIn, IsFilled, latch_at, no_latch}
-use Rattle.bmc.specs.Encodings.{rights_at, AreBelow, IsConjunctionIn, IsGate, IsDefined, IsEncoding, IsExtended, IsGrown, same_pair, Told, told, AreKept}
-use Rattle.bmc.specs.Demands.{IsMore, AreOver}
+use Rattle.bmc.specs.Cones.{IsConeOf, latch_at, no_latch}
+use Rattle.bmc.specs.Encodings.{AreBelow, IsConjunctionIn, IsGate, IsDefined, IsEncoding, IsExtended, same_pair, Told, told, AreKept}
+use Rattle.bmc.specs.Demands.{IsMore}
 use Rattle.bmc.specs.Unrollings.{Leaves, Follows, Stands, IsTable, AreFresh, AreStates, AreInitial, IsUnrolled, later, literal_at, literal_of, input_of, latch_of}
 use Rattle.bmc.proofs.Encoded.{AgreeUpTo, agree_true, agree_satisfied, defined_agree, literals_up}
 use Rattle.bmc.proofs.Closed.{next_range, no_some}
 use Rattle.bmc.proofs.Negated.{literal_up}
-use Rattle.bmc.proofs.Tabled.{latch_range, literal_in_range, literal_stands, stands_weaker, table_weaker}
+use Rattle.bmc.proofs.Tabled.{literal_in_range, literal_stands, table_weaker}
 
 first_old : (s : Leaves) (first t : ℕ) → t < length s.firsts → get_or (s.firsts ++ first ∷ []) t 0 ≡ get_or s.firsts t 0
 first_old s first t t_in = get_or_append_left s.firsts (first ∷ []) 0 t t_in

@@ -1,6 +1,6 @@
 -- The conjunctions whose clauses a solver has: those alone that are asked for, and what they depend on.
 use Rattle.std.specs.Prelude.{◌≡◌, ℕ, ◌<◌, ◌≤◌, Bool, true, List, length, All, ℤ, unsigned_abs}
-use Rattle.lrat.specs.Literals.{is_true, IsLiteral}
+use Rattle.lrat.specs.Literals.{IsLiteral}
 use Rattle.cnf.specs.Meaning.{AreSatisfied}
 use Rattle.cones.specs.Marks.{IsMarked}
 use Rattle.bmc.specs.declared.encoder.Encoder.{Encoder}

@@ -1,5 +1,5 @@
 -- Literals that are made of others (Tseitin 1968): each variable has a value of its own, or is the conjunction of two literals.
-use Rattle.std.specs.Prelude.{◌≡◌, ◌≢◌, ℕ, suc, ◌+◌, ◌<◌, ◌≤◌, ◌&&◌, Bool, true, List, [], ◌∷◌, length, slice_index_or, All, ℤ, pos, neg_ℤ, unsigned_abs, Some}
+use Rattle.std.specs.Prelude.{◌≡◌, ◌≢◌, ℕ, suc, ◌+◌, ◌<◌, ◌≤◌, ◌&&◌, ◌⊎◌, not, if◌then◌else◌, Bool, true, List, [], ◌∷◌, length, slice_index_or, ℤ, pos, neg_ℤ, unsigned_abs, Some}
 use Rattle.std.specs.HashMap.{get}
 use Rattle.std.specs.Ordering.{int_eq}
 use Rattle.lrat.specs.Literals.{is_true, IsLiteral}
@@ -9,6 +9,21 @@ use Rattle.bmc.specs.declared.encoder.Encoder.{Encoder}
 -- the clauses by which the literal is the conjunction of two
 abbrev pub conjunction_clauses : ℤ → ℤ → ℤ → List (List ℤ)
 conjunction_clauses l one other = (neg_ℤ l ∷ one ∷ []) ∷ (neg_ℤ l ∷ other ∷ []) ∷ (l ∷ neg_ℤ one ∷ neg_ℤ other ∷ []) ∷ []
+
+-- the clauses by which the literal is the negation of the second where the first is true, and else of the third
+abbrev pub selection_clauses : ℤ → ℤ → ℤ → ℤ → List (List ℤ)
+selection_clauses l s a b = (neg_ℤ l ∷ neg_ℤ s ∷ neg_ℤ a ∷ []) ∷ (l ∷ neg_ℤ s ∷ a ∷ []) ∷ (neg_ℤ l ∷ s ∷ neg_ℤ b ∷ []) ∷ (l ∷ s ∷ b ∷ []) ∷ []
+
+-- the negation of the second where the first is true, and else of the third (a multiplexer)
+abbrev pub selected : (ℕ → Bool) → ℤ → ℤ → ℤ → Bool
+selected v s a b = if is_true v s then not (is_true v a) else not (is_true v b)
+
+-- the negations of two conjunctions together say the same as the selection of three of their literals
+pub record IsMultiplexer (p q : ℤ × ℤ) (s a b : ℤ) : Type 0 where
+  pub value : (v : ℕ → Bool) → (not (is_true v p.0 && is_true v p.1) && not (is_true v q.0 && is_true v q.1)) ≡ selected v s a b
+  pub selector : (s ≡ p.0) ⊎ (s ≡ p.1)
+  pub first : (a ≡ p.0) ⊎ (a ≡ p.1)
+  pub second : (b ≡ q.0) ⊎ (b ≡ q.1)
 
 -- the two literals of which a variable is the conjunction, or zeros
 abbrev pub rights_at : List (ℤ × ℤ) → ℕ → ℤ × ℤ
@@ -69,3 +84,8 @@ told e cs = record { rights = e.rights.items; clauses = cs }
 -- the conjunctions have their values, and the clauses are satisfied
 abbrev pub AreKept : (ℕ → Bool) → Told → Type 0
 AreKept v d = IsDefined d.rights v × AreSatisfied v d.clauses
+
+-- the two literals' conjunction is the selection of three that come before them
+pub record IsSelection (rs : List (ℤ × ℤ)) (one other s a b : ℤ) : Type 0 where
+  pub value : (v : ℕ → Bool) → IsDefined rs v → (is_true v one && is_true v other) ≡ selected v s a b
+  pub below : (x : ℕ) → unsigned_abs one < x → unsigned_abs other < x → IsBelow x s × IsBelow x a × IsBelow x b

@@ -1,16 +1,16 @@
 -- Literals of clauses that stand for a circuit's variables at a time of a run (bounded model checking, Biere, Cimatti, Clarke, Zhu 1999).
-use Rattle.std.specs.Prelude.{◌≡◌, ℕ, ◌+◌, ◌*◌, ◌<◌, ◌≤◌, ◌%◌, ◌==◌, if◌then◌else◌, Bool, true, List, [], ◌∷◌, ◌++◌, length, slice_index_or, All, ℤ, pos, negsuc, neg_ℤ}
+use Rattle.std.specs.Prelude.{◌≡◌, ℕ, ◌+◌, ◌<◌, ◌≤◌, ◌%◌, ◌==◌, if◌then◌else◌, Bool, List, [], ◌∷◌, ◌++◌, length, slice_index_or, All, ℤ, pos, negsuc, neg_ℤ}
 use Rattle.graph.specs.declared.circuit.Lit.{Lit}
 use Rattle.graph.specs.declared.circuit.Latch.{Latch}
 use Rattle.graph.specs.declared.parts.Parts.{Parts}
-use Rattle.graph.specs.Valuation.{Valuation, variable, place, value_of}
+use Rattle.graph.specs.Valuation.{Valuation, variable, place}
 use Rattle.graph.specs.Runs.{IsRun, KeepsConstraints}
 use Rattle.graph.specs.Justice.{at}
 use Rattle.lrat.specs.Literals.{is_true, IsLiteral}
 use Rattle.cnf.specs.Meaning.{KeepsNow}
 use Rattle.bmc.specs.declared.cone.Cone.{Cone}
 use Rattle.bmc.specs.declared.encoder.Encoder.{Encoder}
-use Rattle.bmc.specs.Cones.{IsFilled, IsIn, input_at, latch_at}
+use Rattle.bmc.specs.Cones.{IsFilled, input_at, latch_at}
 use Rattle.bmc.specs.Encodings.{IsEncoding, IsGate, Told, told, AreKept}
 
 -- the literal at a place of a table

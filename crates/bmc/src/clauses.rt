@@ -2,7 +2,7 @@
 
 ghost use Rattle.std.specs.Prelude.{◌≡◌, ◌<◌, ◌≤◌, ◌^◌, ◌++◌, ◌∷◌, [], OnOk, neg_ℤ, pos, unsigned_abs, IfErr};
 ghost use Rattle.lrat.specs.Literals.{IsLiteral};
-ghost use Rattle.bmc.specs.Encodings.{conjunction_clauses};
+ghost use Rattle.bmc.specs.Encodings.{conjunction_clauses, selection_clauses};
 ghost use Rattle.engine.specs.declared.engine_error.EngineError.TheVariants.{Limit};
 ghost use Rattle.solver.specs.Full.{full};
 
@@ -93,4 +93,31 @@ pub fn add_conjunction<S: Sat>(
     add_two(solver, alloc, denial, one)?;
     add_two(solver, alloc, denial, other)?;
     add_three(solver, alloc, literal, negated(one), negated(other))
+}
+
+/// Adds the clauses by which the literal is the negation of the second one where the first is true,
+/// and else of the third.
+pub fn add_selection<S: Sat>(
+    solver: &mut S,
+    alloc: Global,
+    literal: i32,
+    selector: i32,
+    first: i32,
+    second: i32,
+) -> Result<(), EngineError>
+    requires literal { IsLiteral (S.vars solver.old) literal }
+    requires selector { IsLiteral (S.vars solver.old) selector }
+    requires first { IsLiteral (S.vars solver.old) first }
+    requires second { IsLiteral (S.vars solver.old) second }
+    requires small { S.vars solver.old ≤ 2147483647 }
+    ensures vars { S.vars solver.new ≡ S.vars solver.old }
+    ensures clauses { OnOk result (S.clauses solver.new ≡ S.clauses solver.old ++ selection_clauses literal selector first second) }
+    ensures limit { IfErr result (λ e. e ≡ Limit full → S.is_full solver.new) }
+{
+    let denial = negated(literal);
+    let otherwise = negated(selector);
+    add_three(solver, alloc, denial, otherwise, negated(first))?;
+    add_three(solver, alloc, literal, otherwise, first)?;
+    add_three(solver, alloc, denial, selector, negated(second))?;
+    add_three(solver, alloc, literal, selector, second)
 }

@@ -64,7 +64,7 @@ fn visit(
     ensures grows { OnOk result (Grows [] marks.old list.old.items marks.new list.new.items) }
     ensures visited { OnOk result (IsVisited circuit.now marks.new (slice_index list.old.items place)) }
 {
-    circuit.parts();
+    circuit.well_formed();
     let variable = list[place];
     mark(marks, list, nexts.next_of(Lit(2 * variable)))?;
     if let Some(gate) = gates.gate_of(variable) {
@@ -86,7 +86,7 @@ fn mark_cone(
     requires clear { (v : ℕ) → place marks.old v ≡ false }
     ensures { OnOk result (IsClosed circuit.now marks.new) }
 {
-    circuit.parts();
+    circuit.well_formed();
     let gates = GateTable::new(alloc, circuit)?;
     let mut list = Vec::new(alloc);
     mark_all(marks, &mut list, circuit.bad())?;
@@ -104,7 +104,7 @@ fn marks_of(alloc: Global, circuit: &Model, nexts: &NextTable) -> Result<Vec<boo
     requires nexts { IsTableOf circuit.now.latches nexts.now }
     ensures { IfOk result (λ marks. IsClosed circuit.now marks.items) }
 {
-    circuit.parts();
+    circuit.well_formed();
     let mut marks = filled(alloc, false, circuit.max_var() as usize + 1)?;
     mark_cone(alloc, circuit, nexts, marks.as_mut_slice())?;
     Ok(marks)
@@ -145,7 +145,7 @@ fn marked_gates(alloc: Global, marks: &[bool], circuit: &Model) -> Result<Vec<Ga
     requires places { length marks.now ≡ circuit.now.max_var + 1 }
     ensures { IfOk result (λ gates. AreOrdered circuit.now marks.now gates.items) }
 {
-    circuit.parts();
+    circuit.well_formed();
     let gates = circuit.gates();
     let mut ordered = Vec::new(alloc);
     for position in circuit.order() {
@@ -162,7 +162,7 @@ pub fn cone_of(alloc: Global, circuit: &Model, nexts: &NextTable) -> Result<Cone
     requires nexts { IsTableOf circuit.now.latches nexts.now }
     ensures { IfOk result (IsConeOf circuit.now) }
 {
-    circuit.parts();
+    circuit.well_formed();
     let marks = marks_of(alloc, circuit, nexts)?;
     let inputs = marked_inputs(alloc, marks.as_slice(), circuit.inputs())?;
     let latches = marked_latches(alloc, marks.as_slice(), circuit.latches())?;

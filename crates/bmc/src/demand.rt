@@ -11,7 +11,7 @@ ghost use Rattle.bmc.specs.Unrollings.{literal_of};
 ghost use Rattle.engine.specs.declared.engine_error.EngineError.TheVariants.{Limit};
 ghost use Rattle.solver.specs.Full.{full};
 
-use crate::clauses::{add_conjunction, positive};
+use crate::clauses::{add_conjunction, add_selection, positive};
 use crate::encoder::Encoder;
 use crate::frame::literal;
 use base::{Refused, push};
@@ -77,6 +77,13 @@ fn give_one<S: Sat>(
     let variable = list[place];
     let (one, other) = encoder.rights_of(variable);
     if one == 0 {
+        return Ok(());
+    }
+    if let Some((selector, first, second)) = encoder.selection(one, other) {
+        add_selection(solver, alloc, positive(variable), selector, first, second)?;
+        want(marks, list, selector)?;
+        want(marks, list, first)?;
+        want(marks, list, second)?;
         return Ok(());
     }
     add_conjunction(solver, alloc, positive(variable), one, other)?;

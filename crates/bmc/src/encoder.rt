@@ -3,7 +3,7 @@
 ghost use Rattle.std.specs.Prelude.{◌≡◌, ◌≢◌, ◌+◌, ◌<◌, ◌≤◌, ◌^◌, ◌++◌, ◌∷◌, [], ◌&&◌, ℕ, ℤ, Bool, true, None, pos, negsuc, neg_ℤ, unsigned_abs, OnOk, IfOk, IfSome, ◌⊎◌, length};
 ghost use Rattle.std.specs.HashMap.{get};
 ghost use Rattle.lrat.specs.Literals.{IsLiteral, is_true};
-ghost use Rattle.bmc.specs.Encodings.{IsConjunctionIn, IsEncoding, IsGrown, rights_at, same_pair};
+ghost use Rattle.bmc.specs.Encodings.{IsConjunctionIn, IsEncoding, IsGrown, IsMultiplexer, IsSelection, rights_at, same_pair};
 
 use crate::clauses::{negated, positive};
 use base::{Refused, insert_hashed, push};
@@ -24,6 +24,28 @@ fn simplified(a: i32, b: i32) -> Option<i32>
     }
     if b == 1 {
         return Some(a);
+    }
+    None
+}
+
+/// A selector and two literals, where one pair has a literal whose negation the other has.
+#[tactic(auto, using(crate::proofs::Selected::multiplexer_1, crate::proofs::Selected::multiplexer_2, crate::proofs::Selected::multiplexer_3, crate::proofs::Selected::multiplexer_4))]
+fn multiplexer(p: (i32, i32), q: (i32, i32)) -> Option<(i32, i32, i32)>
+    requires first { (unsigned_abs q.0 < 2 ^ 31) × (q.0 ≢ pos 0) }
+    requires second { (unsigned_abs q.1 < 2 ^ 31) × (q.1 ≢ pos 0) }
+    ensures { IfSome result (λ c. IsMultiplexer p q c.0 c.1 c.2) }
+{
+    if p.0 == negated(q.0) {
+        return Some((p.0, p.1, q.1));
+    }
+    if p.0 == negated(q.1) {
+        return Some((p.0, p.1, q.0));
+    }
+    if p.1 == negated(q.0) {
+        return Some((p.1, p.0, q.1));
+    }
+    if p.1 == negated(q.1) {
+        return Some((p.1, p.0, q.0));
     }
     None
 }
@@ -73,6 +95,30 @@ impl Encoder {
             Some(pair) => *pair,
             None => (0, 0),
         }
+    }
+
+    /// The selector and the two literals from which the conjunction of these selects, where both are
+    /// negations of conjunctions.
+    pub fn selection(&self, one: i32, other: i32) -> Option<(i32, i32, i32)>
+        requires encoding { IsEncoding self.now }
+        requires small { self.now.variables ≤ 2147483647 }
+        ensures { IfSome result (λ c. IsSelection self.now.rights.items one other c.0 c.1 c.2) }
+    {
+        if one > 0 {
+            return None;
+        }
+        if other > 0 {
+            return None;
+        }
+        let p = self.rights_of(one.unsigned_abs());
+        let q = self.rights_of(other.unsigned_abs());
+        if p.0 == 0 {
+            return None;
+        }
+        if q.0 == 0 {
+            return None;
+        }
+        multiplexer(p, q)
     }
 
     /// The conjunction of two literals, which gets a variable where there is none.

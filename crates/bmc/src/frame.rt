@@ -43,7 +43,7 @@ pub fn fill_inputs(circuit: &Model, cone: &Cone, first: u32, table: &mut [i32])
     ensures whole { length table.new ≡ length table.old }
     ensures literals { (n : ℕ) → first + length cone.now.inputs.items ≤ n → All (IsLiteral n) table.old → All (IsLiteral n) table.new }
 {
-    circuit.parts();
+    circuit.well_formed();
     let inputs = circuit.inputs();
     for (index, position) in cone.inputs.iter().enumerate() {
         table[inputs[*position as usize].variable() as usize] = positive(first + 1 + index as u32);
@@ -61,7 +61,7 @@ pub fn fill_latches(circuit: &Model, cone: &Cone, state: &[i32], table: &mut [i3
     ensures whole { length table.new ≡ length table.old }
     ensures literals { (n : ℕ) → All (IsLiteral n) state.now → All (IsLiteral n) table.old → All (IsLiteral n) table.new }
 {
-    circuit.parts();
+    circuit.well_formed();
     let latches = circuit.latches();
     for (index, position) in cone.latches.iter().enumerate() {
         table[latches[*position as usize].lit.variable() as usize] = state[index];
@@ -88,7 +88,7 @@ fn encode_gate(
     ensures table { (s : Leaves) (cs : List (List ℤ)) (t : ℕ) → IsTable circuit.now cone.now s (told encoder.old cs) t encoder.old.variables (length cone.now.inputs.items) (length cone.now.latches.items) place table.old →
         OnOk result (IsTable circuit.now cone.now s (told encoder.new cs) t encoder.new.variables (length cone.now.inputs.items) (length cone.now.latches.items) (place + 1) table.new) }
 {
-    circuit.parts();
+    circuit.well_formed();
     let gate = cone.gates[place];
     let one = literal(table, gate.rhs0);
     let other = literal(table, gate.rhs1);

@@ -6,11 +6,12 @@
 //!
 //! The bad literal of each time is what is assumed. Only the cone of the bad literal and the constraints is
 //! encoded, and of that the solver gets the clauses of those gates alone on which a constraint or the bad
-//! literal depends at its own time, once each. A table has the literal of clauses for each of
-//! its variables: a latch has that of its next literal at the time before, or the constant that it
-//! is reset to; a gate has a constant, another literal or one that it shares with all gates of equal
-//! right sides, at any time (structural hashing). What satisfies the clauses is completed to a run, by proof. Any
-//! solver that keeps to `Sat` will do.
+//! literal depends at its own time, once each. A gate that is a multiplexer is said as one selection, and
+//! its two inner gates get clauses only where something else depends on them. A table has the literal of
+//! clauses for each of its variables: a latch has that of its next literal at the time before, or the
+//! constant that it is reset to; a gate has a constant, another literal or one that it shares with all
+//! gates of equal right sides, at any time (structural hashing). What satisfies the clauses is completed to
+//! a run, by proof. Any solver that keeps to `Sat` will do.
 #![tactic(auto)]
 
 mod clauses;

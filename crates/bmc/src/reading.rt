@@ -45,7 +45,7 @@ fn line(
     requires fits { first + length cone.now.inputs.items < length values.now }
     ensures { IfOk result (IsLine circuit.now cone.now values.now first) }
 {
-    circuit.parts();
+    circuit.well_formed();
     let mut line = filled(alloc, false, circuit.inputs().len())?;
     for (index, position) in cone.inputs.iter().enumerate() {
         line[*position as usize] = values[first as usize + 1 + index];

@@ -56,7 +56,7 @@ fn run_of(
     requires model { IsBadModel circuit.now cone.now unrolling.now steps values.now }
     ensures { (after : Steps) → IfOk result (EndsAt circuit.now steps after) }
 {
-    circuit.parts();
+    circuit.well_formed();
     circuit.order();
     let initial = state_of(alloc, values, unrolling.initial.as_slice())?;
     let inputs = lines(alloc, circuit, cone, values, unrolling.firsts.as_slice())?;
@@ -95,7 +95,7 @@ fn reach<S: Sat>(
     if !budget.tick() {
         return Ok(Some(Finding::Unknown(Reason::Budget)));
     }
-    circuit.parts();
+    circuit.well_formed();
     unrolling.encode(solver, alloc, circuit, cone, nexts)?;
     let bad = literal(unrolling.table.as_slice(), circuit.bad()[0]);
     match solver.solve(alloc, &[bad], budget)? {
@@ -124,7 +124,7 @@ fn search_up_to<S: Sat, P: Progress>(
     ensures depth { IfOk result (IsWithinDepth depth) }
     ensures limit { IfErr result (λ e. e ≡ Limit full → S.is_full solver.new) }
 {
-    circuit.parts();
+    circuit.well_formed();
     let nexts = NextTable::new(alloc, circuit)?;
     let cone = cone_of(alloc, circuit, &nexts)?;
     let mut unrolling = begin(solver, alloc, circuit, &cone, depth + 1)?;

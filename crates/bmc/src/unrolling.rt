@@ -74,7 +74,7 @@ fn open_latches(circuit: &Model, cone: &Cone, initial: &mut [i32])
     requires constants { initial.old ≡ map constant_of circuit.now.latches }
     ensures { AreInitial circuit.now cone.now initial.new }
 {
-    circuit.parts();
+    circuit.well_formed();
     let latches = circuit.latches();
     for (index, position) in cone.latches.iter().enumerate() {
         if latches[*position as usize].reset.0 > 1 {
@@ -88,7 +88,7 @@ fn initial_of(alloc: Global, circuit: &Model, cone: &Cone) -> Result<Vec<i32>, R
     requires cone { IsConeOf circuit.now cone.now }
     ensures { IfOk result (λ initial. AreInitial circuit.now cone.now initial.items) }
 {
-    circuit.parts();
+    circuit.well_formed();
     let mut initial = resets(alloc, circuit.latches())?;
     open_latches(circuit, cone, &mut initial);
     Ok(initial)
@@ -115,7 +115,7 @@ fn next_state(circuit: &Model, cone: &Cone, nexts: &NextTable, table: &[i32], st
     requires lengths { length state.old ≡ length cone.now.latches.items }
     ensures { state.new ≡ map (λ i. literal_of table.now (next_of circuit.now.latches (latch_at circuit.now.latches i).lit)) cone.now.latches.items }
 {
-    circuit.parts();
+    circuit.well_formed();
     let latches = circuit.latches();
     for (index, position) in cone.latches.iter().enumerate() {
         state[index] = literal(table, nexts.next_of(latches[*position as usize].lit));
@@ -151,7 +151,7 @@ pub fn begin<S: Sat>(
     ensures small { OnOk result (S.vars solver.new ≤ 2147483647) }
     ensures limit { IfErr result (λ e. e ≡ Limit full → S.is_full solver.new) }
 {
-    circuit.parts();
+    circuit.well_formed();
     let used = cone.latches.len() as u32 + 1;
     let each = cone.inputs.len() as u32 + cone.gates.len() as u32;
     let places = used + times * each;
@@ -210,7 +210,7 @@ fn encode_frame<S: Sat>(
         (length cone.now.inputs.items) (length cone.now.latches.items) (length cone.now.gates.items) table.new) }
     ensures limit { IfErr result (λ e. e ≡ Limit full → S.is_full solver.new) }
 {
-    circuit.parts();
+    circuit.well_formed();
     let first = encoder.variables;
     encoder.variables += cone.inputs.len() as u32;
     table[0] = -1;

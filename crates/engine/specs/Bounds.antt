@@ -7,11 +7,11 @@ use Rattle.graph.specs.Properties.{IsWatched}
 use Rattle.graph.specs.Valuation.{Valuation, value_of}
 use Rattle.graph.specs.Runs.{IsRun, KeepsConstraints}
 
--- no run of at most so many times that keeps the constraints sets the literal that the property watches
+-- no run of at most this number of times that keeps the constraints sets the literal that the property watches
 abbrev pub IsUnsetFor : Parts → Property → ℕ → Type 0
 IsUnsetFor m p times = (r : List Valuation) (a : Lit) → IsRun m r → KeepsConstraints m r → length r ≤ times → IsWatched m p a →
     All (λ w. value_of w a ≡ false) r
 
--- no run of at most so many steps does
+-- no run of at most this number of steps does
 abbrev pub IsClear : Parts → Property → ℕ → Type 0
 IsClear m p steps = IsUnsetFor m p (steps + 1)

@@ -31,7 +31,7 @@ pub record IsInvariant (m : Parts) (inv : List (List Lit)) : Type 0 where
   pub clauses : All (IsProper m) inv
   pub inductive : IsInductive m inv (bad_literal m 0)
 
--- nothing is known: because the budget is exhausted, or beyond so many steps
+-- nothing is known: because the budget is exhausted, or beyond this number of steps
 abbrev pub IsHonest : Parts → Steps → Reason → Type 0
 IsHonest m after Budget = after.left ≡ 0
 IsHonest m after (Depth steps) = IsClear m (Bad 0) steps

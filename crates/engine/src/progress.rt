@@ -8,7 +8,7 @@ pub trait Progress: Drop {
     /// A search through frames opened one, the first of them frame 0: its number, and how many clauses the frames have.
     fn opened(&mut self, frame: u32, clauses: usize, budget: &Budget);
 
-    /// A bounded search begins with the runs of so many steps: how many variables the clauses of the runs before have.
+    /// A bounded search begins with the runs of this number of steps: how many variables the clauses of the runs before have.
     fn begun(&mut self, steps: u32, variables: u32, budget: &Budget);
 
     /// A search through frames asks about the bad literal in the last one, or takes up states that are to be blocked.

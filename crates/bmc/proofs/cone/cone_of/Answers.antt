@@ -10,14 +10,14 @@ pub marked_inputs-requires-clause-range : goal.marked_inputs-requires-clause-ran
 marked_inputs-requires-clause-range c = λ k d k_in.
     let m = c.args.circuit.now in
     let P = λ (a : Lit). a.0 ≤ 2 * m.max_var + 1 in
-    let all : All P c.inputs.result.now = rw c.inputs.ensures (All-left P m.inputs (map (λ l. l.lit) m.latches) (All-left P (m.inputs ++ map (λ l. l.lit) m.latches) (map (λ g. g.lhs) m.gates) c.parts.ensures.well_formed.defining_in_range)) in
+    let all : All P c.inputs.result.now = rw c.inputs.ensures (All-left P m.inputs (map (λ l. l.lit) m.latches) (All-left P (m.inputs ++ map (λ l. l.lit) m.latches) (map (λ g. g.lhs) m.gates) c.well_formed-2.ensures.defining_in_range)) in
     let p = all k d k_in in
     omega (arith, p, ap length c.as_slice.ensures.value, c.in_ok-marks.ensures.places)
 
 pub marked_latches-requires-clause-range : goal.marked_latches-requires-clause-range
 marked_latches-requires-clause-range c = λ k d k_in.
     let m = c.args.circuit.now in
-    let all : All (λ (l : Latch). l.lit.0 ≤ 2 * m.max_var + 1) c.latches.result.now = rw c.latches.ensures (latches_in_range m c.parts.ensures.well_formed) in
+    let all : All (λ (l : Latch). l.lit.0 ≤ 2 * m.max_var + 1) c.latches.result.now = rw c.latches.ensures (latches_in_range m c.well_formed-2.ensures) in
     let p = all k d k_in in
     omega (arith, p, ap length c.as_slice-2.ensures.value, c.in_ok-marks.ensures.places)
 
@@ -28,4 +28,4 @@ returns c =
     let inputs : ArePositions (is_marked_input marks m.inputs) (length m.inputs) c.in_ok-inputs.inputs.items = rw (c.as_slice.ensures.value, c.inputs.ensures) at c.in_ok-inputs.ensures in
     let latches : ArePositions (is_marked_latch marks m.latches) (length m.latches) c.in_ok-latches.latches.items = rw (c.as_slice-2.ensures.value, c.latches.ensures) at c.in_ok-latches.ensures in
     let gates : AreOrdered m marks c.in_ok-gates.gates.items = rw c.as_slice-3.ensures.value at c.in_ok-gates.ensures in
-    cone_made m marks (record { inputs = c.in_ok-inputs.inputs; latches = c.in_ok-latches.latches; gates = c.in_ok-gates.gates }) c.parts.ensures.well_formed c.in_ok-marks.ensures inputs latches gates
+    cone_made m marks (record { inputs = c.in_ok-inputs.inputs; latches = c.in_ok-latches.latches; gates = c.in_ok-gates.gates }) c.well_formed-2.ensures c.in_ok-marks.ensures inputs latches gates

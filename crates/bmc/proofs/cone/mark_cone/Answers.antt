@@ -7,14 +7,14 @@ use Rattle.bmc.proofs.cone.mark_cone.Goals as goal
 pub mark_all-requires : goal.mark_all-requires
 mark_all-requires c = λ k d k_in.
     let m = c.args.circuit.now in
-    let range : All (IsInRange m.max_var) c.bad.result.now = rw c.bad.ensures (bad_in_range m c.parts.ensures.well_formed) in
+    let range : All (IsInRange m.max_var) c.bad.result.now = rw c.bad.ensures (bad_in_range m c.well_formed-2.ensures) in
     let p = range k d k_in in
     omega (arith, p, c.requires.places)
 
 pub mark_all-requires-2 : goal.mark_all-requires-2
 mark_all-requires-2 c = λ k d k_in.
     let m = c.args.circuit.now in
-    let range : All (IsInRange m.max_var) c.constraints.result.now = rw c.constraints.ensures (constraints_in_range m c.parts.ensures.well_formed) in
+    let range : All (IsInRange m.max_var) c.constraints.result.now = rw c.constraints.ensures (constraints_in_range m c.well_formed-2.ensures) in
     let p = range k d k_in in
     omega (arith, p, c.in_ok-mark_all.ensures.places, c.requires.places)
 

@@ -15,7 +15,7 @@ bounds-marks-variable c =
     let order = c.order-position-items.result.now in
     let n = c.loop-position.position-index in
     let is : c.variable.result ≡ variable (gate_in m.gates order n no_gate).lhs = c.variable.ensures ∙ ap (λ gs. variable (gate_in gs order n no_gate).lhs) c.gates-gates.ensures in
-    let range = lefts_in_range m c.parts.ensures.well_formed (get_or order n 0) no_gate (c.order-position-items.ensures.in_range n 0 c.loop-position-test.true) in
+    let range = lefts_in_range m c.well_formed-2.ensures (get_or order n 0) no_gate (c.order-position-items.ensures.in_range n 0 c.loop-position-test.true) in
     omega (arith, is, range, c.requires.places)
 
 pub loop-position-preserved : goal.loop-position-preserved
@@ -30,7 +30,7 @@ loop-position-preserved c =
       | then-marks-variable+in_ok-push w ↦
           let on : IsMarked marks (variable (gate_in m.gates order n no_gate).lhs) = subst (IsMarked marks) is w.if-marks-variable.true in
           let are : c.if-marks-variable.ordered.items ≡ old ++ gate_in m.gates order n no_gate ∷ [] = ap (λ q. q.items) w.ordered-is ∙ w.in_ok-push.ensures.items ∙ ap (λ gs. old ++ gate_in gs order n no_gate ∷ []) c.gates-gates.ensures in
-          subst (λ q. AreOrderedTo m marks order q (n + 1)) (sym are) (ordered_more m marks order old n c.parts.ensures.well_formed c.order-position-items.ensures c.loop-position-test.true c.loop-position.invariant on)
+          subst (λ q. AreOrderedTo m marks order q (n + 1)) (sym are) (ordered_more m marks order old n c.well_formed-2.ensures c.order-position-items.ensures c.loop-position-test.true c.loop-position.invariant on)
       | else-marks-variable w ↦
           let are : c.if-marks-variable.ordered.items ≡ old = ap (λ q. q.items) w.ordered-is in
           let off : IsMarked marks (variable (gate_in m.gates order n no_gate).lhs) → ⊥ = λ on. false≢true (sym w.if-marks-variable.false ∙ subst (IsMarked marks) (sym is) on) in

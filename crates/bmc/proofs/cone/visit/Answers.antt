@@ -21,17 +21,17 @@ mark-requires c =
     let is : c.next_of.result ≡ next_of m.latches a = c.next_of.ensures ∙ c.requires.nexts.nexts a in
     let v_is : v ≡ get_or c.args.list.now.items c.args.place 0 = get_or_read c.args.list.now.items c.args.place v c.requires.inside c.index-variable.ensures 0 in
     let v_in = c.requires.in_range c.args.place 0 c.requires.inside in
-    let range : (next_of m.latches a).0 ≤ 2 * m.max_var + 1 = next_range (2 * m.max_var + 1) m.latches a (nexts_in_range m c.parts.ensures.well_formed) (omega (arith, v_is, v_in, c.requires.places)) (omega arith) in
+    let range : (next_of m.latches a).0 ≤ 2 * m.max_var + 1 = next_range (2 * m.max_var + 1) m.latches a (nexts_in_range m c.well_formed-2.ensures) (omega (arith, v_is, v_in, c.requires.places)) (omega arith) in
     rw is (omega (arith, range, c.requires.places))
 
 pub mark-requires-in-Some : goal.mark-requires-in-Some
 mark-requires-in-Some c =
-    (sides_in_range c.args.circuit.now c.args.gates.now c.index-variable.result.now c.in-Some.gate (length c.mark.new.marks) c.parts.ensures.well_formed c.requires.gates (sym c.gate_of.ensures ∙ c.in-Some.is)
+    (sides_in_range c.args.circuit.now c.args.gates.now c.index-variable.result.now c.in-Some.gate (length c.mark.new.marks) c.well_formed-2.ensures c.requires.gates (sym c.gate_of.ensures ∙ c.in-Some.is)
     (c.in_ok-mark.ensures.places ∙ c.requires.places)).0
 
 pub mark-requires-in-Some-2 : goal.mark-requires-in-Some-2
 mark-requires-in-Some-2 c =
-    (sides_in_range c.args.circuit.now c.args.gates.now c.index-variable.result.now c.in-Some.gate (length c.mark-in-Some.new.marks) c.parts.ensures.well_formed c.requires.gates (sym c.gate_of.ensures ∙ c.in-Some.is)
+    (sides_in_range c.args.circuit.now c.args.gates.now c.index-variable.result.now c.in-Some.gate (length c.mark-in-Some.new.marks) c.well_formed-2.ensures c.requires.gates (sym c.gate_of.ensures ∙ c.in-Some.is)
     (c.in_ok-mark-2.ensures.places ∙ c.in_ok-mark.ensures.places ∙ c.requires.places)).1
 
 pub returns-in_ok-mark-3-clause-grows : goal.returns-in_ok-mark-3-clause-grows

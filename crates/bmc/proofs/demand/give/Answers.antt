@@ -1,11 +1,8 @@
-use Rattle.std.proofs.Common.{rules, ◌≡◌, ◌+◌, ◌-◌, ◌<◌, ◌≤◌, ◌∷◌, [], ℕ, ℤ, List, length, map, All, unsigned_abs, sym, ◌∙◌, ap, subst, arith}
-use Rattle.std.proofs.lemmas.List.Elements.{All-weaker, All-map}
-use Rattle.graph.specs.declared.circuit.Lit.{Lit}
-use Rattle.graph.specs.Valuation.{variable}
+use Rattle.std.proofs.Common.{rules, ◌-◌, ◌≤◌, ℕ, length, unsigned_abs, ◌∙◌, arith}
+use Rattle.std.proofs.lemmas.List.Elements.{All-weaker}
 use Rattle.graph.proofs.Evaluation.{All-unmap}
 use Rattle.lrat.specs.Literals.{IsLiteral}
 use Rattle.cones.specs.Marks.{IsMarked}
-use Rattle.cones.proofs.Growing.{less_left}
 use Rattle.bmc.specs.Unrollings.{literal_of}
 use Rattle.bmc.proofs.Demanded.{giving_begins, giving_more, giving_ends, wanted_small}
 use Rattle.bmc.proofs.Negated.{literal_up}

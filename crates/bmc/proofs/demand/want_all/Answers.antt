@@ -1,4 +1,4 @@
-use Rattle.std.proofs.Common.{rules, ◌≡◌, ◌<◌, ℤ, List, map, take, length, unsigned_abs, ◌∙◌, ap, subst, sym, arith, SFits, w32}
+use Rattle.std.proofs.Common.{rules, List, map, unsigned_abs, subst, arith, SFits, w32}
 use Rattle.graph.specs.declared.circuit.Lit.{Lit}
 use Rattle.cones.specs.Reach.{Grows, IsFrom}
 use Rattle.bmc.specs.Unrollings.{literal_of}

@@ -21,11 +21,11 @@ loop-index-preserved c =
     record {
       whole = length-set c.loop-index.table c.variable.result _ ∙ c.loop-index.invariant.whole;
       table = λ s cs t n room fresh is. rw (x_is, l_is)
-          (table_input m cone s cs t n c.args.first i (pos (c.args.first + (i + 1))) c.loop-index.table (c.loop-index.invariant.table s cs t n room fresh is) (input_range m cone i c.parts.ensures.well_formed c.requires.cone i_in)
+          (table_input m cone s cs t n c.args.first i (pos (c.args.first + (i + 1))) c.loop-index.table (c.loop-index.invariant.table s cs t n room fresh is) (input_range m cone i c.well_formed-2.ensures c.requires.cone i_in)
           i_in room (λ k. pos (c.args.first + (i + 1))) fresh);
       literals = λ n room all. rw (x_is, l_is)
           (literals_set n n c.loop-index.table (input_of m cone i) (pos (c.args.first + (i + 1))) (c.loop-index.invariant.literals n room all) (omega arith)
-          (let x_in = input_range m cone i c.parts.ensures.well_formed c.requires.cone i_in in let whole = c.loop-index.invariant.whole in omega (arith, x_in, whole, c.requires.whole))
+          (let x_in = input_range m cone i c.well_formed-2.ensures c.requires.cone i_in in let whole = c.loop-index.invariant.whole in omega (arith, x_in, whole, c.requires.whole))
           (positive_literal n (c.args.first + (i + 1)) (omega arith) (omega (arith, i_in, room))));
     }
 

@@ -1,4 +1,4 @@
-use Rattle.std.proofs.Common.{◌≡◌, ℕ, ◌+◌, ◌≤◌, List, length, All, ℤ}
+use Rattle.std.proofs.Common.{◌≡◌, ℕ, ◌+◌, ◌≤◌, length, All}
 use Rattle.lrat.specs.Literals.{IsLiteral}
 use Rattle.bmc.specs.Encodings.{Told}
 use Rattle.bmc.specs.Unrollings.{Leaves, IsTable, AreFresh}

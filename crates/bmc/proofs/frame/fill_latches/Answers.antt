@@ -15,7 +15,7 @@ bounds-table-variable c =
     let i_in : i < length cone.latches.items = omega (arith, ap length c.deref-position-items.ensures.value) in
     let x_is : c.variable.result ≡ variable (latch_of m cone i) = c.variable.ensures ∙ ap (λ ls. variable (get_or ls (get_or c.deref-position-items.result.now i 0) no_latch).lit) c.latches-latches.ensures
     ∙ ap (λ ps. variable (get_or m.latches (get_or ps i 0) no_latch).lit) c.deref-position-items.ensures.value in
-    let range = latch_range m cone i c.parts.ensures.well_formed c.requires.cone i_in in
+    let range = latch_range m cone i c.well_formed-2.ensures c.requires.cone i_in in
     let whole = c.loop-index.invariant.whole in
     omega (arith, x_is, range, whole, c.requires.whole)
 
@@ -33,11 +33,11 @@ loop-index-preserved c =
     record {
       whole = length-set c.loop-index.table c.variable.result _ ∙ c.loop-index.invariant.whole;
       table = λ s cs t n states is. rw (x_is, l_is)
-          (table_latch m cone s cs t n (length cone.inputs.items) i c.args.state.now c.loop-index.table (c.loop-index.invariant.table s cs t n states is) (latch_range m cone i c.parts.ensures.well_formed c.requires.cone i_in) i_in
+          (table_latch m cone s cs t n (length cone.inputs.items) i c.args.state.now c.loop-index.table (c.loop-index.invariant.table s cs t n states is) (latch_range m cone i c.well_formed-2.ensures c.requires.cone i_in) i_in
           c.requires.lengths states);
       literals = λ n state_all all. rw (x_is, l_is)
           (literals_set n n c.loop-index.table (variable (latch_of m cone i)) (literal_at c.args.state.now i) (c.loop-index.invariant.literals n state_all all) (omega arith)
-          (let x_in = latch_range m cone i c.parts.ensures.well_formed c.requires.cone i_in in let whole = c.loop-index.invariant.whole in omega (arith, x_in, whole, c.requires.whole))
+          (let x_in = latch_range m cone i c.well_formed-2.ensures c.requires.cone i_in in let whole = c.loop-index.invariant.whole in omega (arith, x_in, whole, c.requires.whole))
           (state_all i (negsuc 0) (omega (arith, i_in, c.requires.lengths))));
     }
 

@@ -17,7 +17,7 @@ use Rattle.bmc.proofs.search.reach.Goals as goal
 pub literal-bad-requires-clause-in_range : goal.literal-bad-requires-clause-in_range
 literal-bad-requires-clause-in_range g c =
     let m = c.args.circuit.now in
-    let p = bad_range m c.parts.ensures.well_formed c.requires.for_bad in
+    let p = bad_range m c.well_formed-2.ensures c.requires.for_bad in
     rw (c.bad.ensures, c.as_slice.ensures.value) (omega (arith, p, c.in_ok-encode.ensures.at.whole))
 
 pub solve-requires : goal.solve-requires
@@ -29,7 +29,7 @@ solve-requires g c =
     let l : ℤ = literal_of u.table.items (bad_literal m 0) in
     let f : SFits w32 c.literal-bad.result = search rules in
     let l_is : c.literal-bad.result ≡ l = rw (c.as_slice.ensures.value, c.bad.ensures) at c.literal-bad.ensures in
-    let p = bad_range m c.parts.ensures.well_formed c.requires.for_bad in
+    let p = bad_range m c.well_formed-2.ensures c.requires.for_bad in
     let inside : variable (bad_literal m 0) < length u.table.items = omega (arith, p, c.in_ok-encode.ensures.at.whole) in
     let l_in : IsLiteral n l = literal_in_range n u.table.items (bad_literal m 0) c.in_ok-encode.ensures.at.literals inside in
     let room : n ≤ vars = omega (arith, c.in_ok-encode.ensures.few, c.requires.room, c.in_ok-encode.ensures.vars) in
@@ -47,7 +47,7 @@ run_of-requires-clause-model g c =
     let l : ℤ = literal_of u.table.items (bad_literal m 0) in
     let f : SFits w32 c.literal-bad.result = search rules in
     let l_is : c.literal-bad.result ≡ l = rw (c.as_slice.ensures.value, c.bad.ensures) at c.literal-bad.ensures in
-    let p = bad_range m c.parts.ensures.well_formed c.requires.for_bad in
+    let p = bad_range m c.well_formed-2.ensures c.requires.for_bad in
     let inside : variable (bad_literal m 0) < m.max_var + 1 = omega (arith, p) in
     let table = rw c.requires.times at c.in_ok-encode.ensures.stands in
     let stands : StandsForBad m cone (leaves_of u) (told u.encoder cs) steps l =
@@ -77,7 +77,7 @@ returns-in-Core-clause-lawful g c =
     let l : ℤ = literal_of u.table.items (bad_literal m 0) in
     let f : SFits w32 c.literal-bad.result = search rules in
     let l_is : c.literal-bad.result ≡ l = rw (c.as_slice.ensures.value, c.bad.ensures) at c.literal-bad.ensures in
-    let p = bad_range m c.parts.ensures.well_formed c.requires.for_bad in
+    let p = bad_range m c.well_formed-2.ensures c.requires.for_bad in
     let inside : variable (bad_literal m 0) < m.max_var + 1 = omega (arith, p) in
     let table = rw c.requires.times at c.in_ok-encode.ensures.stands in
     let stands : StandsForBad m cone (leaves_of u) (told u.encoder cs) steps l =

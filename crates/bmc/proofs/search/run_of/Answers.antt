@@ -17,8 +17,8 @@ returns c = λ after.
     let model = c.requires.model in
     let initial_is : c.in_ok-initial.initial ≡ map (is_true (values b)) u.initial.items = c.in_ok-initial.ensures ∙ ap (λ q. map (is_true (values b)) q) c.as_slice.ensures.value in
     let are : AreLines m cone b u.firsts.items c.in_ok-inputs.inputs = rw c.as_slice-2.ensures.value at c.in_ok-inputs.ensures in
-    let exist : ExistenceLaw m = existence_law m c.order.result.now (record { well_formed = c.parts.ensures.well_formed; ordered = c.order.ensures }) in (
-      rw initial_is (model_shows m cone (leaves_of u) u.state.items u.encoder u.given.items model.clauses c.args.steps model.vars model.literal b c.in_ok-inputs.inputs c.parts.ensures.well_formed c.requires.for_bad exist c.requires.cone
+    let exist : ExistenceLaw m = existence_law m c.order.result.now (record { well_formed = c.well_formed-2.ensures; ordered = c.order.ensures }) in (
+      rw initial_is (model_shows m cone (leaves_of u) u.state.items u.encoder u.given.items model.clauses c.args.steps model.vars model.literal b c.in_ok-inputs.inputs c.well_formed-2.ensures c.requires.for_bad exist c.requires.cone
           model.unrolled model.times model.stands model.given model.marked model.model are),
       are.whole ∙ model.times,
     )

@@ -1,4 +1,4 @@
-use Rattle.std.proofs.Common.{rules, ◌≡◌, ◌+◌, ◌-◌, ◌*◌, ◌<◌, ◌≤◌, ℕ, length, sym, ◌∙◌, ap, subst, arith}
+use Rattle.std.proofs.Common.{rules, ◌≡◌, ◌+◌, ◌-◌, ◌*◌, ◌≤◌, ℕ, length, sym, ◌∙◌, ap, subst, arith}
 use Rattle.bmc.specs.Depths.{IsOfSteps}
 use Rattle.bmc.proofs.Depths.{ends_shortest, ends_so, room_less, room_one, unset_more, unset_none}
 use Rattle.bmc.proofs.search.search_up_to.Goals as goal

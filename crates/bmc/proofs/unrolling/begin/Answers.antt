@@ -1,4 +1,4 @@
-use Rattle.std.proofs.Common.{rules, ◌≡◌, ◌<◌, ◌≤◌, ℕ, suc, ℤ, ◌+◌, ◌++◌, ◌∷◌, [], length, map, get_or, replicate, pos, negsuc, sym, ◌∙◌, ap, subst, arith}
+use Rattle.std.proofs.Common.{rules, ◌≡◌, ◌≤◌, ℕ, suc, ◌+◌, ◌++◌, ◌∷◌, [], length, map, get_or, replicate, pos, negsuc, sym, ◌∙◌, ap, subst, arith}
 use Rattle.std.proofs.lemmas.List.{get_or-replicate, length-replicate}
 use Rattle.lrat.specs.Literals.{IsLiteral}
 use Rattle.bmc.specs.Unrollings.{literal_at}
@@ -21,7 +21,7 @@ returns-clause-at g c =
     let rights_is : e.rights.items ≡ [] = c.new-encoder.ensures.rights in
     let free : (x : ℕ) → IsGate e.rights.items x → ⊥ = λ x gate. gate (ap (λ q. (rights_at q x).0) rights_is) in
     let room : length e.rights.items ≤ suc e.variables = omega (arith, ap length rights_is) in
-    let begins = unrolled_begins m cone initial e cs c.parts.ensures.well_formed c.requires.cone c.in_ok-initial.ensures count c.new-encoder.ensures.none room free cs_is in
+    let begins = unrolled_begins m cone initial e cs c.well_formed-2.ensures c.requires.cone c.in_ok-initial.ensures count c.new-encoder.ensures.none room free cs_is in
     let n = c.max_var.result + 1 in
     let table_is : c.in_ok-table.table.items ≡ replicate n (negsuc 0) = c.in_ok-table.ensures in
     let whole : length c.in_ok-table.table.items ≡ n = ap length table_is ∙ length-replicate n (negsuc 0) in

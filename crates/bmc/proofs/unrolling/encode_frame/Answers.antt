@@ -1,4 +1,4 @@
-use Rattle.std.proofs.Common.{rules, ◌≡◌, ◌+◌, ◌<◌, ℕ, List, ℤ, Bool, All, map, unsigned_abs, length, set, negsuc, get_or-set_same, ◌∙◌, refl, arith, length-set}
+use Rattle.std.proofs.Common.{rules, ◌≡◌, ◌+◌, ◌<◌, ℕ, List, ℤ, Bool, All, map, unsigned_abs, length, set, negsuc, get_or-set_same, ◌∙◌, arith, length-set}
 use Rattle.std.proofs.lemmas.List.Elements.{All-weaker}
 use Rattle.graph.specs.declared.circuit.Lit.{Lit}
 use Rattle.graph.specs.Valuation.{variable}
@@ -8,13 +8,13 @@ use Rattle.cones.specs.Marks.{IsMarked}
 use Rattle.cnf.specs.Formulas.{IsInRange}
 use Rattle.cnf.proofs.CaseLaws.{bad_in_range, constraints_in_range}
 use Rattle.bmc.specs.declared.encoder.Encoder.{Encoder}
-use Rattle.bmc.specs.Encodings.{IsEncoding, Told, told}
+use Rattle.bmc.specs.Encodings.{Told, told}
 use Rattle.bmc.specs.Unrollings.{AreStates, later, literal_of}
 use Rattle.bmc.proofs.Encoded.{extended_more, extended_then, false_literal}
 use Rattle.bmc.proofs.Negated.{literal_up}
 use Rattle.bmc.proofs.Tabled.{literals_set}
 use Rattle.bmc.proofs.Demanded.{over_literals, units_over, given_later, given_more}
-use Rattle.bmc.proofs.Unrolled.{encoding_later, fresh_later, next_small, states_later, table_begins, unrolled_more}
+use Rattle.bmc.proofs.Unrolled.{fresh_later, next_small, states_later, table_begins, unrolled_more}
 use Rattle.bmc.proofs.unrolling.encode_frame.Goals as goal
 
 pub encode_gates-requires-clause-literals : goal.encode_gates-requires-clause-literals
@@ -42,7 +42,7 @@ give-requires-clause-given g c =
 pub give-requires-clause-constraints : goal.give-requires-clause-constraints
 give-requires-clause-constraints g c = λ k d k_in.
     let m = c.args.circuit.now in
-    let all : All (IsInRange m.max_var) c.constraints.result.now = rw c.constraints.ensures (constraints_in_range m c.parts.ensures.well_formed) in
+    let all : All (IsInRange m.max_var) c.constraints.result.now = rw c.constraints.ensures (constraints_in_range m c.well_formed-2.ensures) in
     let p = all k d k_in in
     let w1 = c.in_ok-encode_gates.ensures.whole in
     let w2 = c.fill_latches.ensures.whole in
@@ -53,7 +53,7 @@ give-requires-clause-constraints g c = λ k d k_in.
 pub give-requires-clause-bad : goal.give-requires-clause-bad
 give-requires-clause-bad g c = λ k d k_in.
     let m = c.args.circuit.now in
-    let all : All (IsInRange m.max_var) c.bad.result.now = rw c.bad.ensures (bad_in_range m c.parts.ensures.well_formed) in
+    let all : All (IsInRange m.max_var) c.bad.result.now = rw c.bad.ensures (bad_in_range m c.well_formed-2.ensures) in
     let p = all k d k_in in
     let w1 = c.in_ok-encode_gates.ensures.whole in
     let w2 = c.fill_latches.ensures.whole in
@@ -64,7 +64,7 @@ give-requires-clause-bad g c = λ k d k_in.
 pub add_units-requires-clause-range : goal.add_units-requires-clause-range
 add_units-requires-clause-range g c = λ k d k_in.
     let m = c.args.circuit.now in
-    let all : All (IsInRange m.max_var) c.constraints-2.result.now = rw c.constraints-2.ensures (constraints_in_range m c.parts.ensures.well_formed) in
+    let all : All (IsInRange m.max_var) c.constraints-2.result.now = rw c.constraints-2.ensures (constraints_in_range m c.well_formed-2.ensures) in
     let p = all k d k_in in
     let w1 = c.in_ok-encode_gates.ensures.whole in
     let w2 = c.fill_latches.ensures.whole in
@@ -81,7 +81,7 @@ returns-clause-given g c =
     let es_is = rw c.constraints-2.ensures at c.in_ok-add_units.ensures.clauses in
     let on : All (λ (a : Lit). IsMarked marks (unsigned_abs (literal_of table a))) m.constraints = rw c.constraints.ensures at c.in_ok-give.ensures.constraints in
     let range : All (λ (a : Lit). variable a < length table) m.constraints = λ k d k_in.
-    let p = constraints_in_range m c.parts.ensures.well_formed k d k_in in
+    let p = constraints_in_range m c.well_formed-2.ensures k d k_in in
     let w1 = c.in_ok-encode_gates.ensures.whole in
     let w2 = c.fill_latches.ensures.whole in
     let w3 = c.fill_inputs.ensures.whole in
@@ -114,6 +114,6 @@ returns-clause-next g c = λ s h.
     let grown = c.in_ok-encode_gates.ensures.grown in
     let es_is = rw c.constraints-2.ensures at c.in_ok-add_units.ensures.clauses in
     rw c.next_state.ensures
-    (unrolled_more m cone s c.args.state.now c.encode_gates.new.table e f cs ds (g.S.Sat.clauses c.add_units.new.solver) c.parts.ensures.well_formed c.requires.cone h
+    (unrolled_more m cone s c.args.state.now c.encode_gates.new.table e f cs ds (g.S.Sat.clauses c.add_units.new.solver) c.well_formed-2.ensures c.requires.cone h
     (record { grown = rw long at grown.extended; encoding = grown.encoding; range = over_literals f.variables c.give.new.marks ds c.in_ok-give.ensures.given.clauses; more = c.in_ok-give.ensures.more; stands = gates }) es_is
-    (λ i i_in. next_small m cone i c.parts.ensures.well_formed c.requires.cone i_in))
+    (λ i i_in. next_small m cone i c.well_formed-2.ensures c.requires.cone i_in))

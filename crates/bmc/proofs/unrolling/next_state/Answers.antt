@@ -16,7 +16,7 @@ literal-requires-clause-in_range c =
     let is : c.next_of.result ≡ next_of m.latches (latch_of m cone i) = c.next_of.ensures ∙ c.requires.nexts.nexts _
     ∙ ap (λ ls. next_of m.latches (get_or ls (get_or c.deref-position-items.result.now i 0) no_latch).lit) c.latches-latches.ensures
     ∙ ap (λ ps. next_of m.latches (get_or m.latches (get_or ps i 0) no_latch).lit) c.deref-position-items.ensures.value in
-    let small = next_small m cone i c.parts.ensures.well_formed c.requires.cone i_in in
+    let small = next_small m cone i c.well_formed-2.ensures c.requires.cone i_in in
     rw is (omega (arith, small, c.requires.whole))
 
 pub loop-index-preserved : goal.loop-index-preserved

@@ -1,11 +1,10 @@
-use Rattle.std.proofs.Common.{rules, ◌≡◌, ◌+◌, ◌≤◌, ◌<◌, ◌≢◌, ◌++◌, ◌∷◌, [], ℕ, suc, List, ℤ, Some, pos, set, length, length-append, sym, ◌∙◌, ap, subst, arith, SFits, w32}
+use Rattle.std.proofs.Common.{rules, ◌≡◌, ◌+◌, ◌≢◌, ◌++◌, ◌∷◌, [], ℕ, suc, List, ℤ, Some, pos, length, length-append, sym, ◌∙◌, ap, subst, arith, SFits, w32}
 use Rattle.lrat.specs.Literals.{IsLiteral}
 use Rattle.lrat.proofs.Fit.{read32}
 use Rattle.bmc.specs.declared.encoder.Encoder.{Encoder}
-use Rattle.bmc.specs.Encodings.{rights_at, IsGrown, IsConjunctionIn}
-use Rattle.bmc.proofs.Encoded.{conjunction_made, conjunction_in, new_literal, pushed_here, pushed_apart}
+use Rattle.bmc.specs.Encodings.{rights_at, IsConjunctionIn}
+use Rattle.bmc.proofs.Encoded.{conjunction_made, conjunction_in, pushed_here, pushed_apart}
 use Rattle.bmc.proofs.Added.{read_as}
-use Rattle.bmc.proofs.Negated.{literal_up}
 use Rattle.bmc.proofs.encoder.Encoder.conjunction.Goals as goal
 
 pub positive-requires : goal.positive-requires
