@@ -76,7 +76,7 @@ IsAtBad m entries k after (Set t) = (w : Valuation) × IsAt m (bad_literal m 0 �
 IsAtBad m entries k after Excluded = Excludes m (bad_literal m 0) entries k
 IsAtBad m entries k after Spent = after.left ≡ 0
 
--- no run of at most so many steps sets the bad literal, and they are a thousand million or more
+-- no run of at most this number of steps sets the bad literal, and they are a thousand million or more
 pub record IsDeep (m : Parts) (steps : ℕ) : Type 0 where
   pub clear : IsClear m (Bad 0) steps
   pub many : 1000000000 ≤ steps

@@ -40,7 +40,7 @@ impl<S: Sat> FrameSolver<S> {
         ensures sound { OnOk result (IsSound circuit.now self.new frames.now) }
         ensures lawful { IfOk result (IsAtBad circuit.now frames.now.entries frames.now.top budget.new) }
     {
-        circuit.parts();
+        circuit.well_formed();
         let top = frames.top();
         let guards = guards_from(alloc, top, top + 1)?;
         let bad = circuit.bad()[0];

@@ -21,7 +21,7 @@ use std::alloc::Global;
 fn positions_of(alloc: Global, circuit: &Model) -> Result<Vec<Option<u32>>, Refused>
     ensures { IfOk result (λ v. HasPositions (length circuit.now.latches) v.items) }
 {
-    circuit.parts();
+    circuit.well_formed();
     let mut positions = filled(alloc, None, circuit.max_var() as usize + 1)?;
     'placing: for (i, latch) in circuit.latches().iter().enumerate() {
         positions[latch.lit.variable() as usize] = Some(i as u32);

@@ -2,6 +2,7 @@
 
 ghost use Rattle.std.specs.Prelude.{◌≡◌, ◌+◌, ◌<◌, ◌≤◌, ◌∷◌, [], Bool, List, All, IfOk, OnOk};
 ghost use Rattle.base.specs.Budget.{Spends};
+ghost use Rattle.graph.specs.declared.parts.Parts.{Parts};
 ghost use Rattle.cnf.specs.Formulas.{bad_literal};
 ghost use Rattle.ic3_step.specs.States.{Holds};
 ghost use Rattle.ic3_step.specs.Contents.{HasGuards};
@@ -95,25 +96,13 @@ impl<S: Sat> FrameSolver<S> {
         self.transition.add(alloc, circuit, level, clause)
     }
 
-    /// Adds a clause under the guard of a level. It takes the room of a query, so that the circuit is
-    /// loaded again, without the clauses that are subsumed, after many of them.
-    pub(crate) fn add_counted(
-        &mut self,
-        alloc: Global,
-        circuit: &Model,
-        level: u32,
-        clause: &[StateLit],
-    ) -> Result<(), EngineError>
-        requires has { (entries : List Item) × HasFrames circuit.now entries self.old }
-        requires level { level < self.old.levels }
-        requires clause { IsStateClause circuit.now clause.now }
+    /// Counts a clause that was propagated: it takes the room of a query, so that the circuit is loaded again,
+    /// without the clauses that are subsumed, after many of them.
+    pub(crate) fn count_propagated(&mut self)
         ensures levels { self.new.levels ≡ self.old.levels }
-        ensures has { (entries : List Item) → HasFrames circuit.now entries self.old → ((s : List Bool) → InFrame entries level s → Holds s clause.now) →
-            OnOk result (HasFrames circuit.now entries self.new) }
+        ensures has { (m : Parts) (entries : List Item) → HasFrames m entries self.old → HasFrames m entries self.new }
     {
-        self.add_clause(alloc, circuit, level, clause)?;
         self.next = self.room.min(self.next.saturating_add(1));
-        Ok(())
     }
 
     /// Adds each clause under the guard of its level.
@@ -206,9 +195,9 @@ impl<S: Sat> FrameSolver<S> {
         )
     }
 
-    /// Asks whether the clause holds after each step from a state of the frame in which it holds,
-    /// with the free guard that comes next.
-    fn solve_relative(
+    /// Asks whether the clause holds after each step from a state of the frame in which it holds.
+    /// The query's clause has a guard of its own, the free one that comes next, which is let go afterwards.
+    pub(crate) fn relative(
         &mut self,
         alloc: Global,
         circuit: &Model,
@@ -239,26 +228,5 @@ impl<S: Sat> FrameSolver<S> {
         )?;
         self.transition.add(alloc, circuit, guard, &[])?;
         Ok(known)
-    }
-
-    /// Asks whether the clause holds after each step from a state of the frame in which it holds.
-    /// The query's clause has a guard of its own, which is let go afterwards.
-    pub(crate) fn relative(
-        &mut self,
-        alloc: Global,
-        circuit: &Model,
-        frames: &Frames,
-        level: u32,
-        clause: &[StateLit],
-        budget: &mut Budget,
-    ) -> Result<Consecution, EngineError>
-        requires sound { IsSound circuit.now self.old frames.now }
-        requires clause { IsStateClause circuit.now clause.now }
-        ensures spends { Spends budget.old budget.new }
-        ensures sound { OnOk result (IsSound circuit.now self.new frames.now) }
-        ensures lawful { IfOk result (IsRelative circuit.now frames.now.entries level clause.now budget.new) }
-    {
-        self.make_room(alloc, circuit, frames)?;
-        self.solve_relative(alloc, circuit, frames, level, clause, budget)
     }
 }

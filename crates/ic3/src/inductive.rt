@@ -40,6 +40,7 @@ impl<S: Sat> FrameSolver<S> {
         ensures sound { OnOk result (IsSound circuit.now self.new frames.now) }
         ensures lawful { IfOk result (IsInductiveAnswer circuit.now frames.now.entries level clause.now budget.new) }
     {
+        self.make_room(alloc, circuit, frames)?;
         match self.relative(alloc, circuit, frames, level, clause, budget)? {
             Consecution::Held(part) => {
                 let first = reset_literal(circuit.latches(), part.as_slice()).unwrap_or(first);
@@ -143,6 +144,7 @@ impl<S: Sat> FrameSolver<S> {
         ensures sound { OnOk result (IsSound circuit.now self.new frames.now) }
         ensures onward { IfOk result (λ b. b ≡ true → HoldsOnward circuit.now frames.now.entries level clause.now) }
     {
+        self.make_room(alloc, circuit, frames)?;
         match self.relative(alloc, circuit, frames, level, clause, budget)? {
             Consecution::Held(_) => Ok(true),
             _ => Ok(false),

@@ -90,7 +90,7 @@ fn lifted(
     ensures clause { IfOk result (IsStateClause circuit.now) }
     ensures justifies { IfOk result (λ c. Justifies circuit.now c time.now.inputs targets.now) }
 {
-    circuit.parts();
+    circuit.well_formed();
     circuit.order();
     let wanted = wanted_of(alloc, circuit, targets)?;
     let list = cones::extend(
@@ -112,7 +112,7 @@ impl Lifting {
     pub(crate) fn new(alloc: Global, circuit: &Model) -> Result<Lifting, Refused>
         ensures { IfOk result (IsReady circuit.now) }
     {
-        circuit.parts();
+        circuit.well_formed();
         let table = GateTable::new(alloc, circuit)?;
         let marks = filled(alloc, false, circuit.max_var() as usize + 1)?;
         Ok(Lifting { table, marks })

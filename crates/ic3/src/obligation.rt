@@ -44,7 +44,7 @@ pub(crate) fn obligation_at(
     ensures obligation { (top : ℕ) → level ≤ top → IfOk result (IsObligation circuit.now top) }
     ensures bad { IfOk result (λ o. AreBad circuit.now o.clause o.inputs) }
 {
-    circuit.parts();
+    circuit.well_formed();
     let clause = lifting.lift(alloc, circuit, &time, circuit.bad())?;
     let Assignment { state, inputs, .. } = time;
     Ok(Obligation {
@@ -71,7 +71,7 @@ pub(crate) fn obligation_before(
     ensures obligation { (top : ℕ) → IsObligation circuit.now top after.now → IfOk result (IsObligation circuit.now top) }
     ensures predecessors { IfOk result (λ o. ArePredecessors circuit.now o.clause o.inputs after.now.clause) }
 {
-    circuit.parts();
+    circuit.well_formed();
     let targets = denials(alloc, circuit.latches(), after.clause.as_slice())?;
     let clause = lifting.lift(alloc, circuit, &time, targets.as_slice())?;
     let level = after.level.saturating_sub(1);

@@ -45,7 +45,8 @@ impl<S: Sat> FrameSolver<S> {
         }
         match self.after(alloc, circuit, frames, level, clause, budget)? {
             Consecution::Held(_) => {
-                self.add_counted(alloc, circuit, level + 1, clause)?;
+                self.add_clause(alloc, circuit, level + 1, clause)?;
+                self.count_propagated();
                 frames.propagate(place);
                 Ok(())
             }

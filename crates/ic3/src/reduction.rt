@@ -25,7 +25,7 @@ impl<S: Sat> FrameSolver<S> {
         ensures spends { Spends budget.old budget.new }
         ensures invariant { IfOk result (IsInvariant circuit.now) }
     {
-        circuit.parts();
+        circuit.well_formed();
         let bad = circuit.bad()[0];
         let transition = &mut self.transition;
         let subset = transition.safe_subset(alloc, circuit, clauses.as_slice(), bad, budget)?;

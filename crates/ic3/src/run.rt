@@ -77,7 +77,7 @@ pub(crate) fn run_of(
     requires initial { All (λ a. IsResetLit circuit.now.latches a → ⊥) last.now.clause }
     ensures { (after : Steps) → IfOk result (IsFound circuit.now after) }
 {
-    circuit.parts();
+    circuit.well_formed();
     circuit.order();
     let initial = reset_state(alloc, circuit.latches(), last.state.as_slice())?;
     let inputs = lines_of(alloc, last, earlier)?;

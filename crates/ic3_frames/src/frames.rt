@@ -43,14 +43,14 @@ impl std::marker::Model for Frames {
 impl Frames {
     /// The first frame alone, which is open: a clause of one literal for each latch that is reset
     /// to 0 or 1, at level 0.
-    pub fn first(alloc: Global, model: &Model) -> Result<Frames, Refused>
+    pub fn first(alloc: Global, circuit: &Model) -> Result<Frames, Refused>
         ensures top { IfOk result (λ f. f.top ≡ 0) }
         ensures level { IfOk result (λ f. All (λ e. e.level ≡ 0) f.entries) }
-        ensures laws { (bad : Lit) → IfOk result (AreFrames model.now bad) }
-        ensures initial { IfOk result (λ f. (s : List Bool) → InFrame f.entries 0 s → IsInitialState model.now s) }
+        ensures laws { (bad : Lit) → IfOk result (AreFrames circuit.now bad) }
+        ensures initial { IfOk result (λ f. (s : List Bool) → InFrame f.entries 0 s → IsInitialState circuit.now s) }
     {
-        model.parts();
-        let entries = reset_entries(alloc, model.latches())?;
+        circuit.well_formed();
+        let entries = reset_entries(alloc, circuit.latches())?;
         Ok(Frames { entries, top: 0 })
     }
 
@@ -126,19 +126,19 @@ impl Frames {
     pub fn invariant_at(
         &self,
         alloc: Global,
-        model: &Model,
+        circuit: &Model,
         level: u32,
     ) -> Result<Option<Seq<Seq<Lit>>>, Refused>
         requires left { level < self.now.top }
-        ensures invariant { AreFrames model.now (bad_literal model.now 0) self.now → IfOk result (λ r. IfSome r (IsInvariant model.now)) }
+        ensures invariant { AreFrames circuit.now (bad_literal circuit.now 0) self.now → IfOk result (λ r. IfSome r (IsInvariant circuit.now)) }
         ensures none { IfOk result (λ r. r ≡ None → All (λ e. e.level ≢ level) self.now.entries → ⊥) }
     {
-        model.parts();
+        circuit.well_formed();
         let entries = self.entries.as_slice();
         if !is_left(entries, level) {
             return Ok(None);
         }
-        let clauses = clauses_above(alloc, model.latches(), entries, level)?;
+        let clauses = clauses_above(alloc, circuit.latches(), entries, level)?;
         Ok(Some(clauses))
     }
 }

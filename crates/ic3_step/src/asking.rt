@@ -20,23 +20,23 @@ use solver::{Answer, Sat};
 use std::alloc::Global;
 
 /// Adds the literal of each guard.
-fn push_guards(literals: &mut Vec<i32>, model: &Model, guards: &[u32]) -> Result<(), Refused>
-    requires { All (λ g. model.now.max_var + 2 + g < 2 ^ 31) guards.now }
-    ensures { OnOk result (literals.new.items ≡ literals.old.items ++ map (guard_literal_of model.now) guards.now) }
+fn push_guards(literals: &mut Vec<i32>, circuit: &Model, guards: &[u32]) -> Result<(), Refused>
+    requires { All (λ g. circuit.now.max_var + 2 + g < 2 ^ 31) guards.now }
+    ensures { OnOk result (literals.new.items ≡ literals.old.items ++ map (guard_literal_of circuit.now) guards.now) }
 {
     for guard in guards {
-        push(literals, guard_literal(model, *guard))?;
+        push(literals, guard_literal(circuit, *guard))?;
     }
     Ok(())
 }
 
 /// Adds the literal of clauses for each literal of the circuit.
-fn push_lits(literals: &mut Vec<i32>, model: &Model, lits: &[Lit]) -> Result<(), Refused>
-    requires { All (IsInRange model.now.max_var) lits.now }
-    ensures { OnOk result (literals.new.items ≡ literals.old.items ++ map (literal model.now.max_var 0) lits.now) }
+fn push_lits(literals: &mut Vec<i32>, circuit: &Model, lits: &[Lit]) -> Result<(), Refused>
+    requires { All (IsInRange circuit.now.max_var) lits.now }
+    ensures { OnOk result (literals.new.items ≡ literals.old.items ++ map (literal circuit.now.max_var 0) lits.now) }
 {
-    model.parts();
-    let time = cnf::TimeFrame::first(model);
+    circuit.well_formed();
+    let time = cnf::TimeFrame::first(circuit);
     for lit in lits {
         push(literals, time.literal(*lit))?;
     }
@@ -46,17 +46,17 @@ fn push_lits(literals: &mut Vec<i32>, model: &Model, lits: &[Lit]) -> Result<(),
 /// What is assumed.
 fn assumptions(
     alloc: Global,
-    model: &Model,
+    circuit: &Model,
     guards: &[u32],
     lits: &[Lit],
 ) -> Result<Vec<i32>, Refused>
-    requires guards { All (λ g. model.now.max_var + 2 + g < 2 ^ 31) guards.now }
-    requires lits { All (IsInRange model.now.max_var) lits.now }
-    ensures { IfOk result (λ v. v.items ≡ assumptions_of model.now guards.now lits.now) }
+    requires guards { All (λ g. circuit.now.max_var + 2 + g < 2 ^ 31) guards.now }
+    requires lits { All (IsInRange circuit.now.max_var) lits.now }
+    ensures { IfOk result (λ v. v.items ≡ assumptions_of circuit.now guards.now lits.now) }
 {
     let mut literals = Vec::new(alloc);
-    push_guards(&mut literals, model, guards)?;
-    push_lits(&mut literals, model, lits)?;
+    push_guards(&mut literals, circuit, guards)?;
+    push_lits(&mut literals, circuit, lits)?;
     Ok(literals)
 }
 
@@ -65,28 +65,28 @@ fn assumptions(
 pub(crate) fn ask<S: Sat>(
     solver: &mut S,
     alloc: Global,
-    model: &Model,
+    circuit: &Model,
     cone: &mut Cone,
     guards: &[u32],
     lits: &[Lit],
     budget: &mut Budget,
 ) -> Result<Reply, EngineError>
-    requires guards { HasGuards model.now guards.now (record { vars = S.vars solver.old; clauses = S.clauses solver.old; cone = Some cone.old }) }
-    requires lits { All (IsUsable model.now) lits.now }
+    requires guards { HasGuards circuit.now guards.now (record { vars = S.vars solver.old; clauses = S.clauses solver.old; cone = Some cone.old }) }
+    requires lits { All (IsUsable circuit.now) lits.now }
     ensures spends { Spends budget.old budget.new }
-    ensures loaded { (n : ℕ) (gs : List Guarded) → IsLoaded model.now n gs (record { vars = S.vars solver.old; clauses = S.clauses solver.old; cone = Some cone.old }) →
-        OnOk result (IsLoaded model.now n gs (record { vars = S.vars solver.new; clauses = S.clauses solver.new; cone = Some cone.new })) }
-    ensures lawful { (n : ℕ) (gs : List Guarded) → IsLoaded model.now n gs (record { vars = S.vars solver.old; clauses = S.clauses solver.old; cone = Some cone.old }) →
-        IfOk result (IsReply model.now gs guards.now lits.now budget.new) }
+    ensures loaded { (n : ℕ) (gs : List Guarded) → IsLoaded circuit.now n gs (record { vars = S.vars solver.old; clauses = S.clauses solver.old; cone = Some cone.old }) →
+        OnOk result (IsLoaded circuit.now n gs (record { vars = S.vars solver.new; clauses = S.clauses solver.new; cone = Some cone.new })) }
+    ensures lawful { (n : ℕ) (gs : List Guarded) → IsLoaded circuit.now n gs (record { vars = S.vars solver.old; clauses = S.clauses solver.old; cone = Some cone.old }) →
+        IfOk result (IsReply circuit.now gs guards.now lits.now budget.new) }
 {
-    model.parts();
-    model.order();
+    circuit.well_formed();
+    circuit.order();
     solver.vars();
-    grow(solver, alloc, model, cone, lits)?;
-    let assumed = assumptions(alloc, model, guards, lits)?;
+    grow(solver, alloc, circuit, cone, lits)?;
+    let assumed = assumptions(alloc, circuit, guards, lits)?;
     match solver.solve(alloc, assumed.as_slice(), budget)? {
-        Answer::Model(values) => Ok(Reply::Found(time_in(alloc, model, values)?)),
-        Answer::Core(core) => Ok(Reply::Core(core_lits(alloc, model, core.as_slice())?)),
+        Answer::Model(values) => Ok(Reply::Found(time_in(alloc, circuit, values)?)),
+        Answer::Core(core) => Ok(Reply::Core(core_lits(alloc, circuit, core.as_slice())?)),
         Answer::Spent => Ok(Reply::Spent),
     }
 }

@@ -27,14 +27,14 @@ pub(crate) struct Cone {
 
 impl Cone {
     /// Nothing of the circuit yet. It costs the circuit.
-    pub(crate) fn new(alloc: Global, model: &Model) -> Result<Cone, Refused>
-        ensures table { IfOk result (λ c. IsGateTable model.now c.table) }
-        ensures places { IfOk result (λ c. length c.marks.items ≡ model.now.max_var + 1) }
+    pub(crate) fn new(alloc: Global, circuit: &Model) -> Result<Cone, Refused>
+        ensures table { IfOk result (λ c. IsGateTable circuit.now c.table) }
+        ensures places { IfOk result (λ c. length c.marks.items ≡ circuit.now.max_var + 1) }
         ensures clear { IfOk result (λ c. (v : ℕ) → place c.marks.items v ≡ false) }
     {
-        model.parts();
-        let table = GateTable::new(alloc, model)?;
-        let marks = filled(alloc, false, model.max_var() as usize + 1)?;
+        circuit.well_formed();
+        let table = GateTable::new(alloc, circuit)?;
+        let marks = filled(alloc, false, circuit.max_var() as usize + 1)?;
         Ok(Cone { table, marks })
     }
 }
@@ -63,16 +63,16 @@ fn add_units<S: Sat>(
 pub(crate) fn add_constraints<S: Sat>(
     solver: &mut S,
     alloc: Global,
-    model: &Model,
+    circuit: &Model,
 ) -> Result<(), EngineError>
-    requires { model.now.max_var + 1 ≤ S.vars solver.old }
+    requires { circuit.now.max_var + 1 ≤ S.vars solver.old }
     ensures vars { S.vars solver.new ≡ S.vars solver.old }
-    ensures clauses { OnOk result (S.clauses solver.new ≡ S.clauses solver.old ++ truth_clause model.now.max_var 0 ∷ unit_clauses (map (literal model.now.max_var 0) model.now.constraints)) }
+    ensures clauses { OnOk result (S.clauses solver.new ≡ S.clauses solver.old ++ truth_clause circuit.now.max_var 0 ∷ unit_clauses (map (literal circuit.now.max_var 0) circuit.now.constraints)) }
 {
-    model.parts();
-    let time = TimeFrame::first(model);
+    circuit.well_formed();
+    let time = TimeFrame::first(circuit);
     solver.add(alloc, &[time.truth()])?;
-    add_units(solver, alloc, time, model.constraints())
+    add_units(solver, alloc, time, circuit.constraints())
 }
 
 /// Adds the clauses of a gate.
@@ -125,21 +125,21 @@ fn add_gates<S: Sat>(
 pub(crate) fn grow<S: Sat>(
     solver: &mut S,
     alloc: Global,
-    model: &Model,
+    circuit: &Model,
     cone: &mut Cone,
     lits: &[Lit],
 ) -> Result<(), EngineError>
-    requires vars { model.now.max_var + 1 ≤ S.vars solver.old }
-    requires lits { All (IsUsable model.now) lits.now }
-    requires grown { IsGrown model.now cone.old (S.clauses solver.old) }
+    requires vars { circuit.now.max_var + 1 ≤ S.vars solver.old }
+    requires lits { All (IsUsable circuit.now) lits.now }
+    requires grown { IsGrown circuit.now cone.old (S.clauses solver.old) }
     ensures vars { S.vars solver.new ≡ S.vars solver.old }
-    ensures grown { OnOk result (IsGrown model.now cone.new (S.clauses solver.new)) }
+    ensures grown { OnOk result (IsGrown circuit.now cone.new (S.clauses solver.new)) }
     ensures kept { OnOk result ((v : ℕ) → IsMarked cone.old.marks.items v → IsMarked cone.new.marks.items v) }
     ensures marked { OnOk result (All (λ a. IsMarked cone.new.marks.items (variable a)) lits.now) }
-    ensures added { OnOk result (IsMoreOf (frame_at model.now 0) (S.clauses solver.old) (S.clauses solver.new)) }
+    ensures added { OnOk result (IsMoreOf (frame_at circuit.now 0) (S.clauses solver.old) (S.clauses solver.new)) }
 {
-    model.parts();
-    let gates = grow_cone(alloc, model, &cone.table, lits, &mut cone.marks)?;
-    add_gates(solver, alloc, TimeFrame::first(model), &gates)?;
+    circuit.well_formed();
+    let gates = grow_cone(alloc, circuit, &cone.table, lits, &mut cone.marks)?;
+    add_gates(solver, alloc, TimeFrame::first(circuit), &gates)?;
     Ok(())
 }

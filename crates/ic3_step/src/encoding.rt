@@ -13,21 +13,21 @@ use solver::Sat;
 use std::alloc::Global;
 
 /// The literal of a guard.
-pub(crate) fn guard_literal(model: &Model, guard: u32) -> i32
-    requires { model.now.max_var + 2 + guard < 2 ^ 31 }
-    ensures { result ≡ guard_literal_of model.now guard }
+pub(crate) fn guard_literal(circuit: &Model, guard: u32) -> i32
+    requires { circuit.now.max_var + 2 + guard < 2 ^ 31 }
+    ensures { result ≡ guard_literal_of circuit.now guard }
 {
-    (model.max_var() + 2 + guard) as i32
+    (circuit.max_var() + 2 + guard) as i32
 }
 
 /// The literal that is true where the latch has the value.
-fn state_literal(model: &Model, lit: StateLit) -> i32
-    requires { lit.latch < length model.now.latches }
-    ensures { result ≡ state_literal_of model.now lit }
+fn state_literal(circuit: &Model, lit: StateLit) -> i32
+    requires { lit.latch < length circuit.now.latches }
+    ensures { result ≡ state_literal_of circuit.now lit }
 {
-    model.parts();
-    let latch = model.latches()[lit.latch as usize];
-    let time = cnf::TimeFrame::first(model);
+    circuit.well_formed();
+    let latch = circuit.latches()[lit.latch as usize];
+    let time = cnf::TimeFrame::first(circuit);
     if lit.value {
         time.literal(latch.lit)
     } else {
@@ -38,18 +38,18 @@ fn state_literal(model: &Model, lit: StateLit) -> i32
 /// The clause, or not its guard.
 fn guarded(
     alloc: Global,
-    model: &Model,
+    circuit: &Model,
     guard: u32,
     clause: &[StateLit],
 ) -> Result<Vec<i32>, Refused>
-    requires guard { model.now.max_var + 2 + guard < 2 ^ 31 }
-    requires latches { All (λ a. a.latch < length model.now.latches) clause.now }
-    ensures { IfOk result (λ v. v.items ≡ guarded_clause model.now (record { guard = guard; clause = clause.now })) }
+    requires guard { circuit.now.max_var + 2 + guard < 2 ^ 31 }
+    requires latches { All (λ a. a.latch < length circuit.now.latches) clause.now }
+    ensures { IfOk result (λ v. v.items ≡ guarded_clause circuit.now (record { guard = guard; clause = clause.now })) }
 {
     let mut literals = Vec::new(alloc);
-    push(&mut literals, -guard_literal(model, guard))?;
+    push(&mut literals, -guard_literal(circuit, guard))?;
     for lit in clause {
-        push(&mut literals, state_literal(model, *lit))?;
+        push(&mut literals, state_literal(circuit, *lit))?;
     }
     Ok(literals)
 }
@@ -59,18 +59,18 @@ fn guarded(
 pub(crate) fn load<S: Sat>(
     solver: &mut S,
     alloc: Global,
-    model: &Model,
+    circuit: &Model,
     guards: u32,
 ) -> Result<Cone, EngineError>
     requires { guards ≤ 2143289343 }
-    ensures { IfOk result (λ c. IsLoaded model.now guards [] (record { vars = S.vars solver.new; clauses = S.clauses solver.new; cone = Some c })) }
+    ensures { IfOk result (λ c. IsLoaded circuit.now guards [] (record { vars = S.vars solver.new; clauses = S.clauses solver.new; cone = Some c })) }
 {
-    model.parts();
-    let variables = model.max_var() + 1;
-    let mut cone = Cone::new(alloc, model)?;
+    circuit.well_formed();
+    let variables = circuit.max_var() + 1;
+    let mut cone = Cone::new(alloc, circuit)?;
     solver.reset(alloc, variables + guards)?;
-    add_constraints(solver, alloc, model)?;
-    grow(solver, alloc, model, &mut cone, model.constraints())?;
+    add_constraints(solver, alloc, circuit)?;
+    grow(solver, alloc, circuit, &mut cone, circuit.constraints())?;
     Ok(cone)
 }
 
@@ -78,19 +78,19 @@ pub(crate) fn load<S: Sat>(
 pub(crate) fn add<S: Sat>(
     solver: &mut S,
     alloc: Global,
-    model: &Model,
+    circuit: &Model,
     guard: u32,
     clause: &[StateLit],
 ) -> Result<(), EngineError>
-    requires guard { model.now.max_var + 2 + guard ≤ S.vars solver.old }
-    requires latches { All (λ a. a.latch < length model.now.latches) clause.now }
+    requires guard { circuit.now.max_var + 2 + guard ≤ S.vars solver.old }
+    requires latches { All (λ a. a.latch < length circuit.now.latches) clause.now }
     ensures vars { S.vars solver.new ≡ S.vars solver.old }
-    ensures added { OnOk result (S.clauses solver.new ≡ S.clauses solver.old ++ guarded_clause model.now (record { guard = guard; clause = clause.now }) ∷ []) }
+    ensures added { OnOk result (S.clauses solver.new ≡ S.clauses solver.old ++ guarded_clause circuit.now (record { guard = guard; clause = clause.now }) ∷ []) }
     ensures err { OnErr result (S.clauses solver.new ≡ S.clauses solver.old) }
 {
-    model.parts();
+    circuit.well_formed();
     solver.vars();
-    let literals = guarded(alloc, model, guard, clause)?;
+    let literals = guarded(alloc, circuit, guard, clause)?;
     solver.add(alloc, literals.as_slice())?;
     Ok(())
 }

@@ -18,26 +18,26 @@ fn value(values: &[bool], lit: Lit) -> bool
 }
 
 /// The values of the latches.
-fn state_in(alloc: Global, model: &Model, values: &[bool]) -> Result<Seq<bool>, Refused>
-    requires { model.now.max_var < length values.now }
-    ensures { IfOk result (λ s. s ≡ (time_at model.now values.now).state) }
+fn state_in(alloc: Global, circuit: &Model, values: &[bool]) -> Result<Seq<bool>, Refused>
+    requires { circuit.now.max_var < length values.now }
+    ensures { IfOk result (λ s. s ≡ (time_at circuit.now values.now).state) }
 {
-    model.parts();
+    circuit.well_formed();
     let mut state = Seq::new(alloc);
-    for latch in model.latches() {
+    for latch in circuit.latches() {
         state.push(value(values, latch.lit))?;
     }
     Ok(state)
 }
 
 /// The values of the inputs.
-fn inputs_in(alloc: Global, model: &Model, values: &[bool]) -> Result<Seq<bool>, Refused>
-    requires { model.now.max_var < length values.now }
-    ensures { IfOk result (λ s. s ≡ (time_at model.now values.now).inputs) }
+fn inputs_in(alloc: Global, circuit: &Model, values: &[bool]) -> Result<Seq<bool>, Refused>
+    requires { circuit.now.max_var < length values.now }
+    ensures { IfOk result (λ s. s ≡ (time_at circuit.now values.now).inputs) }
 {
-    model.parts();
+    circuit.well_formed();
     let mut inputs = Seq::new(alloc);
-    for lit in model.inputs() {
+    for lit in circuit.inputs() {
         inputs.push(value(values, *lit))?;
     }
     Ok(inputs)
@@ -46,15 +46,15 @@ fn inputs_in(alloc: Global, model: &Model, values: &[bool]) -> Result<Seq<bool>,
 /// The time that the values are.
 pub(crate) fn time_in(
     alloc: Global,
-    model: &Model,
+    circuit: &Model,
     values: Vec<bool>,
 ) -> Result<Assignment, Refused>
-    requires { model.now.max_var < length values.items }
-    ensures { IfOk result (λ t. t ≡ time_at model.now values.items) }
+    requires { circuit.now.max_var < length values.items }
+    ensures { IfOk result (λ t. t ≡ time_at circuit.now values.items) }
 {
     let values = Seq::from_vec(values);
-    let state = state_in(alloc, model, values.as_slice())?;
-    let inputs = inputs_in(alloc, model, values.as_slice())?;
+    let state = state_in(alloc, circuit, values.as_slice())?;
+    let inputs = inputs_in(alloc, circuit, values.as_slice())?;
     Ok(Assignment {
         state,
         inputs,
@@ -96,13 +96,13 @@ fn lit_for(max_var: u32, literal: i32) -> Option<Lit>
 }
 
 /// The circuit's literals of a core. Those of guards are left out.
-pub(crate) fn core_lits(alloc: Global, model: &Model, core: &[i32]) -> Result<Seq<Lit>, Refused>
-    ensures { IfOk result (λ lits. lits ≡ core_lits_of model.now.max_var core.now) }
+pub(crate) fn core_lits(alloc: Global, circuit: &Model, core: &[i32]) -> Result<Seq<Lit>, Refused>
+    ensures { IfOk result (λ lits. lits ≡ core_lits_of circuit.now.max_var core.now) }
 {
-    model.parts();
+    circuit.well_formed();
     let mut lits = Seq::new(alloc);
     for literal in core {
-        if let Some(lit) = lit_for(model.max_var(), *literal) {
+        if let Some(lit) = lit_for(circuit.max_var(), *literal) {
             lits.push(lit)?;
         }
     }

@@ -94,23 +94,23 @@ fn needed(
 pub fn holds_after<S: Sat>(
     alloc: Global,
     transition: &mut Transition<S>,
-    model: &Model,
+    circuit: &Model,
     guards: &[u32],
     clause: &[StateLit],
     budget: &mut Budget,
 ) -> Result<Consecution, EngineError>
-    requires loaded { HasGuards model.now guards.now transition.old }
-    requires latches { All (λ a. a.latch < length model.now.latches) clause.now }
+    requires loaded { HasGuards circuit.now guards.now transition.old }
+    requires latches { All (λ a. a.latch < length circuit.now.latches) clause.now }
     ensures spends { Spends budget.old budget.new }
-    ensures loaded { (n : ℕ) (gs : List Guarded) → IsLoaded model.now n gs transition.old → OnOk result (IsLoaded model.now n gs transition.new) }
-    ensures lawful { (n : ℕ) (gs : List Guarded) → IsLoaded model.now n gs transition.old → IfOk result (IsConsecution model.now gs guards.now clause.now budget.new) }
+    ensures loaded { (n : ℕ) (gs : List Guarded) → IsLoaded circuit.now n gs transition.old → OnOk result (IsLoaded circuit.now n gs transition.new) }
+    ensures lawful { (n : ℕ) (gs : List Guarded) → IsLoaded circuit.now n gs transition.old → IfOk result (IsConsecution circuit.now gs guards.now clause.now budget.new) }
 {
-    model.parts();
-    let lits = denials(alloc, model.latches(), clause)?;
-    match transition.ask(alloc, model, guards, lits.as_slice(), budget)? {
+    circuit.well_formed();
+    let lits = denials(alloc, circuit.latches(), clause)?;
+    match transition.ask(alloc, circuit, guards, lits.as_slice(), budget)? {
         Reply::Found(time) => Ok(Consecution::Broken(time)),
         Reply::Core(core) => {
-            let part = needed(alloc, model.latches(), clause, core.as_slice())?;
+            let part = needed(alloc, circuit.latches(), clause, core.as_slice())?;
             Ok(Consecution::Held(part))
         }
         Reply::Spent => Ok(Consecution::Spent),

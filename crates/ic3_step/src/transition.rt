@@ -47,11 +47,11 @@ impl<S: Sat> Transition<S> {
     /// Begins anew with the constraints of the circuit, what they are made of, and room for the
     /// guards below `guards`, which with any circuit's variables are no more than 2,147,483,647. It
     /// costs the circuit. After a refusal it is to be loaded again.
-    pub fn load(&mut self, alloc: Global, model: &Model, guards: u32) -> Result<(), EngineError>
+    pub fn load(&mut self, alloc: Global, circuit: &Model, guards: u32) -> Result<(), EngineError>
         requires { guards ≤ 2143289343 }
-        ensures { OnOk result (IsLoaded model.now guards [] self.new) }
+        ensures { OnOk result (IsLoaded circuit.now guards [] self.new) }
     {
-        let cone = encoding::load(&mut self.solver, alloc, model, guards)?;
+        let cone = encoding::load(&mut self.solver, alloc, circuit, guards)?;
         self.cone = Some(cone);
         Ok(())
     }
@@ -60,17 +60,17 @@ impl<S: Sat> Transition<S> {
     pub fn add(
         &mut self,
         alloc: Global,
-        model: &Model,
+        circuit: &Model,
         guard: u32,
         clause: &[StateLit],
     ) -> Result<(), EngineError>
-        requires loaded { HasGuards model.now (guard ∷ []) self.old }
-        requires latches { All (λ a. a.latch < length model.now.latches) clause.now }
-        ensures added { (n : ℕ) (gs : List Guarded) → IsLoaded model.now n gs self.old →
-            OnOk result (IsLoaded model.now n (gs ++ record { guard = guard; clause = clause.now } ∷ []) self.new) }
+        requires loaded { HasGuards circuit.now (guard ∷ []) self.old }
+        requires latches { All (λ a. a.latch < length circuit.now.latches) clause.now }
+        ensures added { (n : ℕ) (gs : List Guarded) → IsLoaded circuit.now n gs self.old →
+            OnOk result (IsLoaded circuit.now n (gs ++ record { guard = guard; clause = clause.now } ∷ []) self.new) }
         ensures err { OnErr result (self.new ≡ self.old) }
     {
-        encoding::add(&mut self.solver, alloc, model, guard, clause)
+        encoding::add(&mut self.solver, alloc, circuit, guard, clause)
     }
 
     /// Asks for a time that keeps the constraints and at which the literals are true, in a state
@@ -80,19 +80,19 @@ impl<S: Sat> Transition<S> {
     pub fn ask(
         &mut self,
         alloc: Global,
-        model: &Model,
+        circuit: &Model,
         guards: &[u32],
         lits: &[Lit],
         budget: &mut Budget,
     ) -> Result<Reply, EngineError>
-        requires loaded { HasGuards model.now guards.now self.old }
-        requires lits { All (IsUsable model.now) lits.now }
+        requires loaded { HasGuards circuit.now guards.now self.old }
+        requires lits { All (IsUsable circuit.now) lits.now }
         ensures spends { Spends budget.old budget.new }
-        ensures loaded { (n : ℕ) (gs : List Guarded) → IsLoaded model.now n gs self.old → OnOk result (IsLoaded model.now n gs self.new) }
-        ensures lawful { (n : ℕ) (gs : List Guarded) → IsLoaded model.now n gs self.old → IfOk result (IsReply model.now gs guards.now lits.now budget.new) }
+        ensures loaded { (n : ℕ) (gs : List Guarded) → IsLoaded circuit.now n gs self.old → OnOk result (IsLoaded circuit.now n gs self.new) }
+        ensures lawful { (n : ℕ) (gs : List Guarded) → IsLoaded circuit.now n gs self.old → IfOk result (IsReply circuit.now gs guards.now lits.now budget.new) }
     {
         match &mut self.cone {
-            Some(cone) => asking::ask(&mut self.solver, alloc, model, cone, guards, lits, budget),
+            Some(cone) => asking::ask(&mut self.solver, alloc, circuit, cone, guards, lits, budget),
             None => unreachable!(),
         }
     }
@@ -102,18 +102,18 @@ impl<S: Sat> Transition<S> {
     pub fn safe_subset(
         &mut self,
         alloc: Global,
-        model: &Model,
+        circuit: &Model,
         invariant: &[Seq<Lit>],
         bad: Lit,
         budget: &mut Budget,
     ) -> Result<Option<Seq<Seq<Lit>>>, EngineError>
-        requires over { All (IsOverLatches model.now) invariant.now }
-        requires bad { Contains (used model.now) bad }
+        requires over { All (IsOverLatches circuit.now) invariant.now }
+        requires bad { Contains (used circuit.now) bad }
         ensures spends { Spends budget.old budget.new }
         ensures among { IfOk result (λ r. IfSome r (λ cs. All (Contains invariant.now) cs)) }
-        ensures inductive { IfOk result (λ r. IfSome r (λ cs. IsInductive model.now invariant.now bad → IsInductive model.now cs bad)) }
+        ensures inductive { IfOk result (λ r. IfSome r (λ cs. IsInductive circuit.now invariant.now bad → IsInductive circuit.now cs bad)) }
     {
         let solver = &mut self.solver;
-        Ok(safe_inductive_subset(solver, alloc, model, invariant, bad, budget)?)
+        Ok(safe_inductive_subset(solver, alloc, circuit, invariant, bad, budget)?)
     }
 }

@@ -29,17 +29,17 @@ pub record IsLoaded (m : Parts) (inv : List (List Lit)) (vars : ℕ) (cs : List 
 abbrev pub IsMarked : List Bool → ℕ → Type 0
 IsMarked marks i = slice_index_or marks i false ≡ true
 
--- a mark for each of so many clauses, and the places of those that are marked
+-- a mark for each of this number of clauses, and the places of those that are marked
 pub record IsFor (count : ℕ) (n : Needed) : Type 0 where
   pub places : length n.marks.items ≡ count
   pub listed : (i : ℕ) → IsMarked n.marks.items i → Contains n.order.items i
   pub below : All (λ i. i < count) n.order.items
 
--- the guard of one of so many clauses, or one of the units
+-- the guard of one of this number of clauses, or one of the units
 abbrev pub IsAssumed : Parts → ℕ → List ℤ → ℤ → Type 0
 IsAssumed m count units l = ((i : ℕ) × (i < count) × (l ≡ guard_of m i)) ⊎ Contains units l
 
--- the guard of one of so many clauses, or a literal of the circuit at one time
+-- the guard of one of this number of clauses, or a literal of the circuit at one time
 abbrev pub IsOfCore : Parts → ℕ → ℤ → Type 0
 IsOfCore m count l = ((i : ℕ) × (i < count) × (l ≡ guard_of m i)) ⊎ (unsigned_abs l ≤ m.max_var + 1)
 

@@ -70,7 +70,7 @@ fn mark_core(circuit: &Model, needed: &mut Needed, core: &[i32]) -> Result<(), R
     ensures longer { OnOk result (IsLonger needed.old.order.items needed.new.order.items) }
     ensures marked { OnOk result (All (λ l. (i : ℕ) → l ≡ guard_of circuit.now i → IsMarked needed.new.marks.items i) core.now) }
 {
-    circuit.parts();
+    circuit.well_formed();
     let first = circuit.max_var() + 2;
     'marking: for literal in core {
         let variable = literal.unsigned_abs();
@@ -103,7 +103,7 @@ pub(crate) fn ask<S: Sat>(
     ensures excluded { (inv : List (List Literal)) → All (IsOverLatches circuit.now) inv → IsLoaded circuit.now inv (S.vars solver.old) (S.clauses solver.old) →
         IfOk result (λ yes. IsTrue yes → IsExcluded circuit.now inv needed.new.marks.items units.now) }
 {
-    circuit.parts();
+    circuit.well_formed();
     let assumed = assumptions(alloc, circuit, needed, units)?;
     match solver.solve(alloc, assumed.as_slice(), budget)? {
         Answer::Core(core) => {

@@ -26,7 +26,7 @@ fn push_lits(literals: &mut Vec<i32>, circuit: &Model, lits: &[Lit]) -> Result<(
     requires { All (IsInRange circuit.now.max_var) lits.now }
     ensures { OnOk result (literals.new.items ≡ literals.old.items ++ map (literal circuit.now.max_var 0) lits.now) }
 {
-    circuit.parts();
+    circuit.well_formed();
     let time = TimeFrame::first(circuit);
     for lit in lits {
         push(literals, time.literal(*lit))?;
@@ -46,7 +46,7 @@ fn guarded_clause(
     requires over { All (IsOverLatches circuit.now) invariant.now }
     ensures { IfOk result (λ v. v.items ≡ guarded_clause_of circuit.now invariant.now place) }
 {
-    circuit.parts();
+    circuit.well_formed();
     let mut literals = Vec::new(alloc);
     push(&mut literals, -guard(circuit, place))?;
     push_lits(&mut literals, circuit, invariant[place].as_slice())?;
@@ -78,7 +78,7 @@ fn add_guarded<S: Sat>(
     requires only { All (IsOfCase circuit.now invariant.now) (S.clauses solver.old) }
     ensures { OnOk result (IsLoaded circuit.now invariant.now (S.vars solver.new) (S.clauses solver.new)) }
 {
-    circuit.parts();
+    circuit.well_formed();
     'adding: for place in 0..invariant.len() {
         let clause = guarded_clause(alloc, circuit, invariant, place)?;
         solver.add(alloc, clause.as_slice())?;
@@ -97,7 +97,7 @@ pub(crate) fn load<S: Sat>(
     requires over { All (IsOverLatches circuit.now) invariant.now }
     ensures { OnOk result (IsLoaded circuit.now invariant.now (S.vars solver.new) (S.clauses solver.new)) }
 {
-    circuit.parts();
+    circuit.well_formed();
     let base = shared_base(alloc, circuit, &[])?;
     solver.reset(alloc, circuit.max_var() + 1 + invariant.len() as u32)?;
     add_clauses(solver, alloc, base.clauses.as_slice())?;

@@ -16,7 +16,7 @@ pub(crate) struct Needed {
 }
 
 impl Needed {
-    /// None of so many clauses.
+    /// None of this number of clauses.
     pub(crate) fn none(alloc: Global, count: usize) -> Result<Needed, Refused>
         requires { count ≤ 2147483647 }
         ensures { IfOk result (IsFor count) }

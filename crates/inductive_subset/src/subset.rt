@@ -88,7 +88,7 @@ pub fn safe_inductive_subset<S: Sat>(
     ensures among { IfOk result (λ r. IfSome r (λ cs. All (Contains invariant.now) cs)) }
     ensures inductive { IfOk result (λ r. IfSome r (λ cs. IsInductive circuit.now invariant.now bad → IsInductive circuit.now cs bad)) }
 {
-    circuit.parts();
+    circuit.well_formed();
     if invariant.len() > (GREATEST - circuit.max_var() - 1) as usize {
         return Ok(None);
     }

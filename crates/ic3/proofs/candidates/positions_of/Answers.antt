@@ -7,7 +7,7 @@ use Rattle.ic3.proofs.candidates.positions_of.Goals as goal
 
 pub index_mut-requires : goal.index_mut-requires
 index_mut-requires c =
-    let ranges : All (λ l. l.lit.0 ≤ 2 * c.args.circuit.now.max_var + 1) c.latches-latch-items.result.now = rw c.latches-latch-items.ensures (latches_in_range c.args.circuit.now c.parts.ensures.well_formed) in
+    let ranges : All (λ l. l.lit.0 ≤ 2 * c.args.circuit.now.max_var + 1) c.latches-latch-items.result.now = rw c.latches-latch-items.ensures (latches_in_range c.args.circuit.now c.well_formed-2.ensures) in
     let range = ranges c.placing.i no_latch c.placing-test.true in
     omega (arith, range, c.variable.ensures, c.placing.invariant.0)
 

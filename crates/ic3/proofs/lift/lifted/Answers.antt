@@ -14,14 +14,14 @@ use Rattle.ic3.proofs.lift.lifted.Goals as goal
 pub extend-requires-clause-wanted : goal.extend-requires-clause-wanted
 extend-requires-clause-wanted c =
     let m = c.args.circuit.now in
-    let well = c.parts.ensures.well_formed in
+    let well = c.well_formed-2.ensures in
     let are : c.deref.result.now ≡ c.args.targets.now ++ m.constraints = c.deref.ensures.value ∙ c.in_ok-wanted.ensures in
     known_small m c.deref.result.now well (subst (All (λ (a : Lit). IsKnown m (variable a))) (sym are) (wanted_known m c.args.targets.now well c.requires.known))
 
 pub extend-requires-clause-domain : goal.extend-requires-clause-domain
 extend-requires-clause-domain c =
     let m = c.args.circuit.now in
-    let well = c.parts.ensures.well_formed in
+    let well = c.well_formed-2.ensures in
     let at = c.requires.at.1 in
     let cone : List Bool = at.values.cone in
     let are : c.deref.result.now ≡ c.args.targets.now ++ m.constraints = c.deref.ensures.value ∙ c.in_ok-wanted.ensures in (
@@ -41,7 +41,7 @@ returns-clause-justifies c =
     let t = c.args.time.now in
     let u = c.extend.new.marks in
     let are : c.deref.result.now ≡ c.args.targets.now ++ m.constraints = c.deref.ensures.value ∙ c.in_ok-wanted.ensures in
-    let model : IsModel m c.order.result.now = record { well_formed = c.parts.ensures.well_formed; ordered = c.order.ensures } in
+    let model : IsModel m c.order.result.now = record { well_formed = c.well_formed-2.ensures; ordered = c.order.ensures } in
     let ext : IsExtended m Justification t.values c.deref.result.now c.args.marks.now u c.in_ok-list.list.items =
     subst (λ (b : List Bool). IsExtended m Justification b c.deref.result.now c.args.marks.now u c.in_ok-list.list.items) c.as_slice.ensures c.in_ok-list.ensures in
     let has : HasMarked m.latches t.state u c.in_ok-clause.clause =

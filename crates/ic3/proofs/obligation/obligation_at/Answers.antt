@@ -21,4 +21,4 @@ lift-requires-clause-at c =
 pub lift-requires-clause-known : goal.lift-requires-clause-known
 lift-requires-clause-known c =
     let m = c.args.circuit.now in
-    subst (All (λ (a : Lit). IsKnown m (variable a))) (sym c.bad.ensures) (holds_of_used (λ (a : Lit). IsKnown m (variable a)) m c.parts.ensures.well_formed.used_defined).bad
+    subst (All (λ (a : Lit). IsKnown m (variable a))) (sym c.bad.ensures) (holds_of_used (λ (a : Lit). IsKnown m (variable a)) m c.well_formed-2.ensures.used_defined).bad

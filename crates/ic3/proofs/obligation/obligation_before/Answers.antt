@@ -8,7 +8,7 @@ use Rattle.ic3.proofs.Lifted.{denials_set, predecessors_by}
 use Rattle.ic3.proofs.obligation.obligation_before.Goals as goal
 
 pub denials-requires-clause-small : goal.denials-requires-clause-small
-denials-requires-clause-small c = nexts_small c.args.circuit.now c.latches.result.now c.parts.ensures.well_formed c.latches.ensures
+denials-requires-clause-small c = nexts_small c.args.circuit.now c.latches.result.now c.well_formed-2.ensures c.latches.ensures
 
 pub lift-requires-clause-at : goal.lift-requires-clause-at
 lift-requires-clause-at c =
@@ -25,7 +25,7 @@ lift-requires-clause-known c =
     let clause = c.args.after.now.clause in
     let are : c.as_slice-2.result.now ≡ map (denial m.latches) clause =
     c.as_slice-2.ensures ∙ c.in_ok-targets.ensures ∙ ap (λ (ls : List Latch). map (denial ls) c.as_slice.result.now) c.latches.ensures ∙ ap (map (denial m.latches)) c.as_slice.ensures in
-    denials_known m clause c.as_slice-2.result.now c.parts.ensures.well_formed c.requires.clause.inside are
+    denials_known m clause c.as_slice-2.result.now c.well_formed-2.ensures c.requires.clause.inside are
 
 pub returns-clause-predecessors : goal.returns-clause-predecessors
 returns-clause-predecessors c =

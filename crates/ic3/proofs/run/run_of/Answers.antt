@@ -13,7 +13,7 @@ returns c = λ after.
     let m = c.args.circuit.now in
     let last = c.args.last.now in
     let s = c.in_ok-initial.initial in
-    let model : IsModel m c.order.result.now = record { well_formed = c.parts.ensures.well_formed; ordered = c.order.ensures } in
+    let model : IsModel m c.order.result.now = record { well_formed = c.well_formed-2.ensures; ordered = c.order.ensures } in
     let o = first_of m c.requires.obligations.0 last (reverse c.args.earlier.now) c.requires.obligations.1 in
     let inside : All (λ (a : StateLit). a.latch < length c.latches.result.now) last.clause = subst (λ (ls : List Latch). All (λ (a : StateLit). a.latch < length ls) last.clause) (sym c.latches.ensures) o.clause.inside in
     let free : All (λ (a : StateLit). IsResetLit c.latches.result.now a → ⊥) last.clause =

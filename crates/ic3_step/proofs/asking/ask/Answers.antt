@@ -20,43 +20,43 @@ pub grow-requires-clause-grown : goal.grow-requires-clause-grown
 grow-requires-clause-grown g c =
     let told : Contents = record { vars = g.S.Sat.vars c.args.solver.now; clauses = g.S.Sat.clauses c.args.solver.now; cone = Some c.args.cone.now } in
     let has = c.requires.guards in
-    grown_of c.args.model.now has.room has.added told c.args.cone.now has.loaded refl
+    grown_of c.args.circuit.now has.room has.added told c.args.cone.now has.loaded refl
 
 pub assumptions-requires-clause-lits : goal.assumptions-requires-clause-lits
-assumptions-requires-clause-lits g c = known_in_range c.args.model.now c.args.lits.now c.parts.ensures.well_formed c.requires.lits
+assumptions-requires-clause-lits g c = known_in_range c.args.circuit.now c.args.lits.now c.well_formed-2.ensures c.requires.lits
 
 pub solve-requires : goal.solve-requires
 solve-requires g c =
-    let m = c.args.model.now in
+    let m = c.args.circuit.now in
     let old : Contents = record { vars = g.S.Sat.vars c.args.solver.now; clauses = g.S.Sat.clauses c.args.solver.now; cone = Some c.args.cone.now } in
     subst (λ n. All (IsLiteral n) c.as_slice.result.now) (sym c.grow.ensures.vars)
     (subst (All (IsLiteral old.vars)) (sym (c.as_slice.ensures.value ∙ c.in_ok-assumed.ensures))
-    (assumptions_literals m c.args.guards.now c.args.lits.now old c.parts.ensures.well_formed c.requires.guards c.requires.lits))
+    (assumptions_literals m c.args.guards.now c.args.lits.now old c.well_formed-2.ensures c.requires.guards c.requires.lits))
 
 pub returns-in-Model-clause-loaded : goal.returns-in-Model-clause-loaded
 returns-in-Model-clause-loaded g c = λ n gs loaded.
     let old : Contents = record { vars = g.S.Sat.vars c.args.solver.now; clauses = g.S.Sat.clauses c.args.solver.now; cone = Some c.args.cone.now } in
-    loaded_grown c.args.model.now n gs old c.args.cone.now c.grow.new.cone (g.S.Sat.vars c.solve.new.self) (g.S.Sat.clauses c.solve.new.self) loaded refl (c.solve.ensures.vars ∙ c.grow.ensures.vars)
-    (subst (IsGrown c.args.model.now c.grow.new.cone) (sym c.solve.ensures.clauses) c.in_ok-grow.ensures.grown) c.in_ok-grow.ensures.kept
-    (subst (IsMoreOf (frame_at c.args.model.now 0) old.clauses) (sym c.solve.ensures.clauses) c.in_ok-grow.ensures.added)
+    loaded_grown c.args.circuit.now n gs old c.args.cone.now c.grow.new.cone (g.S.Sat.vars c.solve.new.self) (g.S.Sat.clauses c.solve.new.self) loaded refl (c.solve.ensures.vars ∙ c.grow.ensures.vars)
+    (subst (IsGrown c.args.circuit.now c.grow.new.cone) (sym c.solve.ensures.clauses) c.in_ok-grow.ensures.grown) c.in_ok-grow.ensures.kept
+    (subst (IsMoreOf (frame_at c.args.circuit.now 0) old.clauses) (sym c.solve.ensures.clauses) c.in_ok-grow.ensures.added)
 
 pub returns-in-Core-clause-loaded : goal.returns-in-Core-clause-loaded
 returns-in-Core-clause-loaded g c = λ n gs loaded.
     let old : Contents = record { vars = g.S.Sat.vars c.args.solver.now; clauses = g.S.Sat.clauses c.args.solver.now; cone = Some c.args.cone.now } in
-    loaded_grown c.args.model.now n gs old c.args.cone.now c.grow.new.cone (g.S.Sat.vars c.solve.new.self) (g.S.Sat.clauses c.solve.new.self) loaded refl (c.solve.ensures.vars ∙ c.grow.ensures.vars)
-    (subst (IsGrown c.args.model.now c.grow.new.cone) (sym c.solve.ensures.clauses) c.in_ok-grow.ensures.grown) c.in_ok-grow.ensures.kept
-    (subst (IsMoreOf (frame_at c.args.model.now 0) old.clauses) (sym c.solve.ensures.clauses) c.in_ok-grow.ensures.added)
+    loaded_grown c.args.circuit.now n gs old c.args.cone.now c.grow.new.cone (g.S.Sat.vars c.solve.new.self) (g.S.Sat.clauses c.solve.new.self) loaded refl (c.solve.ensures.vars ∙ c.grow.ensures.vars)
+    (subst (IsGrown c.args.circuit.now c.grow.new.cone) (sym c.solve.ensures.clauses) c.in_ok-grow.ensures.grown) c.in_ok-grow.ensures.kept
+    (subst (IsMoreOf (frame_at c.args.circuit.now 0) old.clauses) (sym c.solve.ensures.clauses) c.in_ok-grow.ensures.added)
 
 pub returns-clause-loaded : goal.returns-clause-loaded
 returns-clause-loaded g c = λ n gs loaded.
     let old : Contents = record { vars = g.S.Sat.vars c.args.solver.now; clauses = g.S.Sat.clauses c.args.solver.now; cone = Some c.args.cone.now } in
-    loaded_grown c.args.model.now n gs old c.args.cone.now c.grow.new.cone (g.S.Sat.vars c.solve.new.self) (g.S.Sat.clauses c.solve.new.self) loaded refl (c.solve.ensures.vars ∙ c.grow.ensures.vars)
-    (subst (IsGrown c.args.model.now c.grow.new.cone) (sym c.solve.ensures.clauses) c.in_ok-grow.ensures.grown) c.in_ok-grow.ensures.kept
-    (subst (IsMoreOf (frame_at c.args.model.now 0) old.clauses) (sym c.solve.ensures.clauses) c.in_ok-grow.ensures.added)
+    loaded_grown c.args.circuit.now n gs old c.args.cone.now c.grow.new.cone (g.S.Sat.vars c.solve.new.self) (g.S.Sat.clauses c.solve.new.self) loaded refl (c.solve.ensures.vars ∙ c.grow.ensures.vars)
+    (subst (IsGrown c.args.circuit.now c.grow.new.cone) (sym c.solve.ensures.clauses) c.in_ok-grow.ensures.grown) c.in_ok-grow.ensures.kept
+    (subst (IsMoreOf (frame_at c.args.circuit.now 0) old.clauses) (sym c.solve.ensures.clauses) c.in_ok-grow.ensures.added)
 
 pub returns-in-Model-clause-lawful : goal.returns-in-Model-clause-lawful
 returns-in-Model-clause-lawful g c = λ n gs loaded.
-    let m = c.args.model.now in
+    let m = c.args.circuit.now in
     let guards = c.args.guards.now in
     let lits = c.args.lits.now in
     let vars = g.S.Sat.vars c.grow.new.solver in
@@ -65,7 +65,7 @@ returns-in-Model-clause-lawful g c = λ n gs loaded.
     let told : Contents = record { vars = vars; clauses = clauses; cone = Some c.grow.new.cone } in
     let now = loaded_grown m n gs old c.args.cone.now c.grow.new.cone vars clauses loaded refl c.grow.ensures.vars c.in_ok-grow.ensures.grown c.in_ok-grow.ensures.kept c.in_ok-grow.ensures.added in
     let b = c.in-Model.values.items in
-    let circuit : IsCircuit m c.order.result.now = record { well_formed = c.parts.ensures.well_formed; ordered = c.order.ensures } in
+    let circuit : IsCircuit m c.order.result.now = record { well_formed = c.well_formed-2.ensures; ordered = c.order.ensures } in
     let model : IsModel told.vars told.clauses c.as_slice.result.now b = rw c.in-Model.is at c.in_ok-values.ensures.lawful in
     let asked : c.as_slice.result.now ≡ assumptions_of m guards lits = c.as_slice.ensures.value ∙ c.in_ok-assumed.ensures in
     let time : c.in_ok-time_in-in-Model.field-0 ≡ time_at m b = c.in_ok-time_in-in-Model.ensures in
@@ -75,7 +75,7 @@ returns-in-Model-clause-lawful g c = λ n gs loaded.
 
 pub returns-in-Core-clause-lawful : goal.returns-in-Core-clause-lawful
 returns-in-Core-clause-lawful g c = λ n gs loaded.
-    let m = c.args.model.now in
+    let m = c.args.circuit.now in
     let guards = c.args.guards.now in
     let lits = c.args.lits.now in
     let vars = g.S.Sat.vars c.grow.new.solver in
@@ -88,4 +88,4 @@ returns-in-Core-clause-lawful g c = λ n gs loaded.
     let asked : c.as_slice.result.now ≡ assumptions_of m guards lits = c.as_slice.ensures.value ∙ c.in_ok-assumed.ensures in
     let kept : c.in_ok-core_lits-in-Core.field-0 ≡ core_lits m.max_var core = c.in_ok-core_lits-in-Core.ensures ∙ ap (core_lits m.max_var) c.as_slice-in-Core.ensures.value in
     subst (λ ls. IsReply m gs guards lits c.solve.new.budget (Core ls)) (sym kept)
-    (refused m n gs told guards lits core c.solve.new.budget c.parts.ensures.well_formed now c.requires.lits (subst (λ (ls : List ℤ). IsCore told.clauses ls core) asked is))
+    (refused m n gs told guards lits core c.solve.new.budget c.well_formed-2.ensures now c.requires.lits (subst (λ (ls : List ℤ). IsCore told.clauses ls core) asked is))

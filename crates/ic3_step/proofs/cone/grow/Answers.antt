@@ -10,17 +10,17 @@ use Rattle.ic3_step.proofs.Loaded.{known_small, listed_in_range, listed_clauses}
 use Rattle.ic3_step.proofs.cone.grow.Goals as goal
 
 pub grow_cone-requires-clause-wanted : goal.grow_cone-requires-clause-wanted
-grow_cone-requires-clause-wanted g c = known_small c.args.model.now c.args.lits.now c.parts.ensures.well_formed c.requires.lits
+grow_cone-requires-clause-wanted g c = known_small c.args.circuit.now c.args.lits.now c.well_formed-2.ensures c.requires.lits
 
 pub add_gates-requires-clause-range : goal.add_gates-requires-clause-range
 add_gates-requires-clause-range g c =
-    let m = c.args.model.now in
+    let m = c.args.circuit.now in
     subst (λ n. All (IsGateIn n) c.deref.result.now) (sym c.first.ensures.max_var)
-    (listed_in_range m c.deref.result.now c.parts.ensures.well_formed (subst (All (Contains m.gates)) (sym c.deref.ensures.value) c.in_ok-gates.ensures.gates))
+    (listed_in_range m c.deref.result.now c.well_formed-2.ensures (subst (All (Contains m.gates)) (sym c.deref.ensures.value) c.in_ok-gates.ensures.gates))
 
 pub returns-clause-grown : goal.returns-clause-grown
 returns-clause-grown g c =
-    let m = c.args.model.now in
+    let m = c.args.circuit.now in
     let old : List (List ℤ) = g.S.Sat.clauses c.args.solver.now in
     let gates : List Gate = c.in_ok-gates.gates.items in
     let is : g.S.Sat.clauses c.add_gates.new.solver ≡ old ++ flat_map (gate_clauses m.max_var 0) gates =
@@ -40,7 +40,7 @@ returns-clause-grown g c =
 
 pub returns-clause-added : goal.returns-clause-added
 returns-clause-added g c =
-    let m = c.args.model.now in
+    let m = c.args.circuit.now in
     let old : List (List ℤ) = g.S.Sat.clauses c.args.solver.now in
     let gates : List Gate = c.in_ok-gates.gates.items in
     let is : g.S.Sat.clauses c.add_gates.new.solver ≡ old ++ flat_map (gate_clauses m.max_var 0) gates =

@@ -9,4 +9,4 @@ add-requires g c =
     let vars = g.S.Sat.vars c.args.solver.now in
     let guarded : Guarded = record { guard = c.args.guard; clause = c.args.clause.now } in
     subst (All (IsLiteral vars)) (sym (c.as_slice.ensures.value ∙ c.in_ok-literals.ensures))
-    (guarded_literals c.args.model.now guarded vars c.parts.ensures.well_formed c.requires.guard)
+    (guarded_literals c.args.circuit.now guarded vars c.well_formed-2.ensures c.requires.guard)

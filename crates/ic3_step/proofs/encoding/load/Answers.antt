@@ -10,12 +10,12 @@ use Rattle.ic3_step.proofs.encoding.load.Goals as goal
 
 pub grow-requires-clause-lits : goal.grow-requires-clause-lits
 grow-requires-clause-lits g c =
-    let m = c.args.model.now in
-    subst (All (IsKnown m)) (sym c.constraints.ensures) (constraints_known m c.parts.ensures.well_formed)
+    let m = c.args.circuit.now in
+    subst (All (IsKnown m)) (sym c.constraints.ensures) (constraints_known m c.well_formed-2.ensures)
 
 pub grow-requires-clause-grown : goal.grow-requires-clause-grown
 grow-requires-clause-grown g c =
-    let m = c.args.model.now in
+    let m = c.args.circuit.now in
     let first : List (List ℤ) = truth_clause m.max_var 0 ∷ unit_clauses (map (literal m.max_var 0) m.constraints) in
     let is : g.S.Sat.clauses c.add_constraints.new.solver ≡ first =
     c.in_ok-add_constraints.ensures.clauses ∙ ap (λ (cs : List (List ℤ)). cs ++ first) c.in_ok-reset.ensures.clauses in
@@ -24,7 +24,7 @@ grow-requires-clause-grown g c =
 
 pub returns : goal.returns
 returns g c =
-    let m = c.args.model.now in
+    let m = c.args.circuit.now in
     let first : List (List ℤ) = truth_clause m.max_var 0 ∷ unit_clauses (map (literal m.max_var 0) m.constraints) in
     let is : g.S.Sat.clauses c.add_constraints.new.solver ≡ first =
     c.in_ok-add_constraints.ensures.clauses ∙ ap (λ (cs : List (List ℤ)). cs ++ first) c.in_ok-reset.ensures.clauses in

@@ -6,7 +6,7 @@ use Rattle.ic3_step.proofs.reading.core_lits.Goals.{in-Some+in_ok-push, in_defau
 
 pub loop-literal-preserved : goal.loop-literal-preserved
 loop-literal-preserved c =
-    let n = c.args.model.now.max_var in
+    let n = c.args.circuit.now.max_var in
     let core = c.args.core.now in
     let i = c.loop-literal.literal-index in
     let x : ℤ = get_or core i (pos 0) in

@@ -5,16 +5,16 @@ use Rattle.ic3_step.proofs.Denied.{denials_known, nexts_small, held, broken}
 use Rattle.ic3_step.proofs.step.holds_after.Goals as goal
 
 pub denials-requires-clause-small : goal.denials-requires-clause-small
-denials-requires-clause-small g c = nexts_small c.args.model.now c.latches.result.now c.parts.ensures.well_formed c.latches.ensures
+denials-requires-clause-small g c = nexts_small c.args.circuit.now c.latches.result.now c.well_formed-2.ensures c.latches.ensures
 
 pub ask-requires-clause-lits : goal.ask-requires-clause-lits
 ask-requires-clause-lits g c =
-    denials_known c.args.model.now c.args.clause.now c.as_slice.result.now c.parts.ensures.well_formed c.requires.latches
+    denials_known c.args.circuit.now c.args.clause.now c.as_slice.result.now c.well_formed-2.ensures c.requires.latches
     (c.as_slice.ensures ∙ c.in_ok-lits.ensures ∙ ap (λ ls. map (denial ls) c.args.clause.now) c.latches.ensures)
 
 pub returns-in-Found-clause-lawful : goal.returns-in-Found-clause-lawful
 returns-in-Found-clause-lawful g c = λ n gs loaded.
-    let m = c.args.model.now in
+    let m = c.args.circuit.now in
     let guards = c.args.guards.now in
     let clause = c.args.clause.now in
     let lits = c.as_slice.result.now in
@@ -23,11 +23,11 @@ returns-in-Found-clause-lawful g c = λ n gs loaded.
     broken m gs guards clause lits after c.in-Found.time c.requires.latches are (subst (IsReply m gs guards lits after) c.in-Found.is (c.in_ok-time.ensures.lawful n gs loaded))
 
 pub needed-requires-clause-small : goal.needed-requires-clause-small
-needed-requires-clause-small g c = nexts_small c.args.model.now c.latches-in-Core.result.now c.parts.ensures.well_formed c.latches-in-Core.ensures
+needed-requires-clause-small g c = nexts_small c.args.circuit.now c.latches-in-Core.result.now c.well_formed-2.ensures c.latches-in-Core.ensures
 
 pub returns-in-Core-clause-lawful : goal.returns-in-Core-clause-lawful
 returns-in-Core-clause-lawful g c = λ n gs loaded.
-    let m = c.args.model.now in
+    let m = c.args.circuit.now in
     let guards = c.args.guards.now in
     let clause = c.args.clause.now in
     let lits = c.as_slice.result.now in
@@ -41,4 +41,4 @@ returns-in-Core-clause-lawful g c = λ n gs loaded.
 
 pub returns-clause-lawful : goal.returns-clause-lawful
 returns-clause-lawful g c = λ n gs loaded.
-    subst (IsReply c.args.model.now gs c.args.guards.now c.as_slice.result.now c.ask.new.budget) c.in-Spent.is (c.in_ok-time.ensures.lawful n gs loaded)
+    subst (IsReply c.args.circuit.now gs c.args.guards.now c.as_slice.result.now c.ask.new.budget) c.in-Spent.is (c.in_ok-time.ensures.lawful n gs loaded)

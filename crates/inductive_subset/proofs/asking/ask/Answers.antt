@@ -38,4 +38,4 @@ returns-in-Core-clause-excluded g c = λ inv over loaded yes.
     let assumed : All (IsAssumed m n units) assume = subst (All (IsAssumed m n units)) (sym c.as_slice.ensures.value) c.in_ok-assumed.ensures in
     let marked : All (λ l. (i : ℕ) → l ≡ guard_of m i → IsMarked c.mark_core.new.needed.marks.items i) core =
     subst (All (λ (l : ℤ). (i : ℕ) → l ≡ guard_of m i → IsMarked c.mark_core.new.needed.marks.items i)) c.as_slice-in-Core.ensures.value c.in_ok-mark_core-in-Core.ensures.marked in
-    core_excludes m inv vars cs n c.mark_core.new.needed.marks.items units assume core c.parts.ensures.well_formed over loaded c.requires.units assumed is marked
+    core_excludes m inv vars cs n c.mark_core.new.needed.marks.items units assume core c.well_formed-2.ensures over loaded c.requires.units assumed is marked

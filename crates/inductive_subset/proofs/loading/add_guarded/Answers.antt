@@ -14,7 +14,7 @@ add-requires g c =
     let inside : c.adding.place < length inv = search rules in
     let room : vars ≡ m.max_var + 1 + length inv = c.adding.invariant.vars ∙ c.requires.vars in
     subst (All (IsLiteral vars)) (sym (c.as_slice.ensures.value ∙ c.in_ok-clause.ensures))
-    (guarded_is m vars inv c.adding.place c.parts.ensures.well_formed c.requires.over inside (omega (arith, inside, room)))
+    (guarded_is m vars inv c.adding.place c.well_formed-2.ensures c.requires.over inside (omega (arith, inside, room)))
 
 pub adding-preserved : goal.adding-preserved
 adding-preserved g c =

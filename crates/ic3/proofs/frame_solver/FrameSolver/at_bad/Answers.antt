@@ -21,7 +21,7 @@ ask-requires-clause-loaded g c =
     (range_room k (k + 1) a.room guards inside (subst (All (λ n. (k ≤ n) × (n < k + 1))) (sym c.as_slice.ensures) c.in_ok-guards.ensures))
 
 pub ask-requires-clause-lits : goal.ask-requires-clause-lits
-ask-requires-clause-lits g c = bad_usable c.args.circuit.now c.bad.result.now c.parts.ensures.well_formed c.requires.for_bad c.bad.ensures
+ask-requires-clause-lits g c = bad_usable c.args.circuit.now c.bad.result.now c.well_formed-2.ensures c.requires.for_bad c.bad.ensures
 
 pub returns-in-Found-clause-lawful : goal.returns-in-Found-clause-lawful
 returns-in-Found-clause-lawful g c =

@@ -20,8 +20,8 @@ after-requires g c =
       clause = subst (IsStateClause m) (sym c.as_slice-clause.ensures) (item_has (λ (x : Entry). IsStateClause m x.clause) es c.args.place e c.requires.place item c.requires.sound.laws.clauses);
     }
 
-pub add_counted-requires : goal.add_counted-requires
-add_counted-requires g c =
+pub add_clause-requires : goal.add_clause-requires
+add_clause-requires g c =
     let m = c.args.circuit.now in
     let es = c.args.frames.now.entries in
     let e = c.index-entries-place.result in
@@ -64,13 +64,13 @@ returns-in-Held-clause-sound g c =
     let clause_is : (get_or es place e).clause ≡ clause = ap (λ (x : Entry). x.clause) (sym item) ∙ sym c.as_slice-clause.ensures in
     let level_is : (get_or es place e).level ≡ k = ap (λ (x : Entry). x.level) (sym item) ∙ c.if-entry-level.false in
     let after = subst (IsAfter m es k clause c.after.new.budget) c.in-Held.is c.in_ok-after.ensures.lawful in
-    let same : a.levels ≡ c.add_counted.new.self.levels = sym c.add_counted.ensures.levels in
+    let same : a.levels ≡ c.count_propagated.new.self.levels = sym (c.count_propagated.ensures.levels ∙ c.add_clause.ensures.levels) in
     let found = raised_found es fs place k e clause (c.propagate.ensures.entries e) c.requires.place clause_is level_is in
-    let above : (get_or es place e).level + 1 < c.add_counted.new.self.levels = omega (arith, level_is, same, top, c.requires.below) in
+    let above : (get_or es place e).level + 1 < c.count_propagated.new.self.levels = omega (arith, level_is, same, top, c.requires.below) in
     record {
-      has = c.in_ok-add_counted-in-Held.ensures.has fs (has_within m es fs a c.propagate.ensures.within sound.has) (λ s inside. entry_holds fs clause (k + 1) s found inside);
+      has = c.count_propagated.ensures.has m fs (c.in_ok-add_clause-in-Held.ensures.has fs (has_within m es fs a c.propagate.ensures.within sound.has) (λ s inside. entry_holds fs clause (k + 1) s found inside));
       laws = c.propagate.ensures.laws m (bad_literal m 0) k e sound.laws level_is (subst (HoldsAfter m es k) (sym clause_is) after);
       top = omega (arith, top, same, c.propagate.ensures.top);
-      below = subst (All (λ (x : Entry). x.level < c.add_counted.new.self.levels)) (sym (c.propagate.ensures.entries e))
-          (All-set (λ (x : Entry). x.level < c.add_counted.new.self.levels) es place _ above (subst (λ n. All (λ (x : Entry). x.level < n) es) same sound.below));
+      below = subst (All (λ (x : Entry). x.level < c.count_propagated.new.self.levels)) (sym (c.propagate.ensures.entries e))
+          (All-set (λ (x : Entry). x.level < c.count_propagated.new.self.levels) es place _ above (subst (λ n. All (λ (x : Entry). x.level < n) es) same sound.below));
     }

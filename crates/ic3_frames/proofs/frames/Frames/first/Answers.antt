@@ -6,13 +6,13 @@ use Rattle.ic3_frames.proofs.frames.Frames.first.Goals as goal
 
 pub returns-clause-level : goal.returns-clause-level
 returns-clause-level c =
-    level_zero c.args.model.now c.in_ok-entries.entries.items (subst (λ ls. All (IsResetEntry ls) c.in_ok-entries.entries.items) c.latches.ensures c.in_ok-entries.ensures.only)
+    level_zero c.args.circuit.now c.in_ok-entries.entries.items (subst (λ ls. All (IsResetEntry ls) c.in_ok-entries.entries.items) c.latches.ensures c.in_ok-entries.ensures.only)
 
 pub returns-clause-laws : goal.returns-clause-laws
 returns-clause-laws c = λ bad.
-    first_laws c.args.model.now bad c.in_ok-entries.entries.items (subst (λ ls. All (IsResetEntry ls) c.in_ok-entries.entries.items) c.latches.ensures c.in_ok-entries.ensures.only)
+    first_laws c.args.circuit.now bad c.in_ok-entries.entries.items (subst (λ ls. All (IsResetEntry ls) c.in_ok-entries.entries.items) c.latches.ensures c.in_ok-entries.ensures.only)
 
 pub returns-clause-initial : goal.returns-clause-initial
 returns-clause-initial c =
-    first_initial c.args.model.now c.in_ok-entries.entries.items
+    first_initial c.args.circuit.now c.in_ok-entries.entries.items
     (subst (λ ls. (a : StateLit) → IsResetLit ls a → Contains c.in_ok-entries.entries.items (reset_entry a)) c.latches.ensures c.in_ok-entries.ensures.each)

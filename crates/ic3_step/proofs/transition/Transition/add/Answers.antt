@@ -6,7 +6,7 @@ use Rattle.ic3_step.proofs.transition.Transition.add.Goals as goal
 
 pub returns-clause-added : goal.returns-clause-added
 returns-clause-added g c = λ n gs loaded.
-    let m = c.args.model.now in
+    let m = c.args.circuit.now in
     let guarded : Guarded = record { guard = c.args.guard; clause = c.args.clause.now } in
     let solver = c.self.inside.solver in
     let old : Contents = record { vars = g.S.Sat.vars solver; clauses = g.S.Sat.clauses solver; cone = c.self.inside.cone } in

@@ -1,6 +1,6 @@
 use Rattle.std.proofs.Common.{◌+◌, ◌≤◌, ◌++◌, ◌∷◌, [], ◌∙◌, arith}
 use Rattle.ic3.proofs.Guarding.{has_guard, has_guards, has_grown, has_asked, has_let_go, guards_more, guards_room, relative_answer}
-use Rattle.ic3.proofs.frame_solver.FrameSolver.solve_relative.Goals as goal
+use Rattle.ic3.proofs.frame_solver.FrameSolver.relative.Goals as goal
 
 pub add-requires-clause-loaded : goal.add-requires-clause-loaded
 add-requires-clause-loaded g c = has_guard c.args.circuit.now c.args.frames.now.entries c.args.self.now c.args.self.now.next c.requires.sound.has c.requires.room
