@@ -53,7 +53,7 @@ fn certify_for(
 {
     examine(alloc, circuit, invariant)?;
     let copy = copied(alloc, invariant)?;
-    circuit.parts();
+    circuit.well_formed();
     match prove_cases(alloc, circuit, invariant, bad, budget) {
         Ok(proofs) => Ok(Certified::Certificate(Certificate {
             property,
@@ -72,22 +72,22 @@ fn certify_for(
 /// shadow circuit already.
 pub fn certify_shadow(
     alloc: Global,
-    model: &Model,
+    circuit: &Model,
     n: u32,
     shadow: &Model,
     invariant: &[Seq<Lit>],
     budget: &mut Budget,
 ) -> Result<Certified, CertifyError>
-    requires there { HasProperty model.now (Justice n) }
-    requires shadow { shadow.now ≡ shadow_of model.now n }
+    requires there { HasProperty circuit.now (Justice n) }
+    requires shadow { shadow.now ≡ shadow_of circuit.now n }
     ensures spends { Spends budget.old budget.new }
-    ensures certified { IfOk result (IsCertified model.now (Justice n) invariant.now budget.new) }
+    ensures certified { IfOk result (IsCertified circuit.now (Justice n) invariant.now budget.new) }
     // What is inductive and excludes the bad literal is never called no invariant.
-    ensures honest { IfOk result (λ r. (x : Counterexample) → r ≡ NotInvariant x → IsInductive (circuit_of model.now (Justice n)) invariant.now (bad_of model.now (Justice n)) → ⊥) }
-    ensures refused { IfErr result (HasCause model.now (Justice n) invariant.now) }
+    ensures honest { IfOk result (λ r. (x : Counterexample) → r ≡ NotInvariant x → IsInductive (circuit_of circuit.now (Justice n)) invariant.now (bad_of circuit.now (Justice n)) → ⊥) }
+    ensures refused { IfErr result (HasCause circuit.now (Justice n) invariant.now) }
     ensures unspent { IfErr result (IsUnspent budget.old budget.new) }
 {
-    shadow.parts();
+    shadow.well_formed();
     let bad = shadow.bad()[0];
     certify_for(alloc, shadow, bad, Property::Justice(n), invariant, budget)
 }
@@ -95,18 +95,18 @@ pub fn certify_shadow(
 /// A certificate of the justice property at position `n`, by clauses about its shadow circuit.
 fn certify_justice(
     alloc: Global,
-    model: &Model,
+    circuit: &Model,
     n: u32,
     invariant: &[Seq<Lit>],
     budget: &mut Budget,
 ) -> Result<Certified, CertifyError>
     ensures spends { Spends budget.old budget.new }
-    ensures certified { IfOk result (IsCertified model.now (Justice n) invariant.now budget.new) }
-    ensures refused { IfErr result (HasCause model.now (Justice n) invariant.now) }
+    ensures certified { IfOk result (IsCertified circuit.now (Justice n) invariant.now budget.new) }
+    ensures refused { IfErr result (HasCause circuit.now (Justice n) invariant.now) }
     ensures unspent { IfErr result (IsUnspent budget.old budget.new) }
 {
-    match to_safety(alloc, model, n) {
-        Ok(shadow) => certify_shadow(alloc, model, n, &shadow, invariant, budget),
+    match to_safety(alloc, circuit, n) {
+        Ok(shadow) => certify_shadow(alloc, circuit, n, &shadow, invariant, budget),
         Err(LiveError::NoProperty(_)) => Err(CertifyError::NoProperty(n)),
         Err(LiveError::Limit) => Err(CertifyError::Limit),
         Err(LiveError::OutOfMemory(refused)) => Err(CertifyError::OutOfMemory(refused)),
@@ -124,28 +124,28 @@ fn no_property(property: Property) -> CertifyError
 /// A certificate of the property, where the circuit has it.
 fn certify_property(
     alloc: Global,
-    model: &Model,
+    circuit: &Model,
     property: Property,
     invariant: &[Seq<Lit>],
     budget: &mut Budget,
 ) -> Result<Certified, CertifyError>
     ensures spends { Spends budget.old budget.new }
-    ensures certified { IfOk result (IsCertified model.now property invariant.now budget.new) }
-    ensures refused { IfErr result (HasCause model.now property invariant.now) }
+    ensures certified { IfOk result (IsCertified circuit.now property invariant.now budget.new) }
+    ensures refused { IfErr result (HasCause circuit.now property invariant.now) }
     ensures unspent { IfErr result (IsUnspent budget.old budget.new) }
 {
-    if !model.parts().has_property(property) {
+    if !circuit.parts().has_property(property) {
         return Err(no_property(property));
     }
     match property {
         Property::Bad(n) => {
-            let bad = model.bad()[n as usize];
-            certify_for(alloc, model, bad, property, invariant, budget)
+            let bad = circuit.bad()[n as usize];
+            certify_for(alloc, circuit, bad, property, invariant, budget)
         }
-        Property::Justice(n) => certify_justice(alloc, model, n, invariant, budget),
+        Property::Justice(n) => certify_justice(alloc, circuit, n, invariant, budget),
         Property::Output(n) => {
-            let output = model.outputs()[n as usize];
-            certify_for(alloc, model, output, property, invariant, budget)
+            let output = circuit.outputs()[n as usize];
+            certify_for(alloc, circuit, output, property, invariant, budget)
         }
     }
 }
@@ -165,17 +165,17 @@ fn certify_property(
 /// spend of the budget, and the clauses in memory of their own.
 pub fn certify(
     alloc: Global,
-    model: &Model,
+    circuit: &Model,
     property: Property,
     invariant: &[Seq<Lit>],
     budget: &mut Budget,
 ) -> Result<Certified, CertifyError>
     ensures spends { Spends budget.old budget.new }
-    ensures certified { IfOk result (IsCertified model.now property invariant.now budget.new) }
+    ensures certified { IfOk result (IsCertified circuit.now property invariant.now budget.new) }
     // What is inductive and excludes the bad literal is never called no invariant.
-    ensures honest { IfOk result (λ r. (x : Counterexample) → r ≡ NotInvariant x → IsInductive (circuit_of model.now property) invariant.now (bad_of model.now property) → ⊥) }
-    ensures refused { IfErr result (HasCause model.now property invariant.now) }
+    ensures honest { IfOk result (λ r. (x : Counterexample) → r ≡ NotInvariant x → IsInductive (circuit_of circuit.now property) invariant.now (bad_of circuit.now property) → ⊥) }
+    ensures refused { IfErr result (HasCause circuit.now property invariant.now) }
     ensures unspent { IfErr result (IsUnspent budget.old budget.new) }
 {
-    certify_property(alloc, model, property, invariant, budget)
+    certify_property(alloc, circuit, property, invariant, budget)
 }

@@ -17,16 +17,16 @@ const MOST_CLAUSES: usize = 4_194_303;
 /// Whether the clauses are no more than a certificate may have, each over the latches and without a
 /// literal that is repeated or opposed. A refusal has the first cause. It costs the literals and the
 /// variables.
-pub fn examine(alloc: Global, model: &Model, invariant: &[Seq<Lit>]) -> Result<(), CertifyError>
+pub fn examine(alloc: Global, circuit: &Model, invariant: &[Seq<Lit>]) -> Result<(), CertifyError>
     ensures few { OnOk result (length invariant.now ≤ 4194303) }
-    ensures good { OnOk result (All (IsGood model.now) invariant.now) }
-    ensures refused { IfErr result (IsFault model.now invariant.now) }
+    ensures good { OnOk result (All (IsGood circuit.now) invariant.now) }
+    ensures refused { IfErr result (IsFault circuit.now invariant.now) }
 {
     if invariant.len() > MOST_CLAUSES {
         return Err(CertifyError::Limit);
     }
-    let table = NextTable::new(alloc, model)?;
-    match check_clauses(alloc, model, &table, invariant) {
+    let table = NextTable::new(alloc, circuit)?;
+    match check_clauses(alloc, circuit, &table, invariant) {
         Ok(()) => Ok(()),
         Err(ClauseError::NotLatch { clause }) => Err(CertifyError::NotLatch { clause }),
         Err(ClauseError::Repeated { clause }) => Err(CertifyError::Repeated { clause }),

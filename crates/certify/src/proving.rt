@@ -61,20 +61,20 @@ fn prove(
 /// Adds a proof for the initial case of each clause. The latches' resets are loaded once.
 fn prove_initial(
     alloc: Global,
-    model: &Model,
+    circuit: &Model,
     invariant: &[Seq<Lit>],
     sections: &mut Seq<Proof>,
     budget: &mut Budget,
 ) -> Result<(), Halt>
-    requires invariant { IsInvariant model.now invariant.now }
+    requires invariant { IsInvariant circuit.now invariant.now }
     ensures spends { Spends budget.old budget.new }
-    ensures proved { OnOk result ((cs : List AnyCase) → AreProofs cs sections.old → AreProofs (cs ++ map (init_case model.now) invariant.now) sections.new) }
-    ensures halted { IfErr result (λ h. (a : Lit) → IsHalt model.now invariant.now a budget.new h) }
+    ensures proved { OnOk result ((cs : List AnyCase) → AreProofs cs sections.old → AreProofs (cs ++ map (init_case circuit.now) invariant.now) sections.new) }
+    ensures halted { IfErr result (λ h. (a : Lit) → IsHalt circuit.now invariant.now a budget.new h) }
 {
-    let start = start_base(alloc, model)?;
+    let start = start_base(alloc, circuit)?;
     let mut refuter = Refuter::new(alloc, &start, most_literals(invariant))?;
     for (place, clause) in invariant.iter().enumerate() {
-        let units = init_units(alloc, model, clause.as_slice())?;
+        let units = init_units(alloc, circuit, clause.as_slice())?;
         let case = Case::Initial(place as u64);
         sections.push(prove(alloc, &mut refuter, case, units.as_slice(), budget)?)?;
     }
@@ -84,24 +84,24 @@ fn prove_initial(
 /// Closes the step case of each clause, where the circuit and the clauses are loaded.
 fn close_steps(
     alloc: Global,
-    model: &Model,
+    circuit: &Model,
     invariant: &[Seq<Lit>],
     cases: &mut ClosedCases,
     budget: &mut Budget,
 ) -> Result<(), Halt>
-    requires invariant { IsInvariant model.now invariant.now }
-    requires loaded { cases.old.refuter.formula ≡ shared_formula model.now invariant.now }
+    requires invariant { IsInvariant circuit.now invariant.now }
+    requires loaded { cases.old.refuter.formula ≡ shared_formula circuit.now invariant.now }
     requires none { cases.old.units ≡ [] }
     requires closed { AreClosed cases.old }
     ensures formula { cases.new.refuter.formula ≡ cases.old.refuter.formula }
     ensures spends { Spends budget.old budget.new }
     ensures closed { OnOk result (AreClosed cases.new) }
-    ensures units { OnOk result (cases.new.units ≡ map (step_units model.now) invariant.now) }
-    ensures halted { IfErr result (λ h. (a : Lit) → IsHalt model.now invariant.now a budget.new h) }
+    ensures units { OnOk result (cases.new.units ≡ map (step_units circuit.now) invariant.now) }
+    ensures halted { IfErr result (λ h. (a : Lit) → IsHalt circuit.now invariant.now a budget.new h) }
 {
-    let table = NextTable::new(alloc, model)?;
+    let table = NextTable::new(alloc, circuit)?;
     for (place, clause) in invariant.iter().enumerate() {
-        let units = step_units(alloc, model, &table, clause.as_slice())?;
+        let units = step_units(alloc, circuit, &table, clause.as_slice())?;
         let case = Case::Step(place as u64);
         cases.close(alloc, case, Seq::from_vec(units), budget)?;
     }
@@ -126,24 +126,24 @@ fn most_literals(invariant: &[Seq<Lit>]) -> u32
 /// for each, and answers the lemmas that they share.
 fn close_others(
     alloc: Global,
-    model: &Model,
+    circuit: &Model,
     invariant: &[Seq<Lit>],
     bad: Lit,
     cases: &mut ClosedCases,
     sections: &mut Seq<Proof>,
     budget: &mut Budget,
 ) -> Result<Proof, Halt>
-    requires invariant { IsInvariant model.now invariant.now }
-    requires bad { Contains (used model.now) bad }
-    requires loaded { cases.old.refuter.formula ≡ shared_formula model.now invariant.now }
+    requires invariant { IsInvariant circuit.now invariant.now }
+    requires bad { Contains (used circuit.now) bad }
+    requires loaded { cases.old.refuter.formula ≡ shared_formula circuit.now invariant.now }
     requires none { cases.old.units ≡ [] }
     requires closed { AreClosed cases.old }
     ensures spends { Spends budget.old budget.new }
-    ensures proved { IfOk result (λ l. (b : Base) × IsShared model.now invariant.now (Some l) b × ((cs : List AnyCase) → AreProofs cs sections.old → AreProofs (cs ++ map (step_case model.now b) invariant.now ++ bad_case model.now b bad ∷ []) sections.new)) }
-    ensures halted { IfErr result (IsHalt model.now invariant.now bad budget.new) }
+    ensures proved { IfOk result (λ l. (b : Base) × IsShared circuit.now invariant.now (Some l) b × ((cs : List AnyCase) → AreProofs cs sections.old → AreProofs (cs ++ map (step_case circuit.now b) invariant.now ++ bad_case circuit.now b bad ∷ []) sections.new)) }
+    ensures halted { IfErr result (IsHalt circuit.now invariant.now bad budget.new) }
 {
-    close_steps(alloc, model, invariant, cases, budget)?;
-    let units = Seq::from_slice(alloc, &[bad_unit(model, bad)])?;
+    close_steps(alloc, circuit, invariant, cases, budget)?;
+    let units = Seq::from_slice(alloc, &[bad_unit(circuit, bad)])?;
     cases.close(alloc, Case::Bad, units, budget)?;
     Ok(cases.write(alloc, sections)?)
 }
@@ -152,38 +152,38 @@ fn close_others(
 /// the clauses are loaded once.
 fn prove_others(
     alloc: Global,
-    model: &Model,
+    circuit: &Model,
     invariant: &[Seq<Lit>],
     bad: Lit,
     sections: &mut Seq<Proof>,
     budget: &mut Budget,
 ) -> Result<Proof, Halt>
-    requires invariant { IsInvariant model.now invariant.now }
-    requires bad { Contains (used model.now) bad }
+    requires invariant { IsInvariant circuit.now invariant.now }
+    requires bad { Contains (used circuit.now) bad }
     ensures spends { Spends budget.old budget.new }
-    ensures proved { IfOk result (λ l. (b : Base) × IsShared model.now invariant.now (Some l) b × ((cs : List AnyCase) → AreProofs cs sections.old → AreProofs (cs ++ map (step_case model.now b) invariant.now ++ bad_case model.now b bad ∷ []) sections.new)) }
-    ensures halted { IfErr result (IsHalt model.now invariant.now bad budget.new) }
+    ensures proved { IfOk result (λ l. (b : Base) × IsShared circuit.now invariant.now (Some l) b × ((cs : List AnyCase) → AreProofs cs sections.old → AreProofs (cs ++ map (step_case circuit.now b) invariant.now ++ bad_case circuit.now b bad ∷ []) sections.new)) }
+    ensures halted { IfErr result (IsHalt circuit.now invariant.now bad budget.new) }
 {
-    let mut cases = ClosedCases::new(alloc, &shared_base(alloc, model, invariant)?)?;
-    close_others(alloc, model, invariant, bad, &mut cases, sections, budget)
+    let mut cases = ClosedCases::new(alloc, &shared_base(alloc, circuit, invariant)?)?;
+    close_others(alloc, circuit, invariant, bad, &mut cases, sections, budget)
 }
 
 /// A proof for each case: those of the initial states, of the steps, and of the bad literal.
 pub fn prove_cases(
     alloc: Global,
-    model: &Model,
+    circuit: &Model,
     invariant: &[Seq<Lit>],
     bad: Lit,
     budget: &mut Budget,
 ) -> Result<Proofs, Halt>
-    requires invariant { IsInvariant model.now invariant.now }
-    requires bad { Contains (used model.now) bad }
+    requires invariant { IsInvariant circuit.now invariant.now }
+    requires bad { Contains (used circuit.now) bad }
     ensures spends { Spends budget.old budget.new }
-    ensures proved { IfOk result (λ r. (b : Base) × IsShared model.now invariant.now (Some r.lemmas) b × AreProofs (cases model.now b invariant.now bad) r.sections) }
-    ensures halted { IfErr result (IsHalt model.now invariant.now bad budget.new) }
+    ensures proved { IfOk result (λ r. (b : Base) × IsShared circuit.now invariant.now (Some r.lemmas) b × AreProofs (cases circuit.now b invariant.now bad) r.sections) }
+    ensures halted { IfErr result (IsHalt circuit.now invariant.now bad budget.new) }
 {
     let mut sections = Seq::new(alloc);
-    prove_initial(alloc, model, invariant, &mut sections, budget)?;
-    let lemmas = prove_others(alloc, model, invariant, bad, &mut sections, budget)?;
+    prove_initial(alloc, circuit, invariant, &mut sections, budget)?;
+    let lemmas = prove_others(alloc, circuit, invariant, bad, &mut sections, budget)?;
     Ok(Proofs { lemmas, sections })
 }

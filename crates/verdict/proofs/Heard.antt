@@ -176,7 +176,7 @@ still_why m q before after Budget spends h = let less = spends.less in omega (ar
 still_why m q before after (Depth s) spends h = h
 still_why m q before after NoEvidence spends h = absurd h
 
--- the weightier of what was told and what one more engine tells is a reason, where the first was none yet or is one
+-- the weightier of what was reported and what one more engine reports is a reason, where the first was none yet or is one
 pub weightier_why : (m : Parts) (p : Property) (index : ℕ) (before after : Steps) (told found new : Reason) → Spends before after → (index ≡ 0 → told ≡ NoEvidence) → (0 < index → IsWhy m p before told) →
     IsWhy m p after found → new ≡ weightier_of told found → IsWhy m p after new
 weightier_why m p zero before after told found new spends none why second is =

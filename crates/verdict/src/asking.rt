@@ -47,19 +47,19 @@ fn ask(
 /// The stimulus as evidence, where its replay shows the violation.
 fn judged(
     alloc: Global,
-    model: &Model,
+    circuit: &Model,
     property: Property,
     stimulus: Stimulus,
 ) -> Result<Verdict, DecideError>
-    requires there { HasProperty model.now property }
+    requires there { HasProperty circuit.now property }
     requires named { property_of stimulus ≡ property }
-    ensures backed { IfOk result (IsBacked model.now property) }
-    ensures shown { Shows model.now stimulus → IfOk result IsUnsafe }
+    ensures backed { IfOk result (IsBacked circuit.now property) }
+    ensures shown { Shows circuit.now stimulus → IfOk result IsUnsafe }
     ensures replayed { IfOk result IsOfReplay }
     ensures memory { IfErr result (λ e. e ≡ OutOfMemory witness) }
-    ensures refused { IfErr result (HasCause model.now property) }
+    ensures refused { IfErr result (HasCause circuit.now property) }
 {
-    match judge(alloc, model, &stimulus) {
+    match judge(alloc, circuit, &stimulus) {
         Ok(()) => Ok(Verdict::Unsafe(stimulus)),
         Err(JudgeError::OutOfMemory(refused)) => Err(DecideError::OutOfMemory(refused)),
         Err(_) => Ok(Verdict::Unknown(Reason::NoEvidence)),
@@ -70,17 +70,17 @@ fn judged(
 /// shadow circuit tells of a lasso, where its lengths are right.
 fn ran(
     alloc: Global,
-    model: &Model,
+    circuit: &Model,
     property: Property,
     initial: Seq<bool>,
     inputs: Seq<Seq<bool>>,
 ) -> Result<Verdict, DecideError>
-    requires there { HasProperty model.now property }
-    ensures backed { IfOk result (IsBacked model.now property) }
-    ensures shown { IsViolation model.now property initial inputs → IfOk result IsUnsafe }
+    requires there { HasProperty circuit.now property }
+    ensures backed { IfOk result (IsBacked circuit.now property) }
+    ensures shown { IsViolation circuit.now property initial inputs → IfOk result IsUnsafe }
     ensures replayed { IfOk result IsOfReplay }
     ensures memory { IfErr result (λ e. e ≡ OutOfMemory witness) }
-    ensures refused { IfErr result (HasCause model.now property) }
+    ensures refused { IfErr result (HasCause circuit.now property) }
 {
     match property {
         Property::Bad(_) | Property::Output(_) => {
@@ -89,11 +89,11 @@ fn ran(
                 initial,
                 inputs,
             };
-            judged(alloc, model, property, stimulus)
+            judged(alloc, circuit, property, stimulus)
         }
         Property::Justice(n) => {
-            match lasso_of(alloc, model, n, initial.as_slice(), inputs.as_slice()) {
-                Ok(Some(lasso)) => judged(alloc, model, property, lasso),
+            match lasso_of(alloc, circuit, n, initial.as_slice(), inputs.as_slice()) {
+                Ok(Some(lasso)) => judged(alloc, circuit, property, lasso),
                 Ok(None) => Ok(Verdict::Unknown(Reason::NoEvidence)),
                 Err(refused) => Err(DecideError::OutOfMemory(refused)),
             }
@@ -105,22 +105,22 @@ fn ran(
 /// which is `circuit`.
 fn certificate_of(
     alloc: Global,
-    model: &Model,
-    property: Property,
     circuit: &Model,
+    property: Property,
+    asked: &Model,
     invariant: &[Seq<Lit>],
     budget: &mut Budget,
 ) -> Result<Certified, CertifyError>
-    requires asked { IsAsked model.now property circuit.now }
+    requires asked { IsAsked circuit.now property asked.now }
     ensures spends { Spends budget.old budget.new }
-    ensures certified { IfOk result (IsCertified model.now property invariant.now budget.new) }
-    ensures honest { IfOk result (λ r. (x : ACounterexample) → r ≡ NotInvariant x → IsInductive (circuit_of model.now property) invariant.now (bad_of model.now property) → ⊥) }
-    ensures refused { IfErr result (HasCertifyCause model.now property invariant.now) }
+    ensures certified { IfOk result (IsCertified circuit.now property invariant.now budget.new) }
+    ensures honest { IfOk result (λ r. (x : ACounterexample) → r ≡ NotInvariant x → IsInductive (circuit_of circuit.now property) invariant.now (bad_of circuit.now property) → ⊥) }
+    ensures refused { IfErr result (HasCertifyCause circuit.now property invariant.now) }
 {
     match property {
-        Property::Justice(n) => certify_shadow(alloc, model, n, circuit, invariant, budget),
+        Property::Justice(n) => certify_shadow(alloc, circuit, n, asked, invariant, budget),
         Property::Bad(_) | Property::Output(_) => {
-            certify(alloc, model, property, invariant, budget)
+            certify(alloc, circuit, property, invariant, budget)
         }
     }
 }
@@ -129,22 +129,22 @@ fn certificate_of(
 /// where each of their cases is refuted.
 fn certified(
     alloc: Global,
-    model: &Model,
-    property: Property,
     circuit: &Model,
+    property: Property,
+    asked: &Model,
     invariant: &[Seq<Lit>],
     budget: &mut Budget,
 ) -> Result<Verdict, DecideError>
-    requires asked { IsAsked model.now property circuit.now }
+    requires asked { IsAsked circuit.now property asked.now }
     ensures spends { Spends budget.old budget.new }
-    ensures backed { IfOk result (IsBacked model.now property) }
-    ensures meant { All (IsGood (circuit_of model.now property)) invariant.now → IsInductive (circuit_of model.now property) invariant.now (bad_of model.now property) → IfOk result (IsMeant model.now property budget.new) }
-    ensures comes { IfOk result (IsOfClauses model.now property invariant.now budget.new) }
-    ensures stopped { IfErr result (Stops model.now property invariant.now) }
-    ensures refused { IfErr result (HasCause model.now property) }
+    ensures backed { IfOk result (IsBacked circuit.now property) }
+    ensures meant { All (IsGood (circuit_of circuit.now property)) invariant.now → IsInductive (circuit_of circuit.now property) invariant.now (bad_of circuit.now property) → IfOk result (IsMeant circuit.now property budget.new) }
+    ensures comes { IfOk result (IsOfClauses circuit.now property invariant.now budget.new) }
+    ensures stopped { IfErr result (Stops circuit.now property invariant.now) }
+    ensures refused { IfErr result (HasCause circuit.now property) }
 {
-    model.parts();
-    match certificate_of(alloc, model, property, circuit, invariant, budget) {
+    circuit.well_formed();
+    match certificate_of(alloc, circuit, property, asked, invariant, budget) {
         Ok(Certified::Certificate(certificate)) => Ok(Verdict::Safe(certificate)),
         Ok(Certified::NotInvariant(_)) => Ok(Verdict::Unknown(Reason::NoEvidence)),
         Ok(Certified::Spent) => Ok(Verdict::Unknown(Reason::Budget)),
@@ -171,27 +171,27 @@ fn uncertified(error: CertifyError) -> Result<Verdict, DecideError>
 pub fn hear(
     engine: &mut Box<dyn Engine>,
     alloc: Global,
-    model: &Model,
-    property: Property,
     circuit: &Model,
+    property: Property,
+    asked: &Model,
     budget: &mut Budget,
 ) -> Result<Verdict, DecideError>
-    requires asked { IsAsked model.now property circuit.now }
+    requires asked { IsAsked circuit.now property asked.now }
     ensures spends { Spends budget.old budget.new }
     ensures stays { honest engine.old → honest engine.new }
-    ensures backed { IfOk result (IsBacked model.now property) }
-    ensures meant { honest engine.old → IfOk result (IsMeant model.now property budget.new) }
-    ensures heard { IsHeard (answers engine.old circuit.now) model.now property budget.old result budget.new }
-    ensures refused { IfErr result (HasCause model.now property) }
+    ensures backed { IfOk result (IsBacked circuit.now property) }
+    ensures meant { honest engine.old → IfOk result (IsMeant circuit.now property budget.new) }
+    ensures heard { IsHeard (answers engine.old asked.now) circuit.now property budget.old result budget.new }
+    ensures refused { IfErr result (HasCause circuit.now property) }
 {
-    model.parts();
-    match ask(engine, alloc, circuit, budget)? {
-        Finding::Run { initial, inputs } => ran(alloc, model, property, initial, inputs),
+    circuit.well_formed();
+    match ask(engine, alloc, asked, budget)? {
+        Finding::Run { initial, inputs } => ran(alloc, circuit, property, initial, inputs),
         Finding::Invariant(clauses) => certified(
             alloc,
-            model,
-            property,
             circuit,
+            property,
+            asked,
             clauses.as_slice(),
             budget,
         ),

@@ -24,37 +24,37 @@ use std::alloc::Global;
 
 /// The circuit that engines are asked about: with the bad literal or the output as its one bad literal,
 /// or the shadow circuit of the justice property.
-fn circuit_for(alloc: Global, model: &Model, property: Property) -> Result<Model, DecideError>
-    ensures asked { IfOk result (IsAsked model.now property) }
-    ensures exists { OnOk result (HasProperty model.now property) }
-    ensures refused { IfErr result (HasCause model.now property) }
-    ensures large { IfErr result (λ e. e ≡ Limit → 4194303 < (circuit_of model.now property).max_var) }
+fn circuit_for(alloc: Global, circuit: &Model, property: Property) -> Result<Model, DecideError>
+    ensures asked { IfOk result (IsAsked circuit.now property) }
+    ensures exists { OnOk result (HasProperty circuit.now property) }
+    ensures refused { IfErr result (HasCause circuit.now property) }
+    ensures large { IfErr result (λ e. e ≡ Limit → 4194303 < (circuit_of circuit.now property).max_var) }
     ensures own { IfErr result (λ e. e ≢ IdsTaken full) }
 {
     match property {
         Property::Bad(n) => {
-            if n as usize >= model.bad().len() {
+            if n as usize >= circuit.bad().len() {
                 return Err(DecideError::NoProperty(n));
             }
-            match model.for_bad(alloc, n) {
-                Ok(circuit) => Ok(circuit),
+            match circuit.for_bad(alloc, n) {
+                Ok(asked) => Ok(asked),
                 Err(ReadError::OutOfMemory(refused)) => Err(DecideError::OutOfMemory(refused)),
                 // the circuit has the property
                 Err(_) => unreachable!(),
             }
         }
         Property::Output(n) => {
-            if !model.parts().has_property(Property::Output(n)) {
+            if !circuit.parts().has_property(Property::Output(n)) {
                 return Err(DecideError::NoProperty(n));
             }
-            match model.for_output(alloc, n) {
-                Ok(circuit) => Ok(circuit),
+            match circuit.for_output(alloc, n) {
+                Ok(asked) => Ok(asked),
                 Err(ReadError::OutOfMemory(refused)) => Err(DecideError::OutOfMemory(refused)),
                 // the circuit has the property
                 Err(_) => unreachable!(),
             }
         }
-        Property::Justice(n) => match to_safety(alloc, model, n) {
+        Property::Justice(n) => match to_safety(alloc, circuit, n) {
             Ok(shadow) => Ok(shadow),
             Err(LiveError::NoProperty(_)) => Err(DecideError::NoProperty(n)),
             Err(LiveError::Limit) => Err(DecideError::Limit),
@@ -66,23 +66,23 @@ fn circuit_for(alloc: Global, model: &Model, property: Property) -> Result<Model
 /// Asks each engine about the property, by `circuit`, up to the first whose evidence stands.
 fn hear_each(
     alloc: Global,
-    model: &Model,
-    property: Property,
     circuit: &Model,
+    property: Property,
+    asked: &Model,
     engines: &mut [Box<dyn Engine>],
     budget: &mut Budget,
 ) -> Result<Verdict, DecideError>
-    requires asked { IsAsked model.now property circuit.now }
+    requires asked { IsAsked circuit.now property asked.now }
     ensures spends { Spends budget.old budget.new }
-    ensures backed { IfOk result (IsBacked model.now property) }
-    ensures honest { All (λ e. honest e) engines.old → 0 < length engines.old → IfOk result (IsMeant model.now property budget.new) }
-    ensures asked { AskedInOrder (λ e. answers e circuit.now) model.now property engines.old engines.new budget.old result budget.new }
-    ensures refused { IfErr result (HasCause model.now property) }
+    ensures backed { IfOk result (IsBacked circuit.now property) }
+    ensures honest { All (λ e. honest e) engines.old → 0 < length engines.old → IfOk result (IsMeant circuit.now property budget.new) }
+    ensures asked { AskedInOrder (λ e. answers e asked.now) circuit.now property engines.old engines.new budget.old result budget.new }
+    ensures refused { IfErr result (HasCause circuit.now property) }
     ensures none { length engines.old ≡ 0 → (budget.new ≡ budget.old) × MatchResult result (λ v. v ≡ Unknown NoEvidence) (λ e. (e ≡ Limit → ⊥) × (e ≢ IdsTaken full)) }
 {
     let mut told = Reason::NoEvidence;
     for engine in engines.iter_mut() {
-        let answer = hear(engine, alloc, model, property, circuit, budget);
+        let answer = hear(engine, alloc, circuit, property, asked, budget);
         match reason(&answer) {
             Some(found) => told = weightier(told, found),
             None => return answer,
@@ -99,32 +99,32 @@ fn hear_each(
 /// circuit with too many variables is refused.
 ///
 /// Where no engine has evidence, the reason that is reported is the budget's where an engine or the
-/// making of a certificate told that, else the greatest depth that one told, else that there was no
+/// making of a certificate reported that, else the greatest depth that one reported, else that there was no
 /// evidence, which is never so where all engines that were asked are honest.
 ///
 /// Beside what the engines cost, it takes a copy of the circuit, one replay for each run, and for
 /// each invariant its certificate.
 pub fn decide(
     alloc: Global,
-    model: &Model,
+    circuit: &Model,
     property: Property,
     engines: &mut [Box<dyn Engine>],
     budget: &mut Budget,
 ) -> Result<Verdict, DecideError>
     ensures spends { Spends budget.old budget.new }
     // Whatever engines were handed in, what is answered has its evidence.
-    ensures backed { IfOk result (IsBacked model.now property) }
+    ensures backed { IfOk result (IsBacked circuit.now property) }
     // Where all of them are honest, and there is one, the unknown means what it says.
-    ensures honest { All (λ e. honest e) engines.old → 0 < length engines.old → IfOk result (IsMeant model.now property budget.new) }
+    ensures honest { All (λ e. honest e) engines.old → 0 < length engines.old → IfOk result (IsMeant circuit.now property budget.new) }
     // The engines are asked once each, in order, about the circuit that is meant, up to the first that has evidence or refuses. Over a
     // limit is the shadow circuit, with no engine asked; else an engine said so, or `certify` of clauses that one found.
-    ensures asked { Asks (λ e. answers e) model.now property engines.old engines.new budget.old result budget.new }
+    ensures asked { Asks (λ e. answers e) circuit.now property engines.old engines.new budget.old result budget.new }
     // What is answered is of a property that the circuit has, and what is refused as none is not.
-    ensures exists { OnOk result (HasProperty model.now property) }
-    ensures refused { IfErr result (HasCause model.now property) }
+    ensures exists { OnOk result (HasProperty circuit.now property) }
+    ensures refused { IfErr result (HasCause circuit.now property) }
     // Without engines nothing is spent, nothing is known, and no limit is met but that of the shadow circuit.
-    ensures none { length engines.old ≡ 0 → (budget.new ≡ budget.old) × MatchResult result (λ v. v ≡ Unknown NoEvidence) (λ e. (e ≡ Limit → 4194303 < (circuit_of model.now property).max_var) × (e ≢ IdsTaken full)) }
+    ensures none { length engines.old ≡ 0 → (budget.new ≡ budget.old) × MatchResult result (λ v. v ≡ Unknown NoEvidence) (λ e. (e ≡ Limit → 4194303 < (circuit_of circuit.now property).max_var) × (e ≢ IdsTaken full)) }
 {
-    let circuit = circuit_for(alloc, model, property)?;
-    hear_each(alloc, model, property, &circuit, engines, budget)
+    let asked = circuit_for(alloc, circuit, property)?;
+    hear_each(alloc, circuit, property, &asked, engines, budget)
 }

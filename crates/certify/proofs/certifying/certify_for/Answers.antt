@@ -5,7 +5,7 @@ use Rattle.certify.proofs.certifying.certify_for.Goals as goal
 
 pub prove_cases-requires-clause-invariant : goal.prove_cases-requires-clause-invariant
 prove_cases-requires-clause-invariant c =
-    invariant_from c.args.circuit.now c.args.invariant.now c.parts.ensures.well_formed c.in_ok-examine.ensures.few c.in_ok-examine.ensures.good
+    invariant_from c.args.circuit.now c.args.invariant.now c.well_formed-2.ensures c.in_ok-examine.ensures.few c.in_ok-examine.ensures.good
 
 pub returns-in-Ok-clause-certified : goal.returns-in-Ok-clause-certified
 returns-in-Ok-clause-certified c =

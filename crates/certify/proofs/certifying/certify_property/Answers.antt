@@ -12,12 +12,12 @@ use Rattle.certify.proofs.certifying.certify_property.Goals as goal
 
 pub certify_for-requires : goal.certify_for-requires
 certify_for-requires c =
-    let there : HasProperty c.args.model.now c.args.property = search rules in
-    bad_used c.args.model.now c.args.property c.in-Bad.n c.bad.result.now c.in-Bad.is c.bad.ensures there
+    let there : HasProperty c.args.circuit.now c.args.property = search rules in
+    bad_used c.args.circuit.now c.args.property c.in-Bad.n c.bad.result.now c.in-Bad.is c.bad.ensures there
 
 pub returns-in-Bad-clause-certified : goal.returns-in-Bad-clause-certified
 returns-in-Bad-clause-certified c =
-    let m = c.args.model.now in
+    let m = c.args.circuit.now in
     let p = c.args.property in
     let there : HasProperty m p = search rules in
     let circuit : m ≡ circuit_of m p = ap (circuit_of m) (sym c.in-Bad.is) in
@@ -28,7 +28,7 @@ returns-in-Bad-clause-certified c =
 
 pub returns-in-Bad-clause-refused : goal.returns-in-Bad-clause-refused
 returns-in-Bad-clause-refused c =
-    let m = c.args.model.now in
+    let m = c.args.circuit.now in
     let p = c.args.property in
     let there : HasProperty m p = search rules in
     let circuit : m ≡ circuit_of m p = ap (circuit_of m) (sym c.in-Bad.is) in
@@ -38,12 +38,12 @@ returns-in-Bad-clause-refused c =
 
 pub certify_for-requires-in-Output : goal.certify_for-requires-in-Output
 certify_for-requires-in-Output c =
-    let there : HasProperty c.args.model.now c.args.property = search rules in
-    output_used c.args.model.now c.args.property c.in-Output.n c.outputs.result.now c.in-Output.is c.outputs.ensures there
+    let there : HasProperty c.args.circuit.now c.args.property = search rules in
+    output_used c.args.circuit.now c.args.property c.in-Output.n c.outputs.result.now c.in-Output.is c.outputs.ensures there
 
 pub returns-in-Output-clause-certified : goal.returns-in-Output-clause-certified
 returns-in-Output-clause-certified c =
-    let m = c.args.model.now in
+    let m = c.args.circuit.now in
     let p = c.args.property in
     let there : HasProperty m p = search rules in
     let circuit : m ≡ circuit_of m p = ap (circuit_of m) (sym c.in-Output.is) in
@@ -54,7 +54,7 @@ returns-in-Output-clause-certified c =
 
 pub returns-in-Output-clause-refused : goal.returns-in-Output-clause-refused
 returns-in-Output-clause-refused c =
-    let m = c.args.model.now in
+    let m = c.args.circuit.now in
     let p = c.args.property in
     let there : HasProperty m p = search rules in
     let circuit : m ≡ circuit_of m p = ap (circuit_of m) (sym c.in-Output.is) in

@@ -13,12 +13,12 @@ use Rattle.certify.proofs.proving.close_others.Goals as goal
 
 pub returns-in_err-close_steps-clause-halted : goal.returns-in_err-close_steps-clause-halted
 returns-in_err-close_steps-clause-halted c =
-    err_gives (IsHalt c.args.model.now c.args.invariant.now c.args.bad c.close_steps.new.budget) _ c.in_err-close_steps.field-0.0 c.from_residual.ensures.1
+    err_gives (IsHalt c.args.circuit.now c.args.invariant.now c.args.bad c.close_steps.new.budget) _ c.in_err-close_steps.field-0.0 c.from_residual.ensures.1
     (c.in_err-close_steps.ensures.halted c.args.bad)
 
 pub returns-in_err-close-clause-halted : goal.returns-in_err-close-clause-halted
 returns-in_err-close-clause-halted c =
-    let m = c.args.model.now in
+    let m = c.args.circuit.now in
     let inv = c.args.invariant.now in
     let fits : SFits w32 c.bad_unit.result = search rules in
     let units : c.in_ok-units.units ≡ bad_units m c.args.bad = c.in_ok-units.ensures ∙ ap (λ x. x ∷ []) (read32 _ fits) ∙ ap (λ x. x ∷ []) c.bad_unit.ensures.unit in
@@ -29,7 +29,7 @@ returns-in_err-close-clause-halted c =
 
 pub returns-clause-proved : goal.returns-clause-proved
 returns-clause-proved c =
-    let m = c.args.model.now in
+    let m = c.args.circuit.now in
     let inv = c.args.invariant.now in
     let a = c.args.bad in
     let fits : SFits w32 c.bad_unit.result = search rules in

@@ -9,5 +9,5 @@ invariant-loop-place l = record {
   formula : l.cases.refuter.formula ≡ l.initial.cases.refuter.formula;
   spends : Spends l.initial.budget l.budget;
   closed : AreClosed l.cases;
-  units : l.cases.units ≡ map (step_units l.model) (take l.place l.invariant');
+  units : l.cases.units ≡ map (step_units l.circuit) (take l.place l.invariant');
 }

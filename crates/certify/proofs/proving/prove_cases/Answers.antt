@@ -8,12 +8,12 @@ use Rattle.certify.proofs.proving.prove_cases.Goals as goal
 
 pub returns-in_err-prove_initial-clause-halted : goal.returns-in_err-prove_initial-clause-halted
 returns-in_err-prove_initial-clause-halted c =
-    err_gives (IsHalt c.args.model.now c.args.invariant.now c.args.bad c.prove_initial.new.budget) _ c.in_err-prove_initial.field-0.0 c.from_residual.ensures.1
+    err_gives (IsHalt c.args.circuit.now c.args.invariant.now c.args.bad c.prove_initial.new.budget) _ c.in_err-prove_initial.field-0.0 c.from_residual.ensures.1
     (c.in_err-prove_initial.ensures.halted c.args.bad)
 
 pub returns-clause-proved : goal.returns-clause-proved
 returns-clause-proved c =
-    let m = c.args.model.now in
+    let m = c.args.circuit.now in
     let inv = c.args.invariant.now in
     let p = c.in_ok-lemmas.ensures.proved in
     let initial : AreProofs (map (init_case m) inv) c.prove_initial.new.sections = c.in_ok-prove_initial.ensures.proved [] (rw c.new-sections.ensures none_yet) in

@@ -20,11 +20,11 @@ pub init_units-requires : goal.init_units-requires
 init_units-requires c =
     let inv = c.args.invariant.now in
     let is = clause_is inv c.loop-place.place c.index-invariant-place.result c.as_slice.result.now c.loop-place-test.true c.index-invariant-place.is c.as_slice.ensures in
-    subst (IsOverLatches c.args.model.now) (sym is) ((c.requires.invariant.clauses c.loop-place.place [] c.loop-place-test.true).over)
+    subst (IsOverLatches c.args.circuit.now) (sym is) ((c.requires.invariant.clauses c.loop-place.place [] c.loop-place-test.true).over)
 
 pub prove-requires-clause-few : goal.prove-requires-clause-few
 prove-requires-clause-few c =
-    let m = c.args.model.now in
+    let m = c.args.circuit.now in
     let inv = c.args.invariant.now in
     let is = clause_is inv c.loop-place.place c.index-invariant-place.result c.as_slice.result.now c.loop-place-test.true c.index-invariant-place.is c.as_slice.ensures in
     let units : c.as_slice-in-loop-place.result.now ≡ init_units m (get_or inv c.loop-place.place []) = c.as_slice-in-loop-place.ensures.value ∙ c.in_ok-units.ensures.units ∙ ap (init_units m) is in
@@ -34,7 +34,7 @@ prove-requires-clause-few c =
 
 pub returns-in_err-prove-clause-halted : goal.returns-in_err-prove-clause-halted
 returns-in_err-prove-clause-halted c =
-    let m = c.args.model.now in
+    let m = c.args.circuit.now in
     let inv = c.args.invariant.now in
     let clause = clause_is inv c.loop-place.place c.index-invariant-place.result c.as_slice.result.now c.loop-place-test.true c.index-invariant-place.is c.as_slice.ensures in
     let case : with_units c.loop-place.refuter.formula c.as_slice-in-loop-place.result.now ≡ init_formula m (get_or inv c.loop-place.place []) =
@@ -44,7 +44,7 @@ returns-in_err-prove-clause-halted c =
 
 pub loop-place-preserved : goal.loop-place-preserved
 loop-place-preserved c =
-    let m = c.args.model.now in
+    let m = c.args.circuit.now in
     let inv = c.args.invariant.now in
     let clause = clause_is inv c.loop-place.place c.index-invariant-place.result c.as_slice.result.now c.loop-place-test.true c.index-invariant-place.is c.as_slice.ensures in
     let case : case_over c.loop-place.refuter.formula c.as_slice-in-loop-place.result.now ≡ init_case m (get_or inv c.loop-place.place []) =
@@ -58,14 +58,14 @@ loop-place-preserved c =
 
 pub returns-in_err-push-clause-halted : goal.returns-in_err-push-clause-halted
 returns-in_err-push-clause-halted c =
-    err_gives (λ h. (a : Lit) → IsHalt c.args.model.now c.args.invariant.now a c.prove.new.budget h) _ (OutOfMemory witness) c.from_residual-in_err-push.ensures.1 (λ a. tt)
+    err_gives (λ h. (a : Lit) → IsHalt c.args.circuit.now c.args.invariant.now a c.prove.new.budget h) _ (OutOfMemory witness) c.from_residual-in_err-push.ensures.1 (λ a. tt)
 
 pub returns-in_err-units-clause-halted : goal.returns-in_err-units-clause-halted
 returns-in_err-units-clause-halted c =
-    err_gives (λ h. (a : Lit) → IsHalt c.args.model.now c.args.invariant.now a c.loop-place.budget h) _ (OutOfMemory witness) c.from_residual-in_err-units.ensures.1 (λ a. tt)
+    err_gives (λ h. (a : Lit) → IsHalt c.args.circuit.now c.args.invariant.now a c.loop-place.budget h) _ (OutOfMemory witness) c.from_residual-in_err-units.ensures.1 (λ a. tt)
 
 pub returns-clause-proved : goal.returns-clause-proved
 returns-clause-proved c = λ cs are.
-    let m = c.args.model.now in
+    let m = c.args.circuit.now in
     let inv = c.args.invariant.now in
     subst (λ l. AreProofs (cs ++ map (init_case m) l) c.loop-place.sections) (take_all c.loop-place.place inv (omega (arith, c.loop-place-test.false))) (c.loop-place.invariant.proved cs are)

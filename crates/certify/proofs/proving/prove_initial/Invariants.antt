@@ -8,5 +8,5 @@ abbrev pub invariant-loop-place : goal.invariant-loop-place
 invariant-loop-place l = record {
   same : l.refuter ≡ l.initial.refuter;
   spends : Spends l.initial.budget l.budget;
-  proved : (cs : List Case) → AreProofs cs l.initial.sections → AreProofs (cs ++ map (init_case l.model) (take l.place l.invariant')) l.sections;
+  proved : (cs : List Case) → AreProofs cs l.initial.sections → AreProofs (cs ++ map (init_case l.circuit) (take l.place l.invariant')) l.sections;
 }

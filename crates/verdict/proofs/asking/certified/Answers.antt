@@ -6,11 +6,11 @@ use Rattle.verdict.proofs.asking.certified.Goals as goal
 
 pub returns-in-Ok-Certificate : goal.returns-in-Ok-Certificate
 returns-in-Ok-Certificate c =
-    let is = IsCertified c.args.model.now c.args.property c.args.invariant.now c.certificate_of.new.budget in
+    let is = IsCertified c.args.circuit.now c.args.property c.args.invariant.now c.certificate_of.new.budget in
     let certified = subst is c.in-Ok-Certificate.field-0-is c.in-Ok-Certificate.ensures.certified in
     record {
       spends = search rules;
-      backed = certificate_backs c.args.model.now c.args.property c.args.invariant.now c.certificate_of.new.budget _ c.parts.ensures.well_formed certified;
+      backed = certificate_backs c.args.circuit.now c.args.property c.args.invariant.now c.certificate_of.new.budget _ c.well_formed-2.ensures certified;
       meant = λ good inductive. tt;
       comes = certified;
       stopped = tt;

@@ -15,7 +15,7 @@ pub returns-in-Invariant-clause-meant : goal.returns-in-Invariant-clause-meant
 returns-in-Invariant-clause-meant g c honest = invariant_meant _ _ _ c.ask.new.budget c.certified.new.budget _ _ _ _ c.requires.asked c.in-Invariant.is c.as_slice.ensures (c.in_ok-initial.ensures.so honest) c.certified.ensures.meant
 
 pub returns-in-Unknown-clause-meant : goal.returns-in-Unknown-clause-meant
-returns-in-Unknown-clause-meant g c honest = unknown_meant _ _ _ c.ask.new.budget _ _ c.parts.ensures.well_formed c.requires.asked c.in-Unknown.is (c.in_ok-initial.ensures.so honest)
+returns-in-Unknown-clause-meant g c honest = unknown_meant _ _ _ c.ask.new.budget _ _ c.well_formed-2.ensures c.requires.asked c.in-Unknown.is (c.in_ok-initial.ensures.so honest)
 
 pub returns-in-Run-clause-heard : goal.returns-in-Run-clause-heard
 returns-in-Run-clause-heard g c =

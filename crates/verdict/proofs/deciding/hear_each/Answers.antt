@@ -11,9 +11,9 @@ loop-engine-preserved g c =
       spends = search rules;
       none = search rules;
       stays = search rules;
-      meant = λ all above. weightier_why c.args.model.now c.args.property c.loop-engine.engine-index c.loop-engine.budget c.hear-answer.new.budget c.loop-engine.told c.in-Some.found c.weightier-told.result c.hear-answer.ensures.spends
+      meant = λ all above. weightier_why c.args.circuit.now c.args.property c.loop-engine.engine-index c.loop-engine.budget c.hear-answer.new.budget c.loop-engine.told c.in-Some.found c.weightier-told.result c.hear-answer.ensures.spends
           (λ at. (c.loop-engine.invariant.none at).1) (λ after. c.loop-engine.invariant.meant all after)
-          (why_unknown c.args.model.now c.args.property c.hear-answer.new.budget c.hear-answer.result c.in-Some.found unknown (c.hear-answer.ensures.meant (search rules))) c.weightier-told.ensures;
+          (why_unknown c.args.circuit.now c.args.property c.hear-answer.new.budget c.hear-answer.result c.in-Some.found unknown (c.hear-answer.ensures.meant (search rules))) c.weightier-told.ensures;
       heard = told_more _ _ _ _ c.loop-engine.engines c.loop-engine.engine-index c.engine-item.result _ c.loop-engine.told c.in-Some.found c.weightier-told.result c.hear-answer.result
           c.args.budget.now c.loop-engine.budget c.hear-answer.new.budget c.loop-engine.invariant.behind c.loop-engine-test.true c.loop-engine.invariant.heard c.hear-answer.ensures.heard unknown c.weightier-told.ensures;
       behind = rest_more _ c.loop-engine.engines c.loop-engine.engine-index c.hear-answer.new.engine c.loop-engine.invariant.behind;

@@ -11,7 +11,7 @@ invariant-loop-engine g l =
       spends : Spends l.initial.budget l.budget;
       none : l.engine-index ≡ 0 → (l.budget ≡ l.initial.budget) × (l.told ≡ NoEvidence);
       stays : All (λ b. (goal.Engine-dyn g (b.vtable, b.value)).honest b.value) l.initial.engines → All (λ b. (goal.Engine-dyn g (b.vtable, b.value)).honest b.value) l.engines;
-      meant : All (λ b. (goal.Engine-dyn g (b.vtable, b.value)).honest b.value) l.initial.engines → 0 < l.engine-index → IsWhy l.model l.property l.budget l.told;
-      heard : HaveTold (λ b. (goal.Engine-dyn g (b.vtable, b.value)).answers b.value l.circuit) l.model l.property (take l.engine-index l.initial.engines) NoEvidence l.initial.budget l.told l.budget;
+      meant : All (λ b. (goal.Engine-dyn g (b.vtable, b.value)).honest b.value) l.initial.engines → 0 < l.engine-index → IsWhy l.circuit l.property l.budget l.told;
+      heard : HaveTold (λ b. (goal.Engine-dyn g (b.vtable, b.value)).answers b.value l.asked) l.circuit l.property (take l.engine-index l.initial.engines) NoEvidence l.initial.budget l.told l.budget;
       behind : drop l.engine-index l.engines ≡ drop l.engine-index l.initial.engines;
     }
