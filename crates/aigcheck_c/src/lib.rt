@@ -42,7 +42,7 @@ fn told(answer: Result<bool, RunError>, put: &[u8], line: &mut [u8], count: &mut
     if yes { YES } else { NO }
 }
 
-/// Whether the certificate is accepted for the circuit, by the bytes of both: 0 for a yes, 1 for a no, and 3 where memory is wanting
+/// Whether the certificate is accepted for the circuit, by the bytes of both: 0 for a yes, 1 for a no, and 3 where memory is refused
 /// or the line is longer than its room. The first `count` bytes of `line` are the line of the answer (`yes safe P`, or
 /// `no NUMBER`, and a line end), which takes 32 bytes at most.
 #[unsafe(no_mangle)]

@@ -2,31 +2,21 @@
 
 use crate::checking::{ask, is_taken};
 use crate::counterexample::tell_counterexample;
-use crate::files::{circuit, keep, make};
+use crate::files::{circuit, keep, make, read_text};
 use crate::fitting;
 use crate::shadow::shadow_file;
-use crate::stop::{DONE, Role, Stop, about, finished, read_of};
+use crate::stop::{DONE, Role, Stop, about, read_of};
 use arguments::{Claim, EngineKind, Search, Shadow};
 use certify::{Certified, certify};
-use cli::{CliError, Layout, Verdict, property_named};
-use graph::{AigerFile, Budget, FromRead, Lit, Property, ReadToEndError, Seq, read_to_end};
-use inputs::{is_standard, open};
+use cli::{Layout, Verdict, property_named};
+use graph::{AigerFile, Budget, Lit, Property, Seq};
+use inputs::is_standard;
 use std::alloc::Global;
 
 /// The status of clauses that are no inductive invariant which excludes the property's literal.
 const NO_INVARIANT: u8 = 1;
 /// The status of a budget that is exhausted, and of a search that found nothing.
 const SPENT: u8 = 2;
-
-/// The text of the file of this name.
-fn read_text(rt: &HostRuntime, name: &str) -> Result<Vec<u8>, Stop> {
-    let file = finished(open(rt, name))?;
-    match read_to_end(rt.alloc(), &mut FromRead::new(file)) {
-        Ok(text) => Ok(text),
-        Err(ReadToEndError::OutOfMemory(refused)) => Err(Stop::from(refused)),
-        Err(ReadToEndError::Device) => Err(Stop::Refused(CliError::Device)),
-    }
-}
 
 /// Whether the text begins as a PLA does, and as no line of clauses and no certificate.
 fn is_pla(text: &[u8]) -> bool {

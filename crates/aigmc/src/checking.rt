@@ -59,8 +59,8 @@ pub fn ask(
 }
 
 /// The properties that a circuit has.
-fn properties_of(alloc: Global, model: &Model) -> Result<Has, Stop> {
-    let properties = all_properties(alloc, model)?;
+fn properties_of(alloc: Global, circuit: &Model) -> Result<Has, Stop> {
+    let properties = all_properties(alloc, circuit)?;
     let mut has = Has {
         bad: 0,
         justice: 0,
@@ -77,14 +77,14 @@ fn properties_of(alloc: Global, model: &Model) -> Result<Has, Stop> {
 }
 
 /// The fault of a search, with the properties that the circuit has where there is no such one.
-fn fault_of(alloc: Global, model: &Model, property: Property, stop: Stop) -> Stop {
+fn fault_of(alloc: Global, circuit: &Model, property: Property, stop: Stop) -> Stop {
     let Stop::At { number, place, .. } = stop else {
         return stop;
     };
     if number != NO_PROPERTY {
         return stop;
     }
-    match properties_of(alloc, model) {
+    match properties_of(alloc, circuit) {
         Ok(has) => Stop::NoProperty {
             property,
             place,

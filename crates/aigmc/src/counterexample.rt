@@ -58,15 +58,15 @@ fn tell_values(rt: &HostRuntime, circuit: &Model, found: &Counterexample) -> Res
 /// Says which case the values satisfy. For a justice property they are of the shadow circuit.
 pub fn tell_counterexample(
     rt: &HostRuntime,
-    model: &Model,
+    circuit: &Model,
     property: Property,
     found: &Counterexample,
 ) -> Result<(), Stop> {
     match property {
         Property::Justice(position) => {
-            let shadow = to_safety(rt.alloc(), model, position)?;
+            let shadow = to_safety(rt.alloc(), circuit, position)?;
             tell_values(rt, &shadow, found)
         }
-        Property::Bad(_) | Property::Output(_) => tell_values(rt, model, found),
+        Property::Bad(_) | Property::Output(_) => tell_values(rt, circuit, found),
     }
 }

@@ -6,7 +6,7 @@ use base::buffered;
 use cli::{
     CliError, Layout, Verdict, load, load_stimulus, put_certificate, put_file, put_table, show,
 };
-use graph::{AigerFile, FromRead, Property, ToWrite};
+use graph::{AigerFile, FromRead, Property, ReadToEndError, ToWrite, read_to_end};
 use inputs::{is_standard, open};
 use std::fs::File;
 use std::io;
@@ -20,6 +20,16 @@ pub fn path_of(name: &str) -> &str {
         "/dev/stdin"
     } else {
         name
+    }
+}
+
+/// The text of the file of this name, read whole.
+pub fn read_text(rt: &HostRuntime, name: &str) -> Result<Vec<u8>, Stop> {
+    let file = finished(open(rt, name))?;
+    match read_to_end(rt.alloc(), &mut FromRead::new(file)) {
+        Ok(text) => Ok(text),
+        Err(ReadToEndError::OutOfMemory(refused)) => Err(Stop::from(refused)),
+        Err(ReadToEndError::Device) => Err(Stop::Refused(CliError::Device)),
     }
 }
 

@@ -18,16 +18,16 @@ struct Cone {
 
 impl Cone {
     /// Nothing yet. It costs the circuit.
-    fn new(alloc: Global, model: &Model) -> Result<Cone, Refused> {
-        model.parts();
-        let places = model.max_var() as usize + 1;
+    fn new(alloc: Global, circuit: &Model) -> Result<Cone, Refused> {
+        circuit.well_formed();
+        let places = circuit.max_var() as usize + 1;
         let mut below = filled(alloc, [0, 0], places)?;
-        for gate in model.gates() {
+        for gate in circuit.gates() {
             if let Some(place) = below.get_mut(gate.lhs.variable() as usize) {
                 *place = [gate.rhs0.variable(), gate.rhs1.variable()];
             }
         }
-        for latch in model.latches() {
+        for latch in circuit.latches() {
             if let Some(place) = below.get_mut(latch.lit.variable() as usize) {
                 *place = [latch.next.variable(), 0];
             }
@@ -83,22 +83,22 @@ impl Cone {
 /// the circuit and the clauses.
 pub fn relevant_clauses(
     alloc: Global,
-    model: &Model,
+    circuit: &Model,
     property: Property,
     clauses: &[Seq<Lit>],
 ) -> Result<Seq<Seq<Lit>>, Refused> {
     let watched = match property {
-        Property::Bad(n) => model.bad().get(n as usize),
-        Property::Output(n) => model.outputs().get(n as usize),
+        Property::Bad(n) => circuit.bad().get(n as usize),
+        Property::Output(n) => circuit.outputs().get(n as usize),
         Property::Justice(_) => None,
     };
     let mut kept = Seq::new(alloc);
     let Some(watched) = watched else {
         return Ok(kept);
     };
-    let mut cone = Cone::new(alloc, model)?;
+    let mut cone = Cone::new(alloc, circuit)?;
     cone.mark(watched.variable())?;
-    cone.mark_all(model.constraints())?;
+    cone.mark_all(circuit.constraints())?;
     cone.close()?;
     for clause in clauses {
         if cone.has_all(clause.as_slice()) {

@@ -1,12 +1,12 @@
 //! The command `witness`: a counterexample of another tool becomes a strict stimulus.
 
 use crate::checking::is_taken;
-use crate::files::{circuit, make_bytes, make_stimulus};
+use crate::files::{circuit, make_bytes, make_stimulus, read_text};
 use crate::stop::{DONE, Role, Stop, about, finished, read_of};
 use arguments::Counterexample;
-use cli::{CliError, property_named};
-use graph::{AigerFile, FromRead, Model, Property, ReadToEndError, read_to_end};
-use inputs::{is_standard, open};
+use cli::property_named;
+use graph::{AigerFile, Model, Property};
+use inputs::is_standard;
 use properties::property_name;
 use stimulus::Stimulus;
 use witness::{Loose, WitnessError, asked_of, clear, strict, text_of};
@@ -26,20 +26,20 @@ fn chosen(asked: Counterexample<'_>) -> Result<Option<Property>, Stop> {
 }
 
 /// What the file of this name says.
-fn read_loose(rt: &HostRuntime, name: &str, model: &Model) -> Result<Loose, Stop> {
-    let file = finished(open(rt, name))?;
-    let text = match read_to_end(rt.alloc(), &mut FromRead::new(file)) {
-        Ok(text) => text,
-        Err(ReadToEndError::OutOfMemory(refused)) => return Err(Stop::from(refused)),
-        Err(ReadToEndError::Device) => return Err(Stop::Refused(CliError::Device)),
-    };
-    let loose = witness::read(rt.alloc(), model, text.as_slice())?;
+fn read_loose(rt: &HostRuntime, name: &str, circuit: &Model) -> Result<Loose, Stop> {
+    let text = read_text(rt, name)?;
+    let loose = witness::read(rt.alloc(), circuit, text.as_slice())?;
     Ok(loose)
 }
 
 /// Makes the file of what the stimulus's violation rests on.
-fn make_cleared(rt: &HostRuntime, out: &str, model: &Model, shown: &Stimulus) -> Result<(), Stop> {
-    match clear(rt.alloc(), model, shown)? {
+fn make_cleared(
+    rt: &HostRuntime,
+    out: &str,
+    circuit: &Model,
+    shown: &Stimulus,
+) -> Result<(), Stop> {
+    match clear(rt.alloc(), circuit, shown)? {
         Some(cleared) => {
             let text = text_of(rt.alloc(), &cleared)?;
             make_bytes(rt, out, &text)
@@ -52,11 +52,11 @@ fn make_cleared(rt: &HostRuntime, out: &str, model: &Model, shown: &Stimulus) ->
 fn keep_shown(
     rt: &HostRuntime,
     asked: Counterexample<'_>,
-    model: &Model,
+    circuit: &Model,
     shown: &Stimulus,
 ) -> Result<u8, Stop> {
     if asked.clear {
-        make_cleared(rt, asked.out, model, shown)?;
+        make_cleared(rt, asked.out, circuit, shown)?;
     } else {
         make_stimulus(rt, asked.out, shown)?;
     }

@@ -13,7 +13,7 @@ use std::test::Fail;
 /// How many bytes come at once, at most.
 static PIECES: [usize; 4] = [1, 2, 3, 7];
 
-/// A reader of a text that gives so many bytes a call at most.
+/// A reader of a text that gives at most this number of bytes a call.
 #[derive(Drop)]
 struct Cut<'a> {
     rest: &'a [u8],
@@ -29,7 +29,7 @@ impl Read for Cut<'_> {
     }
 }
 
-/// Whether this is the line about a certificate that comes in pieces of so many bytes.
+/// Whether this is the line about a certificate that comes in pieces of this number of bytes.
 fn is_told(alloc: Global, text: &[u8], most: usize, line: &[u8]) -> Result<bool, Fail> {
     let mut out = ToVec::new(alloc);
     run_safe(

@@ -116,7 +116,7 @@ fn section(alloc: Global, refuter: &mut Refuter, unit: i32, lines: &Proof) -> Re
 {
     refuter.begin(alloc, &[unit])?;
     for line in lines.lines() {
-        refuter.feed(alloc, line)?;
+        refuter.feed(alloc, line.as_ref())?;
     }
     Ok(())
 }

@@ -347,7 +347,7 @@ fn lists_come_with_ample_memory(rt: HostRuntime) {
     assert!(rt; are_items_read(rt.alloc()) == Ok(true));
 }
 
-/// Texts that break off before so many lines.
+/// Texts that break off before the number of lines that they state.
 static BROKEN: [(&[u8], Refusal, usize); 3] = [
     (b"1\n2", Refusal::Truncated, 0),
     (b"1\n\n", Refusal::Number, 1),

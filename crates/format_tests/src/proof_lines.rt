@@ -167,41 +167,6 @@ fn writes_what_was_read(rt: HostRuntime) -> Result<(), Fail> {
     Ok(())
 }
 
-/// A proof that nothing satisfies `1 2`, `-1 2`, `1 -2` and `-1 -2`, with lines that its empty clause
-/// does not rest on, and those that it rests on.
-static WORKED: [&[u8]; 2] = [
-    b"5 1 0 1 3 0\n6 2 0 1 2 0\n7 -1 2 0 6 0\n7 d 1 6 0\n8 -2 0 5 4 0\n9 0 5 2 8 0\n",
-    b"5 1 0 1 3 0\n8 -2 0 5 4 0\n9 0 5 2 8 0\n",
-];
-
-/// Texts of lines, and of those that an empty clause rests on.
-static TRIMMED: [[&[u8]; 2]; 5] = [
-    [b"", b""],
-    [b"5 1 0 1 3 0\n6 2 0 5 0\n", b""],
-    [b"5 0 1 0\n6 1 0 5 0\n", b"5 0 1 0\n"],
-    [b"5 1 0 1 0\n6 0 -5 0\n", b"5 1 0 1 0\n6 0 -5 0\n"],
-    [
-        b"9 1 0 1 0\n5 2 0 9 0\n7 3 0 9 0\n6 0 5 0\n",
-        b"9 1 0 1 0\n5 2 0 9 0\n6 0 5 0\n",
-    ],
-];
-
-/// Whether what the empty clause of a proof rests on is written as the other text.
-fn is_trimmed(alloc: Global, texts: &[&[u8]; 2]) -> Result<bool, Fail> {
-    let [text, wanted] = texts;
-    let proof = read(alloc, text)?.trimmed(alloc)?;
-    Ok(is_written(alloc, &proof, wanted)?)
-}
-
-#[test]
-fn keeps_what_the_empty_clause_rests_on(rt: HostRuntime) -> Result<(), Fail> {
-    assert!(rt; is_trimmed(rt.alloc(), &WORKED)?);
-    for texts in &TRIMMED {
-        assert!(rt; is_trimmed(rt.alloc(), texts)?);
-    }
-    Ok(())
-}
-
 /// What becomes of a proof in a sink that takes `N` bytes: the answer, how often the sink failed, and what it took.
 fn sunk<const N: usize>(proof: &Proof) -> (Result<(), LratWriteError>, u64, [u8; N]) {
     let mut out = ToWrite::new(Cursor::new([0u8; N]));

@@ -58,9 +58,9 @@ static PLACELESS: [(JudgeError, u8); 4] = [
 
 /// The number and the place with which `judge` refuses what a text spells; 0 stands for a violation
 /// that is shown.
-fn judged(alloc: Global, model: &Model, text: &[u8]) -> Result<(u8, u64), Fail> {
+fn judged(alloc: Global, circuit: &Model, text: &[u8]) -> Result<(u8, u64), Fail> {
     let stimulus = read(alloc, text)?;
-    match judge(alloc, model, &stimulus) {
+    match judge(alloc, circuit, &stimulus) {
         Ok(()) => Ok((0, 0)),
         Err(e) => Ok((e.number(), e.place())),
     }

@@ -8,7 +8,7 @@ use std::alloc::Global;
 use std::fmt::Display;
 use std::test::Fail;
 
-/// Whether a refusal is told in these words.
+/// Whether a refusal is reported in these words.
 fn is_told<E: Display>(alloc: Global, e: &E, words: &str) -> Result<bool, Fail> {
     Ok(format!(in alloc; "{e}")?.as_str() == words)
 }
