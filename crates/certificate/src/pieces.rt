@@ -37,7 +37,7 @@ impl From<PieceError> for ReaderError {
     }
 }
 
-/// Whether the byte may stand in a line before its end. It is reported without a branch.
+/// Whether the byte may stand in a line before its end, without a branch on it.
 fn inner(byte: u8) -> bool
     ensures { result ≡ is_inner byte }
 {
