@@ -1,12 +1,13 @@
 //! What is written item by item.
 
-ghost use Rattle.std.specs.Prelude.{◌≡◌, ◌^◌, ◌<◌, ◌-◌, ◌++◌, flat_map};
+ghost use Rattle.std.specs.Prelude.{◌≡◌, ◌^◌, ◌+◌, ◌<◌, ◌≤◌, ◌-◌, ◌++◌, ◌∷◌, [], decimal, flat_map, length};
 ghost use Rattle.base.specs.Devices.{CountsFailure, Puts};
 ghost use Rattle.scan.specs.Counts.{spaced};
 ghost use Rattle.aag.specs.Tail.{letter_of, symbol_line};
 ghost use Rattle.aag.specs.Writing.{gate_line, latch_line, literal_line, size_line};
 
 use crate::lines::{GateLine, LatchLine, LiteralLine};
+use arrayvec::ArrayVec;
 use graph::{Failed, Gate, Latch, Lit, Seq, Sink, Symbol, SymbolKind, put_all};
 use itoa::{Buffer, Integer};
 
@@ -89,15 +90,31 @@ impl Piece for LatchLine {
     }
 }
 
+/// Adds a number, and the byte behind it, to a line that is put at once.
+fn add_number(line: &mut ArrayVec<u8, 33>, number: u32, behind: u8)
+    requires room { length line.old.items ≤ 22 }
+    ensures text { line.new.items ≡ line.old.items ++ decimal number ++ behind ∷ [] }
+    ensures short { length line.new.items ≤ length line.old.items + 11 }
+{
+    let mut buffer = Buffer::new();
+    let digits = buffer.format(number).as_bytes();
+    if line.try_extend_from_slice(digits).is_err() {
+        unreachable!()
+    }
+    line.push(behind);
+}
+
 impl Piece for GateLine {
     type Item = Gate;
 
     ghost text = { gate_line };
 
     fn put<W: Sink>(out: &mut W, item: &Gate) -> Result<(), Failed> {
-        put_number(out, item.lhs.0, b" ")?;
-        put_number(out, item.rhs0.0, b" ")?;
-        put_number(out, item.rhs1.0, b"\n")
+        let mut line = ArrayVec::new();
+        add_number(&mut line, item.lhs.0, b' ');
+        add_number(&mut line, item.rhs0.0, b' ');
+        add_number(&mut line, item.rhs1.0, b'\n');
+        put_all(out, line.as_slice())
     }
 }
 

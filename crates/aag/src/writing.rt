@@ -126,7 +126,7 @@ pub fn put_file<C: Piece<Item = Parts>, W: Sink>(
 /// last that is needed, no reset that is 0, the symbols in their order, and the comment behind a
 /// `c` and a line end. `read` gives the file again where the text has at most 67108864 bytes. After
 /// a failure of the sink a beginning of the text was put. It takes no memory, and hands the sink
-/// each number and each name by itself.
+/// each gate's line, each other number and each name by itself.
 pub fn write<W: Sink>(file: &AigerFile, out: &mut W) -> Result<(), AagWriteError>
     requires { W.failed out.old < 2 ^ 64 - 1 }
     ensures written { OnOk result (Appends (W.contents out.old) (W.contents out.new) (written_text file.now)) }

@@ -1,40 +1,51 @@
 //! What is written item by item.
 
-ghost use Rattle.std.specs.Prelude.{◌≡◌, ◌^◌, ◌<◌, ◌-◌};
+ghost use Rattle.std.specs.Prelude.{◌≡◌, ◌^◌, ◌+◌, ◌<◌, ◌≤◌, ◌-◌, ◌++◌, length};
 ghost use Rattle.base.specs.Devices.{CountsFailure, Puts};
 ghost use Rattle.aig.specs.Delta.{delta_text};
 ghost use Rattle.aig.specs.Writing.{gate_text, latch_line};
 
 use crate::lines::{GateDeltas, LatchLine};
 use aag::{Piece, put_number};
+use arrayvec::ArrayVec;
 use graph::{Failed, Gate, Latch, Sink, put_all};
 
-/// Puts a number in groups of seven bits, the lowest first, all of them at once.
-fn put_delta<W: Sink>(out: &mut W, number: u32) -> Result<(), Failed>
-    requires { W.failed out.old < 2 ^ 64 - 1 }
-    ensures puts { Puts result (W.contents out.old) (W.contents out.new) (delta_text number) }
-    ensures counts { CountsFailure (W.failed out.old) (W.failed out.new) result }
+/// Adds groups of seven bits to the bytes of a gate.
+fn add_groups(bytes: &mut ArrayVec<u8, 10>, groups: &[u8])
+    requires room { length bytes.old.items + length groups.now ≤ 10 }
+    ensures { bytes.new.items ≡ bytes.old.items ++ groups.now }
+{
+    if bytes.try_extend_from_slice(groups).is_err() {
+        unreachable!()
+    }
+}
+
+/// Adds a number in groups of seven bits, the lowest first, to the bytes of a gate.
+fn add_delta(bytes: &mut ArrayVec<u8, 10>, number: u32)
+    requires room { length bytes.old.items ≤ 5 }
+    ensures text { bytes.new.items ≡ bytes.old.items ++ delta_text number }
+    ensures short { length bytes.new.items ≤ length bytes.old.items + 5 }
 {
     if number < 128 {
-        return put_all(out, &[number as u8]);
+        return bytes.push(number as u8);
     }
     let first = 128 + (number % 128) as u8;
     let rest = number / 128;
     if rest < 128 {
-        return put_all(out, &[first, rest as u8]);
+        return add_groups(bytes, &[first, rest as u8]);
     }
     let second = 128 + (rest % 128) as u8;
     let rest = rest / 128;
     if rest < 128 {
-        return put_all(out, &[first, second, rest as u8]);
+        return add_groups(bytes, &[first, second, rest as u8]);
     }
     let third = 128 + (rest % 128) as u8;
     let rest = rest / 128;
     if rest < 128 {
-        return put_all(out, &[first, second, third, rest as u8]);
+        return add_groups(bytes, &[first, second, third, rest as u8]);
     }
     let fourth = 128 + (rest % 128) as u8;
-    put_all(out, &[first, second, third, fourth, (rest / 128) as u8])
+    add_groups(bytes, &[first, second, third, fourth, (rest / 128) as u8])
 }
 
 impl Piece for LatchLine {
@@ -57,7 +68,9 @@ impl Piece for GateDeltas {
     ghost text = { gate_text };
 
     fn put<W: Sink>(out: &mut W, item: &Gate) -> Result<(), Failed> {
-        put_delta(out, item.lhs.0.saturating_sub(item.rhs0.0))?;
-        put_delta(out, item.rhs0.0.saturating_sub(item.rhs1.0))
+        let mut bytes = ArrayVec::new();
+        add_delta(&mut bytes, item.lhs.0.saturating_sub(item.rhs0.0));
+        add_delta(&mut bytes, item.rhs0.0.saturating_sub(item.rhs1.0));
+        put_all(out, bytes.as_slice())
     }
 }

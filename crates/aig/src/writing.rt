@@ -43,7 +43,7 @@ impl Piece for Circuit {
 /// `c` and a line end. `read` gives the file again where the text has at most 67108864 bytes. A
 /// circuit that is not ordered has no such text, and nothing is put of it. After a failure of the
 /// sink a beginning of the text was put. It takes no memory, and hands the sink each number, each
-/// byte of a gate and each name by itself.
+/// gate's two differences and each name by itself.
 pub fn write<W: Sink>(file: &AigerFile, out: &mut W) -> Result<(), AigWriteError>
     requires { W.failed out.old < 2 ^ 64 - 1 }
     ensures written { OnOk result (Appends (W.contents out.old) (W.contents out.new) (written_text file.now)) }

@@ -14,7 +14,7 @@ ghost use Rattle.checker.specs.Streamed.{AreOfCases};
 
 use crate::section_text::check_section;
 use certificate::{Reader, ReaderError, SectionKind, skip_section, skip_sections};
-use cnf::{NextTable, bad_unit, init_units, step_units};
+use cnf::{NextTable, bad_unit, init_units_into, step_units_into};
 use graph::{Lit, Model, Seq, Source};
 use lrat::{Fault, LineBuffer, Refuter};
 use std::alloc::Global;
@@ -39,8 +39,9 @@ pub fn check_initial<S: Source>(
     ensures others { (IsErrOf result Device → ⊥) → S.failed from.new ≡ S.failed from.old }
 {
     circuit.well_formed();
+    let mut units = Vec::new(alloc);
     for (k, clause) in invariant.iter().enumerate() {
-        let units = init_units(alloc, circuit, clause.as_slice())?;
+        init_units_into(&mut units, circuit, clause.as_slice())?;
         let found = check_section(
             alloc,
             SectionKind::Initial,
@@ -83,8 +84,9 @@ pub fn check_steps<S: Source>(
     ensures others { (IsErrOf result Device → ⊥) → S.failed from.new ≡ S.failed from.old }
 {
     circuit.well_formed();
+    let mut units = Vec::new(alloc);
     for (k, clause) in invariant.iter().enumerate() {
-        let units = step_units(alloc, circuit, table, clause.as_slice())?;
+        step_units_into(&mut units, circuit, table, clause.as_slice())?;
         let found = check_section(
             alloc,
             SectionKind::Step,

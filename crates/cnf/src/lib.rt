@@ -30,5 +30,5 @@ pub use cases::{bad_case, init_case, step_case};
 pub use error::CnfError;
 pub use next_table::NextTable;
 pub use time_frame::TimeFrame;
-pub use units::{bad_unit, init_units, step_units};
+pub use units::{bad_unit, init_units, init_units_into, step_units, step_units_into};
 pub use unrolling::{extension, unroll};

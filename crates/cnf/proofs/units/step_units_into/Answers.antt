@@ -4,7 +4,7 @@ use Rattle.graph.specs.declared.circuit.Lit.{Lit}
 use Rattle.cnf.specs.Clauses.{step_units, denial, next_of}
 use Rattle.cnf.proofs.CaseLaws.{next_of_range, step_units_more}
 use Rattle.cnf.proofs.Formed.{IsClauseFrom, step_units_from}
-use Rattle.cnf.proofs.units.step_units.Goals as goal
+use Rattle.cnf.proofs.units.step_units_into.Goals as goal
 
 pub denial-requires-clause-in_range : goal.denial-requires-clause-in_range
 denial-requires-clause-in_range c =

@@ -2,7 +2,7 @@ use Rattle.std.proofs.Common.{rules, ◌≡◌, ◌+◌, ◌≤◌, sym, subst}
 use Rattle.cnf.specs.Clauses.{init_units}
 use Rattle.cnf.proofs.CaseLaws.{clause_range}
 use Rattle.cnf.proofs.Formed.{IsClauseFrom, init_units_from}
-use Rattle.cnf.proofs.units.init_units.Goals as goal
+use Rattle.cnf.proofs.units.init_units_into.Goals as goal
 
 pub push_denials-requires-clause-in_range : goal.push_denials-requires-clause-in_range
 push_denials-requires-clause-in_range c = rw c.first.ensures.max_var (clause_range c.args.circuit.now c.args.clause.now c.well_formed-2.ensures c.requires)
