@@ -11,11 +11,11 @@ use Rattle.checker.proofs.Streaming.{all_proofs, init_here, next_proof, next_ref
 use Rattle.checker.proofs.TextParts.{others_refused}
 use Rattle.checker.proofs.case_text.check_initial.Goals as goal
 
-pub init_units-requires : goal.init_units-requires
-init_units-requires g c = over_here c.args.circuit.now c.args.invariant.now c.loop-k.k c.index-invariant-k.result c.as_slice.result.now c.requires.invariant c.loop-k-test.true c.index-invariant-k.is c.as_slice.ensures
+pub init_units_into-requires : goal.init_units_into-requires
+init_units_into-requires g c = over_here c.args.circuit.now c.args.invariant.now c.loop-k.k c.index-invariant-k.result c.as_slice.result.now c.requires.invariant c.loop-k-test.true c.index-invariant-k.is c.as_slice.ensures
 
-pub returns-in_err-units-clause-says : goal.returns-in_err-units-clause-says
-returns-in_err-units-clause-says g c ys known =
+pub returns-in_err-init_units_into-clause-says : goal.returns-in_err-init_units_into-clause-says
+returns-in_err-init_units_into-clause-says g c ys known =
     memory_finds (AreOfCases (map (init_case c.args.circuit.now) c.args.invariant.now)) (many_at (section_at 105) (length c.args.invariant.now) (c.args.reader.now ++ ys)) _ c.loop-k.reader (g.S.Source.remaining c.loop-k.from) c.from_residual.ensures.1
 
 pub returns-in_err-found-clause-says : goal.returns-in_err-found-clause-says
@@ -47,7 +47,7 @@ returns-in-Some-clause-says g c ys known =
     let read = many_at one (length inv) (c.args.reader.now ++ ys) in
     let case : Case = record { base = c.loop-k.refuter.base; units = c.as_slice-in-loop-k.result.now } in
     let is : case ≡ init_case m (get_or inv c.loop-k.k c.index-invariant-k.result) =
-    init_here m inv c.loop-k.k c.index-invariant-k.result c.as_slice.result.now c.loop-k.refuter.base c.as_slice-in-loop-k.result.now c.index-invariant-k.is c.as_slice.ensures c.loop-k.invariant.base (c.as_slice-in-loop-k.ensures.value ∙ c.in_ok-units.ensures.units) in
+    init_here m inv c.loop-k.k c.index-invariant-k.result c.as_slice.result.now c.loop-k.refuter.base c.as_slice-in-loop-k.result.now c.index-invariant-k.is c.as_slice.ensures c.loop-k.invariant.base (c.as_slice-in-loop-k.ensures.value ∙ c.in_ok-init_units_into.ensures.units) in
     let (front, are, still) = c.loop-k.invariant.reads ys known in
     let (p, judged, further) = many_goes_with (IsOfCase case) one read front (length inv) c.loop-k.k (Some fault) c.loop-k.reader c.check_section.new.reader _ (g.S.Source.remaining c.check_section.new.from) c.loop-k-test.true still
     (λ zs here. subst (λ o. FindsWith (IsOfCase case) (one (c.loop-k.reader ++ zs)) (Ok o) c.check_section.new.reader (g.S.Source.remaining c.check_section.new.from)) c.in-Some.is (c.in_ok-found.ensures.says zs here)) in
@@ -69,7 +69,7 @@ loop-k-preserved g c =
           let read = many_at one (length inv) (c.args.reader.now ++ ys) in
           let case : Case = record { base = c.loop-k.refuter.base; units = c.as_slice-in-loop-k.result.now } in
           let is : case ≡ init_case m (get_or inv c.loop-k.k c.index-invariant-k.result) =
-          init_here m inv c.loop-k.k c.index-invariant-k.result c.as_slice.result.now c.loop-k.refuter.base c.as_slice-in-loop-k.result.now c.index-invariant-k.is c.as_slice.ensures c.loop-k.invariant.base (c.as_slice-in-loop-k.ensures.value ∙ c.in_ok-units.ensures.units) in
+          init_here m inv c.loop-k.k c.index-invariant-k.result c.as_slice.result.now c.loop-k.refuter.base c.as_slice-in-loop-k.result.now c.index-invariant-k.is c.as_slice.ensures c.loop-k.invariant.base (c.as_slice-in-loop-k.ensures.value ∙ c.in_ok-init_units_into.ensures.units) in
           let (front, are, still) = c.loop-k.invariant.reads ys known in
           let (p, judged, further) = many_goes_with (IsOfCase case) one read front (length inv) c.loop-k.k None c.loop-k.reader c.check_section.new.reader _ (g.S.Source.remaining c.check_section.new.from) c.loop-k-test.true still
           (λ zs here. subst (λ o. FindsWith (IsOfCase case) (one (c.loop-k.reader ++ zs)) (Ok o) c.check_section.new.reader (g.S.Source.remaining c.check_section.new.from)) none (c.in_ok-found.ensures.says zs here)) in
