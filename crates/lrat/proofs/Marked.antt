@@ -1,5 +1,5 @@
 -- What one mark for each variable says, as literals come and go.
-use Rattle.std.proofs.Common.{◌≡◌, Bool, ℕ, suc, zero, ◌+◌, ◌<◌, ◌≢◌, ◌⊎◌, ◌↔◌, ◌==◌, true, false, List, [], ◌∷◌, ◌++◌, length, get_or, take, drop, set, All, Contains, IsTrue, ℤ, pos, negsuc, neg_ℤ, unsigned_abs, refl, sym, ◌∙◌, ap, subst, inl, inr, arith, get_or-set_other, get_or-set_same}
+use Rattle.std.proofs.Common.{◌≡◌, Bool, not, ℕ, suc, zero, ◌+◌, ◌<◌, ◌≢◌, ◌⊎◌, ◌↔◌, ◌==◌, true, false, List, [], ◌∷◌, ◌++◌, length, get_or, take, drop, set, All, Contains, IsTrue, ℤ, pos, negsuc, neg_ℤ, unsigned_abs, refl, sym, ◌∙◌, ap, subst, inl, inr, arith, get_or-set_other, get_or-set_same}
 use Rattle.std.proofs.lemmas.List.{get_or_default, length-set, length-take, length-drop, get_or-take, get_or-drop, take-append-drop}
 use Rattle.std.proofs.lemmas.Bool.Decides.{nat_tests}
 use Rattle.std.proofs.lemmas.List.Elements.{All-push, All-nil, Contains-push, Contains-push_cases, Contains-append_left, Contains-append_right, Contains-append_cases, Contains-get_or, All-weaker, All-more, All-contains, All-cons, All-take}
@@ -32,6 +32,16 @@ denied_mark t (negsuc n) Neither ne says = (λ e. cc, λ h. absurd (says.0 h))
 denied_mark t (negsuc n) Positive ne says = (λ e. says.0, λ h. refl)
 denied_mark t (negsuc n) Negative ne says = (λ e. cc, λ h. absurd (says.0 h))
 
+-- a variable has a mark where one of its literals is held
+pub valued_mark : (t : List ℤ) (l : ℤ) (m : Mark) → l ≢ pos 0 → Says t (unsigned_abs l) m → (m ≢ Neither) ↔ (Contains t l ⊎ Contains t (neg_ℤ l))
+valued_mark t (pos zero) m ne says = absurd (ne refl)
+valued_mark t (pos (suc n)) Neither ne says = (λ e. absurd (e refl), λ h e. elim h [ inl a ↦ says.0 a | inr b ↦ says.1 b ])
+valued_mark t (pos (suc n)) Positive ne says = (λ e. inl says.0, λ h e. cc)
+valued_mark t (pos (suc n)) Negative ne says = (λ e. inr says.1, λ h e. cc)
+valued_mark t (negsuc n) Neither ne says = (λ e. absurd (e refl), λ h e. elim h [ inl a ↦ says.1 a | inr b ↦ says.0 b ])
+valued_mark t (negsuc n) Positive ne says = (λ e. inr says.0, λ h e. cc)
+valued_mark t (negsuc n) Negative ne says = (λ e. inl says.1, λ h e. cc)
+
 same_marks : (a b : Mark) → IsTrue (sameb the_type a b) ↔ (a ≡ b)
 same_marks Neither Neither = (λ h. refl, λ e. refl)
 same_marks Neither Positive = (λ h. cc, λ e. cc)
@@ -46,6 +56,15 @@ same_marks Negative Negative = (λ h. refl, λ e. refl)
 -- a test whether a mark is the one that is wanted
 pub tested : {P : Type 0} (m wanted w : Mark) (r : Bool) → r ≡ sameb the_type m wanted → wanted ≡ w → (m ≡ w) ↔ P → IsTrue r ↔ P
 tested m wanted w r is same says = rw (is, same) (λ h. says.0 ((same_marks m w).0 h), λ p. (same_marks m w).1 (says.1 p))
+
+not_neither : (m : Mark) → IsTrue (not (sameb the_type m Neither)) ↔ (m ≢ Neither)
+not_neither Neither = (λ h. cc, λ ne. absurd (ne refl))
+not_neither Positive = (λ h e. cc, λ ne. refl)
+not_neither Negative = (λ h e. cc, λ ne. refl)
+
+-- a test whether there is a mark
+pub tested_any : {P : Type 0} (m : Mark) (r : Bool) → r ≡ not (sameb the_type m Neither) → (m ≢ Neither) ↔ P → IsTrue r ↔ P
+tested_any m r is says = rw is (λ h. says.0 ((not_neither m).0 h), λ p. (not_neither m).1 (says.1 p))
 
 -- what the mark at the literal's variable was read as
 pub read_mark : (n : ℕ) (marks : List Mark) (t : List ℤ) (l : ℤ) (i : ℕ) (x m : Mark) → AreMarked n marks t → IsLiteral n l → i ≡ unsigned_abs l → x ≡ get_or marks i x → x ≡ m → Says t (unsigned_abs l) m

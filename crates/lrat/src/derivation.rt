@@ -102,7 +102,7 @@ fn suppose(trail: &mut Trail, clause: &[i32]) -> Result<(), Fault>
         if literal.unsigned_abs() > vars {
             return Err(Fault::VariableRange);
         }
-        if trail.holds(*literal) || trail.denies(*literal) {
+        if trail.has_value(*literal) {
             return Err(Fault::RepeatedLiteral);
         }
         trail.deny(*literal)?;

@@ -1,6 +1,6 @@
 //! The literals that are held true, in the order in which they came.
 
-ghost use Rattle.std.specs.Prelude.{◌≡◌, ℕ, ℤ, pos, neg_ℤ, ◌≤◌, ◌<◌, ◌^◌, List, [], ◌∷◌, ◌++◌, OnOk, OnErr, IfOk, IsTrue, ◌↔◌, Contains, All, length, take, unsigned_abs};
+ghost use Rattle.std.specs.Prelude.{◌≡◌, ℕ, ℤ, pos, neg_ℤ, ◌≤◌, ◌<◌, ◌^◌, List, [], ◌∷◌, ◌++◌, OnOk, OnErr, IfOk, IsTrue, ◌↔◌, ◌⊎◌, Contains, All, length, take, unsigned_abs};
 ghost use Rattle.lrat.specs.Literals.{IsLiteral};
 ghost use Rattle.lrat.specs.Marks.{AreApart};
 
@@ -82,6 +82,14 @@ impl Trail {
         ensures { IsTrue result ↔ Contains self.now.literals (neg_ℤ literal) }
     {
         self.marks[literal.unsigned_abs() as usize] == mark_against(literal)
+    }
+
+    /// Whether the literal's variable has a value: whether the literal or its negation is held true.
+    pub fn has_value(&self, literal: i32) -> bool
+        requires { IsLiteral self.now.vars literal }
+        ensures { IsTrue result ↔ (Contains self.now.literals literal ⊎ Contains self.now.literals (neg_ℤ literal)) }
+    {
+        self.marks[literal.unsigned_abs() as usize] != Mark::Neither
     }
 
     /// Holds the literal true from now on. Without memory nothing changes.
