@@ -1,16 +1,16 @@
 -- What each change of the clauses in a `Stack` does to the shared ones and to those that are present.
-use Rattle.std.proofs.Common.{◌≡◌, ◌≢◌, ℕ, zero, suc, ◌+◌, ◌<◌, ◌≤◌, Bool, true, false, List, [], ◌∷◌, ◌++◌, ℤ, refl, sym, ◌∙◌, ap, subst, arith, inl, inr, ◌⊎◌, All, Contains, length, take, map, get_or, set, get_or-set_other}
-use Rattle.std.proofs.lemmas.List.{take_all, take-map, take-append-le, take-set-le, map-append, length-map, length_push, length-set, length-take-le, get_or-take, get_or_past, get_or-set_same}
+use Rattle.std.proofs.Common.{◌≡◌, ◌≢◌, ℕ, zero, suc, ◌+◌, ◌<◌, ◌≤◌, Bool, true, false, List, [], ◌∷◌, ◌++◌, ℤ, refl, sym, ◌∙◌, ap, subst, arith, inl, inr, ◌⊎◌, All, Contains, length, take, drop, map, get_or, set, get_or-set_other}
+use Rattle.std.proofs.lemmas.List.{take_all, take-map, take-append-le, take-set-le, map-append, length-append, length-map, length_push, length-set, length-take-le, get_or-take, get_or_past, get_or-set_same}
 use Rattle.std.proofs.lemmas.List.Elements.{All-contains, All-nil, All-push, All-take, Contains-push, Contains-push_cases, Contains-append_left}
 use Rattle.std.proofs.Math.Seq.{map-set_same}
 use Rattle.std.specs.FinMap as fin
 use Rattle.lrat.specs.Store.{ById}
-use Rattle.lrat.specs.Slots.{Slot, Row, blank, ids_in, live_at, live_of, live_slots, revived, IsRising}
+use Rattle.lrat.specs.Slots.{Slot, Row, blank, ids_in, live_at, live_of, live_slots, live_slots_from, revived, IsRising, IsTidied}
 use Rattle.lrat.specs.Layers.{layers_of, bare, AreLayered, AreFresh}
 use Rattle.lrat.specs.Proofs.{numbered_from}
 use Rattle.lrat.proofs.Numbered.{take_next, numbered_next}
 use Rattle.lrat.proofs.Closing.{by_lt}
-use Rattle.lrat.proofs.Kept.{all_live, live_everywhere, live_same, rising_count, rising_live}
+use Rattle.lrat.proofs.Kept.{all_live, all_live_from, live_everywhere, live_same, live_same_from, rising_count, rising_live, rising_live_from, take_front}
 use Rattle.lrat.proofs.Rising.{rising_push, rising_take, live_push, revived_all}
 
 -- ---- slots one by one
@@ -144,6 +144,46 @@ dropped_layered ss mark last hidden top i s old le same =
 
 pub dropped_shared : (ss : List Slot) (mark i : ℕ) (s : Slot) → mark ≤ i → map revived (take mark (set ss i s)) ≡ map revived (take mark ss)
 dropped_shared ss mark i s le = ap (map revived) (take-set-le mark ss i s le)
+
+-- ---- dead slots behind the shared ones are closed up
+
+tidied_vars : (n : ℕ) (r s : Row) → IsTidied n r s → s.vars ≡ r.vars
+tidied_vars n r s (inl e) = ap (λ (t : Row). t.vars) e
+tidied_vars n r s (inr e) = ap (λ (t : Row). t.vars) e
+
+tidied_front : (n : ℕ) (r s : Row) → n ≤ length r.slots → IsTidied n r s → take n s.slots ≡ take n r.slots
+tidied_front n r s le (inl e) = ap (λ (t : Row). take n t.slots) e
+tidied_front n r s le (inr e) = ap (λ (t : Row). take n t.slots) e ∙ take_front n r.slots (live_slots (drop n r.slots)) le
+
+tidied_live : (n : ℕ) (r s : Row) → IsRising 0 (ids_in r.slots) → IsTidied n r s → live_of s.slots ≡ live_of r.slots
+tidied_live n r s rising (inl e) = ap (λ (t : Row). live_of t.slots) e
+tidied_live n r s rising (inr e) = ap (λ (t : Row). live_of t.slots) e ∙ live_same_from n r.slots rising
+
+closed_layered : (ss : List Slot) (mark last : ℕ) (hidden : List ℕ) (top : ℕ) → AreLayered ss mark last hidden top → AreLayered (live_slots_from mark ss) mark last hidden top
+closed_layered ss mark last hidden top old =
+    let ts : List Slot = live_slots_from mark ss in
+    let front : take mark ts ≡ take mark ss = take_front mark ss (live_slots (drop mark ss)) old.shared in
+    let n : length (take mark ss) ≡ mark = length-take-le mark ss old.shared in
+    let ids : take mark (ids_in ts) ≡ take mark (ids_in ss) = take-map (λ (t : Slot). t.id) mark ts ∙ ap ids_in front ∙ sym (take-map (λ (t : Slot). t.id) mark ss) in
+    record {
+      low = old.low;
+      shared = omega (arith, length-append (take mark ss) (live_slots (drop mark ss)));
+      rising = rising_live_from 0 mark ss old.rising;
+      up = all_live_from (λ q. q ≤ top) mark ss old.up;
+      shared_up = subst (All (λ q. q ≤ last)) (sym ids) old.shared_up;
+      within = old.within;
+      listed = λ i lt off. old.listed i lt
+          (ap (λ (t : Slot). t.live) (sym (get_or-take mark ss i blank lt) ∙ ap (λ (us : List Slot). get_or us i blank) (sym front) ∙ get_or-take mark ts i blank lt) ∙ off);
+    }
+
+pub tidied_layered : (r s : Row) (mark last : ℕ) (hidden : List ℕ) (top : ℕ) → IsTidied mark r s → AreLayered r.slots mark last hidden top → AreLayered s.slots mark last hidden top
+tidied_layered r s mark last hidden top (inl e) old = subst (λ (t : Row). AreLayered t.slots mark last hidden top) (sym e) old
+tidied_layered r s mark last hidden top (inr e) old = subst (λ (t : Row). AreLayered t.slots mark last hidden top) (sym e) (closed_layered r.slots mark last hidden top old)
+
+pub tidied_layers : (r s : Row) (mark last : ℕ) (hidden : List ℕ) (top : ℕ) → IsTidied mark r s → AreLayered r.slots mark last hidden top → layers_of s mark last top ≡ layers_of r mark last top
+tidied_layers r s mark last hidden top tidied old =
+    changed_layers r s mark last top top (live_of r.slots) (tidied_vars mark r s tidied)
+    (ap (map revived) (tidied_front mark r s old.shared tidied)) (tidied_live mark r s old.rising tidied)
 
 -- ---- back to the shared clauses
 

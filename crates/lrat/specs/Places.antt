@@ -1,5 +1,5 @@
 -- How places in a flat list are seen.
-use Rattle.std.specs.Prelude.{ℕ, ◌+◌, ◌≤◌, List, [], ◌∷◌, ℤ, map, take, drop, length, All}
+use Rattle.std.specs.Prelude.{ℕ, ◌+◌, ◌≤◌, List, [], ◌∷◌, ◌++◌, ℤ, map, take, drop, length, All}
 use Rattle.std.specs.List.{filter}
 use Rattle.lrat.specs.Literals.{IsLiteral}
 use Rattle.lrat.specs.Slots.{Slot}
@@ -17,6 +17,10 @@ ids_of ps = map (λ (p : Place). p.id) ps
 -- the places of live clauses
 abbrev pub live_places : List Place → List Place
 live_places ps = filter (λ (p : Place). p.live) ps
+
+-- the first n places, and those of live clauses behind them
+abbrev pub live_places_from : ℕ → List Place → List Place
+live_places_from n ps = take n ps ++ live_places (drop n ps)
 
 -- each clause begins where those before it have ended
 abbrev pub AreInOrder : ℕ → List Place → Type 0

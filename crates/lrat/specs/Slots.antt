@@ -1,5 +1,5 @@
 -- Clauses in a row by rising ids, each present or taken out.
-use Rattle.std.specs.Prelude.{ℕ, ◌<◌, Bool, true, List, [], ◌∷◌, map, get_or, ℤ, cond, refl}
+use Rattle.std.specs.Prelude.{◌≡◌, ◌⊎◌, ℕ, ◌<◌, Bool, true, List, [], ◌∷◌, ◌++◌, map, take, drop, get_or, ℤ, cond, refl}
 use Rattle.std.specs.Coded.{Coded, code_by, coded×, coded_ℕ, coded_ℤ, coded_bool, coded_list}
 use Rattle.std.specs.List.{filter}
 use Rattle.std.specs.FinMap as fin
@@ -32,6 +32,14 @@ live_of (s ∷ ss) = cond s.live (fin.insert (live_of ss) s.id s.clause) (fin.re
 -- the slots of live clauses
 abbrev pub live_slots : List Slot → List Slot
 live_slots ss = filter (λ s. s.live) ss
+
+-- the first n slots, and the live ones of those behind them
+abbrev pub live_slots_from : ℕ → List Slot → List Slot
+live_slots_from n ss = take n ss ++ live_slots (drop n ss)
+
+-- s is r, or r without the slots of dead clauses from index n on
+abbrev pub IsTidied : ℕ → Row → Row → Type 0
+IsTidied n r s = (s ≡ r) ⊎ (s ≡ record { vars = r.vars; slots = live_slots_from n r.slots })
 
 -- the slot with its clause live
 abbrev pub revived : Slot → Slot

@@ -1,7 +1,7 @@
 //! Where clauses lie in a flat list.
 
 ghost use Rattle.std.specs.Prelude.{◌≡◌, ◌+◌, ◌≤◌, ◌<◌, All, Contains, MatchOption, drop, get_or, length, take};
-ghost use Rattle.lrat.specs.Places.{AreInOrder, ids_of, kept_at, live_places};
+ghost use Rattle.lrat.specs.Places.{AreInOrder, ids_of, kept_at, live_places_from};
 ghost use Rattle.lrat.specs.Slots.{IsRising};
 
 /// Where a clause's literals lie in the flat list.
@@ -14,8 +14,8 @@ pub struct Place {
     pub live: bool,
 }
 
-/// At which index the id is. It is looked for at `id - 1` first, where it is if no id is skipped,
-/// and then in time of the logarithm.
+/// At which index the id is. It is looked for at `id - 1` first, where it is if no id up to it is
+/// missing, then where it is if none behind it is, and then in time of the logarithm.
 #[inline(always)]
 pub fn position(places: &[Place], id: u32) -> Option<usize>
     requires { IsRising 0 (ids_of places.now) }
@@ -25,12 +25,29 @@ pub fn position(places: &[Place], id: u32) -> Option<usize>
     if guess < places.len() && places[guess].id == id {
         return Some(guess);
     }
+    position_from_last(places, id)
+}
+
+/// At which index the id is. It is looked for first as far before the end as the id is below the
+/// last one, and then by halving.
+#[cold]
+#[inline(never)]
+fn position_from_last(places: &[Place], id: u32) -> Option<usize>
+    requires { IsRising 0 (ids_of places.now) }
+    ensures { MatchOption result (Contains (ids_of places.now) id → ⊥) (λ i. (i < length places.now) × (get_or (ids_of places.now) i 0 ≡ id)) }
+{
+    let Some(last) = places.last() else {
+        return None;
+    };
+    let behind = last.id.saturating_sub(id) as usize;
+    let guess = (places.len() - 1).saturating_sub(behind);
+    if places[guess].id == id {
+        return Some(guess);
+    }
     search(places, id)
 }
 
 /// At which index the id is, by halving.
-#[cold]
-#[inline(never)]
 fn search(places: &[Place], id: u32) -> Option<usize>
     requires { IsRising 0 (ids_of places.now) }
     ensures { MatchOption result (Contains (ids_of places.now) id → ⊥) (λ i. (i < length places.now) × (get_or (ids_of places.now) i 0 ≡ id)) }
@@ -52,11 +69,20 @@ fn search(places: &[Place], id: u32) -> Option<usize>
     None
 }
 
-/// Drops the places of the clauses that were taken out.
-pub fn keep_live(places: &mut Vec<Place>)
-    ensures { places.new.items ≡ live_places places.old.items }
+/// Drops the places from index `first` on of the clauses that were taken out.
+pub fn keep_live(places: &mut Vec<Place>, first: usize)
+    requires { first ≤ length places.old.items }
+    ensures { places.new.items ≡ live_places_from first places.old.items }
 {
-    places.retain(|place| place.live);
+    let mut kept = first;
+    for index in first..places.len() {
+        let place = places[index];
+        if place.live {
+            places[kept] = place;
+            kept += 1;
+        }
+    }
+    places.truncate(kept);
 }
 
 /// Moves the clauses from index `first` on together behind `end`, in their order, and answers

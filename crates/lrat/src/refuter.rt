@@ -30,7 +30,7 @@ use std::marker::Model;
 /// It keeps one mark for each variable and one buffer of hints through all lines and all
 /// refutations. A line costs the literals of its clause and of the clauses that it hints, and
 /// for each id the logarithm of the number of clauses, or a constant where no id up to it is
-/// skipped.
+/// missing, or none behind it.
 #[derive(Drop)]
 pub struct Refuter {
     /// holds nothing between lines

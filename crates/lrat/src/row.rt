@@ -3,7 +3,7 @@
 ghost use Rattle.std.specs.Prelude.{◌≡◌, ◌≤◌, ◌<◌, ◌++◌, ◌∷◌, [], true, false, All, Contains, MatchOption, OnOk, OnErr, get_or, length, set, take};
 ghost use Rattle.lrat.specs.Literals.{IsLiteral};
 ghost use Rattle.lrat.specs.Places.{kept_at, AreInside};
-ghost use Rattle.lrat.specs.Slots.{Slot, IsRising, blank, ids_in, live_slots};
+ghost use Rattle.lrat.specs.Slots.{Slot, IsRising, IsTidied, blank, ids_in, live_slots, live_slots_from};
 
 use crate::place::{Place, close_up, keep_live, position};
 use base::{Refused, extend, push};
@@ -11,7 +11,7 @@ use std::alloc::Global;
 use std::marker::Model;
 
 /// Clauses in one flat list, by rising ids. A clause costs 24 bytes and 4 for each literal. One
-/// that is taken out leaves its place.
+/// that is taken out leaves its place and its literals, until what is dead is closed up.
 #[derive(Drop)]
 pub struct Row {
     /// the greatest variable
@@ -20,7 +20,7 @@ pub struct Row {
     places: Vec<Place>,
     /// the literals of the clauses, one clause after the other
     literals: Vec<i32>,
-    /// about how many of these are of clauses that were taken out
+    /// about how many places and literals are of clauses that were taken out
     dead: usize,
 }
 
@@ -71,7 +71,7 @@ impl Row {
         self.vars
     }
 
-    /// How many clauses have a place, also those that were taken out.
+    /// How many clauses have a place, also those that were taken out and not closed up.
     pub fn len(&self) -> usize
         ensures { result ≡ length self.now.slots }
     {
@@ -100,8 +100,8 @@ impl Row {
         Ok(())
     }
 
-    /// At which index the id is: in constant time where no id up to it is skipped, and else in time
-    /// of the logarithm.
+    /// At which index the id is: in constant time where no id up to it is missing, or none behind
+    /// it, and else in time of the logarithm.
     pub fn position(&self, id: u32) -> Option<usize>
         requires { IsRising 0 (ids_in self.now.slots) }
         ensures { MatchOption result (Contains (ids_in self.now.slots) id → ⊥) (λ i. (i < length self.now.slots) × (get_or (ids_in self.now.slots) i 0 ≡ id)) }
@@ -142,14 +142,15 @@ impl Row {
         };
     }
 
-    /// Takes the clause at the index out for good. Its literals stay until they are closed up.
+    /// Takes the clause at the index out for good. Its place and its literals stay until they are
+    /// closed up.
     pub fn drop_at(&mut self, index: usize)
         requires { index < length self.old.slots }
         ensures vars { self.new.vars ≡ self.old.vars }
         ensures slots { self.new.slots ≡ set self.old.slots index record { id = (get_or self.old.slots index blank).id; live = false; clause = [] } }
     {
         let place = self.places[index];
-        self.dead = self.dead.saturating_add(place.len);
+        self.dead = self.dead.saturating_add(place.len).saturating_add(1);
         self.places[index] = Place {
             start: place.start,
             len: 0,
@@ -158,11 +159,11 @@ impl Row {
         };
     }
 
-    /// Moves the clauses from the index on together where their dead literals are more than half
-    /// of their literals and places. It takes no memory, and costs a constant for each literal that
-    /// died since.
+    /// Drops the clauses from the index on that were taken out, where their literals and places are
+    /// more than half of those that there are. It takes no memory, and costs a constant for each
+    /// clause and literal that died since.
     pub fn tidy(&mut self, first: usize)
-        ensures { self.new ≡ self.old }
+        ensures { IsTidied first self.old self.new }
     {
         if first >= self.places.len() {
             return;
@@ -170,12 +171,9 @@ impl Row {
         let start = self.places[first].start;
         let literals = self.literals.len().saturating_sub(start);
         let places = self.places.len() - first;
-        if self.dead <= literals.saturating_add(places) / 2 {
-            return;
+        if self.dead > literals.saturating_add(places) / 2 {
+            self.drop_dead(first);
         }
-        let end = close_up(&mut self.literals, &mut self.places, first, start);
-        self.literals.truncate(end);
-        self.dead = 0;
     }
 
     /// Drops the clauses that were taken out, with their places and literals, for good. It takes no
@@ -183,8 +181,19 @@ impl Row {
     pub fn compact(&mut self)
         ensures { self.new ≡ record { vars = self.old.vars; slots = live_slots self.old.slots } }
     {
-        keep_live(&mut self.places);
-        let end = close_up(&mut self.literals, &mut self.places, 0, 0);
+        self.drop_dead(0);
+    }
+
+    /// Drops the clauses from the index on that were taken out, and moves the others together.
+    fn drop_dead(&mut self, first: usize)
+        ensures { self.new ≡ record { vars = self.old.vars; slots = live_slots_from first self.old.slots } }
+    {
+        if first >= self.places.len() {
+            return;
+        }
+        let start = self.places[first].start;
+        keep_live(&mut self.places, first);
+        let end = close_up(&mut self.literals, &mut self.places, first, start);
         self.literals.truncate(end);
         self.dead = 0;
     }

@@ -20,7 +20,8 @@ use std::marker::Model;
 
 /// Clauses that many refutations share, and over them those of the one in progress, which can be
 /// forgotten in time of what it did. Ids rise, so that the shared clauses come first. A clause is
-/// found in constant time where no id up to it is skipped, and else in time of the logarithm.
+/// found in constant time where no id up to it is missing, or none behind it, and else in time of
+/// the logarithm. One of the refutation's own that is taken out makes room for others.
 #[derive(Drop)]
 pub struct Stack {
     /// the shared clauses, and then the refutation's own

@@ -1,9 +1,10 @@
 use Rattle.std.proofs.Common.{◌≡◌, ◌∙◌, ap, sym, refl, List, [], false, take, map, get_or, arith, None}
 use Rattle.std.specs.FinMap as fin
-use Rattle.lrat.specs.Slots.{Slot, Row, blank, revived, live_of}
+use Rattle.lrat.specs.Layers.{layers_of, AreLayered}
+use Rattle.lrat.specs.Slots.{Slot, blank, revived, live_of}
 use Rattle.lrat.proofs.Maps.{remove_absent}
 use Rattle.lrat.proofs.Rising.{live_gone, revived_set}
-use Rattle.lrat.proofs.Layering.{hidden_layered, dropped_layered, dropped_shared, changed_layers}
+use Rattle.lrat.proofs.Layering.{hidden_layered, dropped_layered, dropped_shared, changed_layers, tidied_layered, tidied_layers}
 use Rattle.lrat.proofs.stack.Stack.remove.Goals as goal
 
 pub returns-in_default-clause-ok : goal.returns-in_default-clause-ok
@@ -29,9 +30,12 @@ returns-then-index-mark-clause-ok c =
 
 pub invariant_of-self-2 : goal.invariant_of-self-2
 invariant_of-self-2 c =
-    let ss : List Slot = c.self.inside.row.slots in
+    let u = c.self.inside in
+    let ss : List Slot = u.row.slots in
     let s : Slot = record { id = (get_or ss c.in-Some.index blank).id; live = false; clause = [] } in
-    rw (c.tidy.ensures, c.drop_at.ensures.slots) (dropped_layered ss c.self.inside.mark c.self.inside.shared_top c.self.inside.hidden.items c.self.inside.top c.in-Some.index s c.self.invariant (omega (arith, c.if-index-mark.false)) refl)
+    let dropped : AreLayered c.drop_at.new.self.slots u.mark u.shared_top u.hidden.items u.top =
+    rw c.drop_at.ensures.slots (dropped_layered ss u.mark u.shared_top u.hidden.items u.top c.in-Some.index s c.self.invariant (omega (arith, c.if-index-mark.false)) refl) in
+    tidied_layered c.drop_at.new.self c.tidy.new.self u.mark u.shared_top u.hidden.items u.top c.tidy.ensures dropped
 
 pub returns-clause-ok : goal.returns-clause-ok
 returns-clause-ok c =
@@ -39,7 +43,10 @@ returns-clause-ok c =
     let ss : List Slot = u.row.slots in
     let s : Slot = record { id = (get_or ss c.in-Some.index blank).id; live = false; clause = [] } in
     let at = c.in-Some.ensures in
-    let slots = ap (λ (r : Row). r.slots) c.tidy.ensures ∙ c.drop_at.ensures.slots in
-    rw (← c.self.view_is) (changed_layers u.row c.tidy.new.self u.mark u.shared_top u.top u.top _ (ap (λ (r : Row). r.vars) c.tidy.ensures ∙ c.drop_at.ensures.vars)
-    (ap (λ (ts : List Slot). map revived (take u.mark ts)) slots ∙ dropped_shared ss u.mark c.in-Some.index s (omega (arith, c.if-index-mark.false)))
-    (ap live_of slots ∙ live_gone ss c.in-Some.index c.args.id s c.self.invariant.rising at.within at.here refl refl))
+    let dropped : AreLayered c.drop_at.new.self.slots u.mark u.shared_top u.hidden.items u.top =
+    rw c.drop_at.ensures.slots (dropped_layered ss u.mark u.shared_top u.hidden.items u.top c.in-Some.index s c.self.invariant (omega (arith, c.if-index-mark.false)) refl) in
+    let tidied : layers_of c.tidy.new.self u.mark u.shared_top u.top ≡ layers_of c.drop_at.new.self u.mark u.shared_top u.top =
+    tidied_layers c.drop_at.new.self c.tidy.new.self u.mark u.shared_top u.hidden.items u.top c.tidy.ensures dropped in
+    rw (← c.self.view_is) (tidied ∙ changed_layers u.row c.drop_at.new.self u.mark u.shared_top u.top u.top _ c.drop_at.ensures.vars
+    (ap (λ (ts : List Slot). map revived (take u.mark ts)) c.drop_at.ensures.slots ∙ dropped_shared ss u.mark c.in-Some.index s (omega (arith, c.if-index-mark.false)))
+    (ap live_of c.drop_at.ensures.slots ∙ live_gone ss c.in-Some.index c.args.id s c.self.invariant.rising at.within at.here refl refl))
