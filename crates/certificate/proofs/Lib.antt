@@ -1,5 +1,4 @@
 pub mod EachLaws
-pub mod PieceLaws
 pub mod HeadLaws
 pub mod SectionLaws
 pub mod CertificateLaws

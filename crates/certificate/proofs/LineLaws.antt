@@ -1,11 +1,13 @@
 -- Lines are read from the piece that comes next.
-use Rattle.std.proofs.Common.{◌≡◌, ℕ, zero, suc, ◌+◌, ◌^◌, ◌<◌, ◌%◌, Bool, true, leb, ◌&&◌, List, [], ◌∷◌, ◌++◌, length, take, Option, Some, None, All, ℤ, pos, negsuc, refl, sym, ap, ◌∙◌, append_assoc, arith, inl, inr, unsigned_abs}
+use Rattle.std.proofs.Common.{◌≡◌, ℕ, suc, ◌+◌, ◌-◌, ◌^◌, ◌<◌, ◌≤◌, ◌%◌, Bool, true, leb, ◌&&◌, List, [], ◌∷◌, ◌++◌, length, take, drop, Option, Some, None, All, ℤ, pos, negsuc, refl, sym, ap, ◌∙◌, append_assoc, arith, unsigned_abs}
 use Rattle.std.specs.Prelude.{decimal, codes, flat_map}
 use Rattle.std.specs.Fmt.{signed_decimal}
-use Rattle.std.proofs.lemmas.Bool.{le-leb, cases_Bool, and_parts}
+use Rattle.std.proofs.Math.Seq.{drop-append_seam}
+use Rattle.std.proofs.lemmas.Bool.{le-leb, and_parts}
 use Rattle.std.proofs.lemmas.Fmt.{decimal_by_steps}
 use Rattle.std.proofs.lemmas.List.Elements.{All-head, All-tail}
-use Rattle.std.proofs.lemmas.Option.{none-some}
+use Rattle.std.proofs.lemmas.List.{length-append, length-drop, length-take-le, take-append-drop}
+use Rattle.std.proofs.lemmas.Option.{none-some, same_Some}
 use Rattle.scan.specs.Reading.{◌>>=◌, Read, ended}
 use Rattle.scan.specs.Words.{any, field_at, IsField}
 use Rattle.scan.proofs.Toolbox.{Reads, reads_as, reads_nothing, reads_after, skips_byte, ended_takes, ended_again}
@@ -14,6 +16,8 @@ use Rattle.graph.specs.declared.circuit.Lit.{Lit}
 use Rattle.graph.specs.declared.circuit.Property.{Property as AProperty}
 use Rattle.graph.specs.declared.circuit.Property.TheVariants.{Bad, Justice, Output}
 use Rattle.graph.specs.Properties.{position_of, property_text}
+use Rattle.pieces.specs.Pieces.{is_inner, piece_at, GoesOn}
+use Rattle.pieces.proofs.PieceLaws.{goes_nil, goes_one, goes_append, piece_whole}
 use Rattle.lrat.specs.Limits.{IsId, IsHint, IsLine}
 use Rattle.lrat.specs.Literals.{IsLiteral}
 use Rattle.lrat.specs.Texts.{SpellsLine, spaced}
@@ -23,12 +27,11 @@ use Rattle.certificate.specs.declared.head.Version.{Version}
 use Rattle.certificate.specs.declared.head.Version.TheVariants as version
 use Rattle.certificate.specs.declared.kinds.SectionKind.{SectionKind}
 use Rattle.certificate.specs.declared.kinds.SectionKind.TheVariants as kind
-use Rattle.certificate.specs.Pieces.{is_inner, piece_at, GoesOn, IsOfPiece}
+use Rattle.certificate.specs.Pieces.{IsOfPiece}
 use Rattle.certificate.specs.Reading.{greatest, first_line_at, property_at, clause_at, item_at}
 use Rattle.certificate.specs.Streams.{letter_at, letter_of}
 use Rattle.certificate.proofs.HeadLaws.{IsFirstLine, IsPropertyLine, IsClauseLine, first_line_reads, property_reads, clause_reads}
 use Rattle.certificate.proofs.SectionLaws.{IsItem, item_reads}
-use Rattle.certificate.proofs.PieceLaws.{goes_nil, goes_one, goes_append}
 
 -- ---- what is a line
 
@@ -151,14 +154,6 @@ piece_of_line : (body rest : List ℕ) → GoesOn body → piece_at ((body ++ 10
 unfolding piece_at
 piece_of_line body rest goes = ap piece_at (append_assoc body (10 ∷ []) rest) ∙ goes (10 ∷ rest)
 
-pub piece_whole : (bytes : List ℕ) → (piece_at bytes).0 ++ (piece_at bytes).1 ≡ bytes
-unfolding piece_at
-piece_whole [] = refl
-piece_whole (c ∷ cs) = elim (cases_Bool (is_inner c)) [
-  | inl y ↦ rw y (ap (λ (w : List ℕ). c ∷ w) (piece_whole cs))
-  | inr n ↦ rw n refl
-]
-
 by_cases : {A : Type 0} (o : Read A) (e : Option A) (rest : List ℕ) → ((x : A) (r : List ℕ) → o ≡ Some (x, r) → (e ≡ Some x) × (r ≡ rest)) → ((x : A) → e ≡ Some x → o ≡ Some (x, rest)) → o ≡ (e >>= λ x. Some (x, rest))
 by_cases (Some (x, r)) e rest f g = let q = f x r refl in rw (q.0, q.1) refl
 by_cases None (Some x) rest f g = g x refl
@@ -207,10 +202,52 @@ letter_of_piece k = of_piece (letter_reads k) (letter_is_line k)
 pub line_of_piece : IsOfPiece item_at
 line_of_piece = of_piece item_reads item_is_line
 
--- what is read of the first bytes takes some
-pub some_taken : {A : Type 0} {p : List ℕ → Read A} → IsOfPiece p → (bytes : List ℕ) (n : ℕ) (x : A) → ended (p (take n bytes)) ≡ Some x → 0 < n
-some_taken law bytes zero x e = absurd (none-some x (sym law.takes ∙ e))
-some_taken law bytes (suc n) x e = omega arith
+-- ---- what is read of bytes that have the piece, and others behind it
+
+bound_some : {A : Type 0} (read : Read A) (o : Option A) (after rest : List ℕ) (x : A) → read ≡ (o >>= λ x. Some (x, after)) → read ≡ Some (x, rest) → (o ≡ Some x) × (after ≡ rest)
+bound_some read None after rest x is e = absurd (none-some (x, rest) (sym is ∙ e))
+bound_some {A} read (Some y) after rest x is e = let same = same_Some (y, after) (x, rest) (sym is ∙ e) in (ap (λ (w : A × List ℕ). Some w.0) same, ap (λ (w : A × List ℕ). w.1) same)
+
+bound_none : {A : Type 0} (read : Read A) (o : Option A) (after : List ℕ) → read ≡ (o >>= λ x. Some (x, after)) → read ≡ None → o ≡ None
+bound_none read None after is e = refl
+bound_none read (Some y) after is e = absurd (none-some (y, after) (sym e ∙ is))
+
+-- it is read of the piece alone, and what follows is what follows the piece
+pub read_alone : {A : Type 0} {p : List ℕ → Read A} → IsOfPiece p → (bytes : List ℕ) (x : A) (rest : List ℕ) → p bytes ≡ Some (x, rest) → (ended (p (piece_at bytes).0) ≡ Some x) × ((piece_at bytes).1 ≡ rest)
+read_alone {A} {p} law bytes x rest e = bound_some (p bytes) (ended (p (piece_at bytes).0)) (piece_at bytes).1 rest x (law.from_piece bytes) e
+
+pub none_alone : {A : Type 0} {p : List ℕ → Read A} → IsOfPiece p → (bytes : List ℕ) → p bytes ≡ None → ended (p (piece_at bytes).0) ≡ None
+none_alone {A} {p} law bytes e = bound_none (p bytes) (ended (p (piece_at bytes).0)) (piece_at bytes).1 (law.from_piece bytes) e
+
+-- what follows are the last bytes
+rest_behind : {A : Type 0} {p : List ℕ → Read A} → IsOfPiece p → (bytes : List ℕ) (x : A) (rest : List ℕ) → p bytes ≡ Some (x, rest) → (piece_at bytes).0 ++ rest ≡ bytes
+rest_behind law bytes x rest e = ap (λ (w : List ℕ). (piece_at bytes).0 ++ w) (sym (read_alone law bytes x rest e).1) ∙ piece_whole bytes
+
+some_front : {A : Type 0} {p : List ℕ → Read A} → IsOfPiece p → (front : List ℕ) (x : A) → ended (p front) ≡ Some x → 0 < length front
+some_front law [] x e = absurd (none-some x (sym law.takes ∙ e))
+some_front law (c ∷ cs) x e = omega arith
+
+-- some byte was taken
+pub rest_shorter : {A : Type 0} {p : List ℕ → Read A} → IsOfPiece p → (bytes : List ℕ) (x : A) (rest : List ℕ) → p bytes ≡ Some (x, rest) → length rest < length bytes
+rest_shorter law bytes x rest e =
+    let some = some_front law (piece_at bytes).0 x (read_alone law bytes x rest e).0 in
+    omega (arith, some, ap length (rest_behind law bytes x rest e), length-append (piece_at bytes).0 rest)
+
+pub rest_within : {A : Type 0} {p : List ℕ → Read A} → IsOfPiece p → (later : List ℕ) (n : ℕ) (x : A) (rest : List ℕ) → n ≤ length later → p (take n later) ≡ Some (x, rest) → length rest < n
+rest_within law later n x rest within e = omega (arith, rest_shorter law (take n later) x rest e, length-take-le n later within)
+
+-- where what was taken is skipped, less is left
+pub rest_less : {A : Type 0} {p : List ℕ → Read A} → IsOfPiece p → (later now : List ℕ) (n : ℕ) (x : A) (rest : List ℕ) → n ≤ length later → p (take n later) ≡ Some (x, rest) → now ≡ drop (n - length rest) later → length now < length later
+rest_less law later now n x rest within e is = omega (arith, rest_within law later n x rest within e, ap length is, length-drop (n - length rest) later, within)
+
+-- and what follows is left
+pub rest_skipped : {A : Type 0} {p : List ℕ → Read A} → IsOfPiece p → (later : List ℕ) (n : ℕ) (x : A) (rest : List ℕ) → n ≤ length later → p (take n later) ≡ Some (x, rest) → drop (n - length rest) later ≡ rest ++ drop n later
+rest_skipped law later n x rest within e =
+    let front : List ℕ = (piece_at (take n later)).0 in
+    let behind : front ++ rest ≡ take n later = rest_behind law (take n later) x rest e in
+    let whole : later ≡ front ++ (rest ++ drop n later) = sym (take-append-drop n later) ∙ ap (λ (w : List ℕ). w ++ drop n later) (sym behind) ∙ append_assoc front rest (drop n later) in
+    let at : n - length rest ≡ length front = omega (arith, ap length behind, length-append front rest, length-take-le n later within) in
+    ap (λ k. drop k later) at ∙ ap (λ (w : List ℕ). drop (length front) w) whole ∙ drop-append_seam front (rest ++ drop n later)
 
 -- ---- what is read of a whole line
 

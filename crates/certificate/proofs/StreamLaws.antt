@@ -1,15 +1,16 @@
 -- A reader finds what the text says, however its source cuts it.
 use Rattle.std.specs.Prelude.{IsErrAnd}
 use Rattle.base.specs.Witness.{witness}
-use Rattle.std.proofs.Common.{◌≡◌, ℕ, zero, suc, ◌+◌, ◌-◌, ◌<◌, ◌≤◌, List, [], ◌∷◌, ◌++◌, length, take, drop, Option, Some, None, Result, Ok, Err, refl, sym, ap, subst, ◌∙◌, arith, inl, inr}
-use Rattle.std.proofs.lemmas.Bool.{cases_Bool}
-use Rattle.std.proofs.lemmas.List.{append-nil, length-take-le, length-append, nil_from_length}
+use Rattle.std.proofs.Common.{◌≡◌, ℕ, zero, suc, ◌+◌, ◌-◌, ◌<◌, ◌≤◌, List, [], ◌∷◌, ◌++◌, length, take, drop, Option, Some, None, Result, Ok, Err, refl, sym, ap, subst, ◌∙◌, append_assoc, arith}
+use Rattle.std.proofs.lemmas.List.{append-nil, length-append, nil_from_length}
 use Rattle.std.proofs.lemmas.Option.{none-some, same_Some}
 use Rattle.scan.specs.Reading.{◌>>=◌, Read, Fails, ended}
 use Rattle.scan.specs.Bytes.{byte_at}
 use Rattle.scan.specs.Words.{any, field_at}
 use Rattle.scan.specs.Lists.{many_at, until_at, items_at, value_then}
 use Rattle.scan.proofs.Loops.{with_front, regroup, many_more, many_done}
+use Rattle.pieces.specs.Pieces.{piece_at, Lies}
+use Rattle.pieces.proofs.PieceLaws.{piece_nil}
 use Rattle.lrat.specs.declared.line.Line.{Line as ALine}
 use Rattle.scan.specs.declared.fault.Fault.{Fault}
 use Rattle.scan.specs.declared.fault.Fault.TheVariants.{Memory, Text}
@@ -18,7 +19,7 @@ use Rattle.certificate.specs.declared.reader_error.ReaderError.TheVariants.{Refu
 use Rattle.certificate.specs.declared.cert_error.CertError.TheVariants as text
 use Rattle.certificate.specs.declared.refusal.Refusal.{Refusal}
 use Rattle.certificate.specs.declared.refusal.Refusal.TheVariants as kind
-use Rattle.certificate.specs.Pieces.{is_inner, piece_at, Splits}
+use Rattle.certificate.specs.Pieces.{IsOfPiece}
 use Rattle.certificate.specs.Refusals.{error_of}
 use Rattle.certificate.specs.declared.kinds.SectionKind.{SectionKind}
 use Rattle.certificate.specs.declared.certificate.Certificate.{Certificate}
@@ -26,33 +27,41 @@ use Rattle.certificate.specs.Reading.{greatest, first_line_at, property_at, clau
 use Rattle.certificate.specs.Streams.{AreLeft, Finds, FindsWith, ForText, StillReads, end_at, letter_at, letter_of, parts_at}
 use Rattle.certificate.specs.Texts.{SpellsCertificate}
 use Rattle.certificate.proofs.CertificateLaws.{certificate_reads}
+use Rattle.certificate.proofs.LineLaws.{none_alone, read_alone, rest_skipped}
 use Rattle.certificate.proofs.SectionLaws.{item_reads, item_takes}
-
--- what is read is read from the piece that comes next
-abbrev FromPiece : {A : Type 0} → (List ℕ → Read A) → Type 0
-FromPiece p = (bytes : List ℕ) → p bytes ≡ (ended (p (piece_at bytes).0) >>= λ x. Some (x, (piece_at bytes).1))
 
 -- what is read is x, and what follows it is left
 abbrev pub Moves : {A : Type 0} → Read A → A → List ℕ → Option (List ℕ) → Type 0
 Moves read x held source = (rest : List ℕ) × (read ≡ Some (x, rest)) × AreLeft held source rest
 
-first_found : {A : Type 0} (p : List ℕ → Read A) → FromPiece p → (held later ys : List ℕ) (b : Option (List ℕ)) (n : ℕ) (x : A) → Splits held (Some ys) later b n → ended (p (take n later)) ≡ Some x → Moves (p (held ++ ys)) x (drop n later) b
-first_found p law held later ys None n x splits e = absurd splits
-first_found p law held later ys (Some zs) n x splits e =
-    (drop n later ++ zs, law (held ++ ys) ∙ ap (λ (w : List ℕ × List ℕ). ended (p w.0) >>= λ x. Some (x, w.1)) splits ∙ ap (λ o. o >>= λ x. Some (x, drop n later ++ zs)) e, (zs, refl, refl))
+-- the first bytes that are held have the next piece, so the whole text is read as they are
+whole_found : {A : Type 0} {p : List ℕ → Read A} → IsOfPiece p → (held ys later zs : List ℕ) (n : ℕ) (x : A) (rest : List ℕ) → Lies held (Some ys) later (Some zs) n → p (take n later) ≡ Some (x, rest) → p (held ++ ys) ≡ Some (x, rest ++ (drop n later ++ zs))
+whole_found {A} {p} law held ys later zs n x rest lies e =
+    let (alone, after) = read_alone law (take n later) x rest e in
+    law.from_piece (held ++ ys) ∙ ap (λ (w : List ℕ × List ℕ). ended (p w.0) >>= λ x. Some (x, w.1)) (ap piece_at lies.0 ∙ lies.1) ∙ ap (λ o. o >>= λ x. Some (x, (piece_at (take n later)).1 ++ (drop n later ++ zs))) alone ∙ ap (λ (w : List ℕ). Some (x, w ++ (drop n later ++ zs))) after
 
-none_found : {A : Type 0} (p : List ℕ → Read A) → FromPiece p → (held later ys : List ℕ) (b : Option (List ℕ)) (n : ℕ) → Splits held (Some ys) later b n → ended (p (take n later)) ≡ None → p (held ++ ys) ≡ None
-none_found p law held later ys None n splits e = absurd splits
-none_found p law held later ys (Some zs) n splits e =
-    law (held ++ ys) ∙ ap (λ (w : List ℕ × List ℕ). ended (p w.0) >>= λ x. Some (x, w.1)) splits ∙ ap (λ o. o >>= λ x. Some (x, drop n later ++ zs)) e
+whole_none : {A : Type 0} {p : List ℕ → Read A} → IsOfPiece p → (held ys later zs : List ℕ) (n : ℕ) → Lies held (Some ys) later (Some zs) n → p (take n later) ≡ None → p (held ++ ys) ≡ None
+whole_none {A} {p} law held ys later zs n lies e =
+    law.from_piece (held ++ ys) ∙ ap (λ (w : List ℕ × List ℕ). ended (p w.0) >>= λ x. Some (x, w.1)) (ap piece_at lies.0 ∙ lies.1) ∙ ap (λ o. o >>= λ x. Some (x, (piece_at (take n later)).1 ++ (drop n later ++ zs))) (none_alone law (take n later) e)
 
-pub moves_from : {A : Type 0} (p : List ℕ → Read A) → FromPiece p → (held later ys : List ℕ) (a b : Option (List ℕ)) (n : ℕ) (x : A) → a ≡ Some ys → Splits held a later b n → ended (p (take n later)) ≡ Some x → Moves (p (held ++ ys)) x (drop n later) b
-moves_from p law held later ys None b n x known splits e = absurd (none-some ys known)
-moves_from p law held later ys (Some xs) b n x known splits e = first_found p law held later ys b n x (subst (λ w. Splits held (Some w) later b n) (same_Some xs ys known) splits) e
+first_found : {A : Type 0} {p : List ℕ → Read A} → IsOfPiece p → (held later now ys : List ℕ) (b : Option (List ℕ)) (n : ℕ) (x : A) (rest : List ℕ) → Lies held (Some ys) later b n → n ≤ length later → p (take n later) ≡ Some (x, rest) → now ≡ drop (n - length rest) later → Moves (p (held ++ ys)) x now b
+first_found law held later now ys None n x rest lies within e is = absurd lies
+first_found law held later now ys (Some zs) n x rest lies within e is =
+    let left : now ≡ rest ++ drop n later = is ∙ rest_skipped law later n x rest within e in
+    let behind : rest ++ (drop n later ++ zs) ≡ now ++ zs = sym (append_assoc rest (drop n later) zs) ∙ ap (λ (w : List ℕ). w ++ zs) (sym left) in
+    (rest ++ (drop n later ++ zs), whole_found law held ys later zs n x rest lies e, (zs, refl, behind))
 
-pub stuck_from : {A : Type 0} (p : List ℕ → Read A) → FromPiece p → (held later ys : List ℕ) (a b : Option (List ℕ)) (n : ℕ) → a ≡ Some ys → Splits held a later b n → ended (p (take n later)) ≡ None → p (held ++ ys) ≡ None
-stuck_from p law held later ys None b n known splits e = absurd (none-some ys known)
-stuck_from p law held later ys (Some xs) b n known splits e = none_found p law held later ys b n (subst (λ w. Splits held (Some w) later b n) (same_Some xs ys known) splits) e
+none_found : {A : Type 0} {p : List ℕ → Read A} → IsOfPiece p → (held later ys : List ℕ) (b : Option (List ℕ)) (n : ℕ) → Lies held (Some ys) later b n → p (take n later) ≡ None → p (held ++ ys) ≡ None
+none_found law held later ys None n lies e = absurd lies
+none_found law held later ys (Some zs) n lies e = whole_none law held ys later zs n lies e
+
+pub moves_from : {A : Type 0} (p : List ℕ → Read A) → IsOfPiece p → (held later now ys : List ℕ) (a b : Option (List ℕ)) (n : ℕ) (x : A) (rest : List ℕ) → a ≡ Some ys → Lies held a later b n → n ≤ length later → p (take n later) ≡ Some (x, rest) → now ≡ drop (n - length rest) later → Moves (p (held ++ ys)) x now b
+moves_from p law held later now ys None b n x rest known lies within e is = absurd (none-some ys known)
+moves_from p law held later now ys (Some xs) b n x rest known lies within e is = first_found law held later now ys b n x rest (subst (λ w. Lies held (Some w) later b n) (same_Some xs ys known) lies) within e is
+
+pub stuck_from : {A : Type 0} (p : List ℕ → Read A) → IsOfPiece p → (held later ys : List ℕ) (a b : Option (List ℕ)) (n : ℕ) → a ≡ Some ys → Lies held a later b n → p (take n later) ≡ None → p (held ++ ys) ≡ None
+stuck_from p law held later ys None b n known lies e = absurd (none-some ys known)
+stuck_from p law held later ys (Some xs) b n known lies e = none_found law held later ys b n (subst (λ w. Lies held (Some w) later b n) (same_Some xs ys known) lies) e
 
 -- a text refusal is reported only of a text from which nothing is read
 pub for_text : (total : ℕ) (fault : Fault Refusal) (P : Type 0) {A : Type 0} (o : Option A) → (o ≡ None → P) → Fails fault o → ForText (Refused (error_of total fault)) P
@@ -66,40 +75,28 @@ for_text total (Text kind.Truncated left) P o f none = f none
 
 -- ---- the end of the text
 
-piece_nil : (bytes : List ℕ) → (piece_at bytes).0 ≡ [] → bytes ≡ []
-unfolding piece_at
-piece_nil [] e = refl
-piece_nil (c ∷ cs) e = elim (cases_Bool (is_inner c)) [
-  | inl y ↦ absurd (let z = rw y at e in cc)
-  | inr n ↦ absurd (let z = rw n at e in cc)
-]
-
 nil_piece : (piece_at []).0 ≡ []
 unfolding piece_at
 nil_piece = refl
 
-nil_piece_rest : (bytes later : List ℕ) → bytes ≡ [] → (piece_at bytes).1 ≡ later → [] ≡ later
-unfolding piece_at
-nil_piece_rest bytes later none is = rw none at is
-
-over_from : (held later ys : List ℕ) (b : Option (List ℕ)) → Splits held (Some ys) later b 0 → held ++ ys ≡ []
-over_from held later ys None splits = absurd splits
-over_from held later ys (Some zs) splits = piece_nil (held ++ ys) (ap (λ (w : List ℕ × List ℕ). w.0) splits)
+over_from : (held later ys : List ℕ) (b : Option (List ℕ)) → Lies held (Some ys) later b 0 → held ++ ys ≡ []
+over_from held later ys None lies = absurd lies
+over_from held later ys (Some zs) lies = lies.0 ∙ piece_nil (later ++ zs) (ap (λ (w : List ℕ × List ℕ). w.0) lies.1 ∙ nil_piece)
 
 -- no piece comes where no byte is left
-pub none_left : (held later ys : List ℕ) (a b : Option (List ℕ)) (n : ℕ) → a ≡ Some ys → n ≡ 0 → Splits held a later b n → held ++ ys ≡ []
-none_left held later ys None b n known is splits = absurd (none-some ys known)
-none_left held later ys (Some xs) b n known is splits = over_from held later ys b (subst (λ k. Splits held (Some ys) later b k) is (subst (λ w. Splits held (Some w) later b n) (same_Some xs ys known) splits))
+pub none_left : (held later ys : List ℕ) (a b : Option (List ℕ)) (n : ℕ) → a ≡ Some ys → n ≡ 0 → Lies held a later b n → held ++ ys ≡ []
+none_left held later ys None b n known is lies = absurd (none-some ys known)
+none_left held later ys (Some xs) b n known is lies = over_from held later ys b (subst (λ k. Lies held (Some ys) later b k) is (subst (λ w. Lies held (Some w) later b n) (same_Some xs ys known) lies))
 
-no_piece : (held later ys : List ℕ) (b : Option (List ℕ)) (n : ℕ) → Splits held (Some ys) later b n → n ≤ length later → held ++ ys ≡ [] → n ≡ 0
-no_piece held later ys None n splits within none = absurd splits
-no_piece held later ys (Some zs) n splits within none =
-    let front : take n later ≡ [] = sym (ap (λ (w : List ℕ × List ℕ). w.0) splits) ∙ ap (λ (w : List ℕ). (piece_at w).0) none ∙ nil_piece in
-    omega (arith, length-take-le n later within, ap length front)
+no_piece : (held later ys : List ℕ) (b : Option (List ℕ)) (n : ℕ) → Lies held (Some ys) later b n → n ≤ length later → held ++ ys ≡ [] → n ≡ 0
+no_piece held later ys None n lies within none = absurd lies
+no_piece held later ys (Some zs) n lies within none =
+    let all = ap length (sym lies.0 ∙ none) in
+    omega (arith, within, all, length-append later zs)
 
-pub some_left : (held later ys : List ℕ) (a b : Option (List ℕ)) (n : ℕ) → a ≡ Some ys → Splits held a later b n → n ≤ length later → held ++ ys ≡ [] → n ≡ 0
-some_left held later ys None b n known splits within none = absurd (none-some ys known)
-some_left held later ys (Some xs) b n known splits within none = no_piece held later ys b n (subst (λ w. Splits held (Some w) later b n) (same_Some xs ys known) splits) within none
+pub some_left : (held later ys : List ℕ) (a b : Option (List ℕ)) (n : ℕ) → a ≡ Some ys → Lies held a later b n → n ≤ length later → held ++ ys ≡ [] → n ≡ 0
+some_left held later ys None b n known lies within none = absurd (none-some ys known)
+some_left held later ys (Some xs) b n known lies within none = no_piece held later ys b n (subst (λ w. Lies held (Some w) later b n) (same_Some xs ys known) lies) within none
 
 pub for_text_map : (e : ReaderError) (P Q : Type 0) → (P → Q) → ForText e P → ForText e Q
 for_text_map (Refused (text.OutOfMemory refused)) P Q f p = tt
@@ -286,22 +283,22 @@ section_finds P k bytes held later source last r first next =
 nil_parts : (a b : List ℕ) → a ++ b ≡ [] → b ≡ []
 nil_parts a b e = nil_from_length b (omega (arith, ap length e, length-append a b))
 
-left_of : (held later ys : List ℕ) (b : Option (List ℕ)) → Splits held (Some ys) later b 0 → held ++ ys ≡ [] → AreLeft later b []
-left_of held later ys None splits none = absurd splits
-left_of held later ys (Some zs) splits none = (zs, refl, nil_piece_rest (held ++ ys) (later ++ zs) none (ap (λ (w : List ℕ × List ℕ). w.1) splits))
+left_of : (held later ys : List ℕ) (b : Option (List ℕ)) (n : ℕ) → Lies held (Some ys) later b n → held ++ ys ≡ [] → AreLeft later b []
+left_of held later ys None n lies none = absurd lies
+left_of held later ys (Some zs) n lies none = (zs, refl, sym none ∙ lies.0)
 
-left_over : (held later ys : List ℕ) (a b : Option (List ℕ)) (n : ℕ) → a ≡ Some ys → n ≡ 0 → Splits held a later b n → AreLeft later b []
-left_over held later ys None b n known is splits = absurd (none-some ys known)
-left_over held later ys (Some xs) b n known is splits =
-    let s : Splits held (Some ys) later b 0 = subst (λ k. Splits held (Some ys) later b k) is (subst (λ w. Splits held (Some w) later b n) (same_Some xs ys known) splits) in
-    left_of held later ys b s (over_from held later ys b s)
+left_over : (held later ys : List ℕ) (a b : Option (List ℕ)) (n : ℕ) → a ≡ Some ys → Lies held a later b n → held ++ ys ≡ [] → AreLeft later b []
+left_over held later ys None b n known lies none = absurd (none-some ys known)
+left_over held later ys (Some xs) b n known lies none = left_of held later ys b n (subst (λ w. Lies held (Some w) later b n) (same_Some xs ys known) lies) none
 
 end_of : (bytes later : List ℕ) (b : Option (List ℕ)) → bytes ≡ [] → AreLeft later b [] → Finds (end_at bytes) (Ok (tt {0})) later b
 unfolding end_at
 end_of bytes later b none left = ([], rw none refl, left)
 
-pub end_found : (held later ys : List ℕ) (a b : Option (List ℕ)) (n : ℕ) → a ≡ Some ys → n ≡ 0 → Splits held a later b n → Finds (end_at (held ++ ys)) (Ok (tt {0})) later b
-end_found held later ys a b n known is splits = end_of (held ++ ys) later b (none_left held later ys a b n known is splits) (left_over held later ys a b n known is splits)
+pub end_found : (held later ys : List ℕ) (a b : Option (List ℕ)) (n : ℕ) → a ≡ Some ys → n ≡ 0 → Lies held a later b n → Finds (end_at (held ++ ys)) (Ok (tt {0})) later b
+end_found held later ys a b n known is lies =
+    let none = none_left held later ys a b n known is lies in
+    end_of (held ++ ys) later b none (left_over held later ys a b n known lies none)
 
 -- the text goes on
 no_end : (bytes : List ℕ) → (bytes ≡ [] → ⊥) → end_at bytes ≡ None
@@ -309,8 +306,8 @@ unfolding end_at
 no_end [] some = absurd (some refl)
 no_end (c ∷ cs) some = refl
 
-pub end_missed : (held later ys : List ℕ) (a b : Option (List ℕ)) (n : ℕ) → a ≡ Some ys → Splits held a later b n → n ≤ length later → 0 < n → end_at (held ++ ys) ≡ None
-end_missed held later ys a b n known splits within some = no_end (held ++ ys) (λ none. let nought = some_left held later ys a b n known splits within none in omega (arith, nought, some))
+pub end_missed : (held later ys : List ℕ) (a b : Option (List ℕ)) (n : ℕ) → a ≡ Some ys → Lies held a later b n → n ≤ length later → 0 < n → end_at (held ++ ys) ≡ None
+end_missed held later ys a b n known lies within some = no_end (held ++ ys) (λ none. let nought = some_left held later ys a b n known lies within none in omega (arith, nought, some))
 
 pub at_end : (bytes rest : List ℕ) (u : Unit {0}) → end_at bytes ≡ Some (u, rest) → bytes ≡ []
 unfolding end_at

@@ -5,8 +5,8 @@ use Rattle.scan.specs.declared.fault.Fault.{Fault}
 use Rattle.scan.specs.declared.fault.Fault.TheVariants.{Memory, Text}
 use Rattle.certificate.specs.declared.cert_error.CertError.{CertError}
 use Rattle.certificate.specs.declared.cert_error.CertError.TheVariants as error
-use Rattle.certificate.specs.declared.pieces.PieceError.{PieceError}
-use Rattle.certificate.specs.declared.pieces.PieceError.TheVariants as piece
+use Rattle.pieces.specs.declared.pieces.PieceError.{PieceError}
+use Rattle.pieces.specs.declared.pieces.PieceError.TheVariants as piece
 use Rattle.certificate.specs.declared.reader_error.ReaderError.{ReaderError}
 use Rattle.certificate.specs.declared.reader_error.ReaderError.TheVariants.{Refused, Device}
 use Rattle.certificate.specs.declared.refusal.Refusal.{Refusal}

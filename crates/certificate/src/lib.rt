@@ -20,7 +20,6 @@ mod certificate;
 mod head;
 mod kinds;
 mod limits;
-mod pieces;
 mod reader;
 mod reader_error;
 mod reading;

@@ -1,48 +1,30 @@
 //! The text of a certificate, read line by line.
 
 ghost use Rattle.std.specs.Prelude.{◌≡◌, ◌+◌, ◌-◌, ◌^◌, ◌<◌, ◌≤◌, ◌↔◌, ℕ, List, [], ◌++◌, Some, IfOk, IfSome, IsErrOf, length};
-ghost use Rattle.scan.specs.Reading.{Gives, ended};
+ghost use Rattle.scan.specs.Reading.{ended};
 ghost use Rattle.scan.specs.Words.{any, field_at};
 ghost use Rattle.lrat.specs.Limits.{IsLine};
 ghost use Rattle.certificate.specs.Pieces.{IsOfPiece};
-ghost use Rattle.certificate.specs.Reading.{clause_at, first_line_at, greatest, item_at, line_where, property_at};
+ghost use Rattle.certificate.specs.Reading.{clause_at, first_line_at, greatest, item_at, property_at};
 ghost use Rattle.certificate.specs.Streams.{Finds, end_at, letter_at, with_line};
 ghost use Rattle.certificate.specs.declared.reader_error.ReaderError.TheVariants.{Device};
 
 use crate::cert_error::CertError;
 use crate::head::{ClauseLine, Version};
 use crate::kinds::{CountLine, FirstLine, LetterLine, PropertyLine, SectionKind};
-use crate::pieces::Pieces;
 use crate::reader_error::ReaderError;
 use crate::refusal::{Refusal, error};
 use crate::sections::line_into;
 use base::{Refused, Source};
 use graph::{Lit, Property, Seq};
 use lrat::LineBuffer;
-use scan::{Fault, LineKind};
+use pieces::Pieces;
+use scan::LineKind;
 use std::alloc::Global;
 use std::marker::Model;
 
-/// What the one line holds that the whole text is.
-fn only_line<L: LineKind<Refusal = Refusal>>(
-    alloc: Global,
-    text: &[u8],
-    context: L::Context,
-) -> Result<L::Item, Fault<Refusal>>
-    requires { L.allows context }
-    ensures { Gives (λ x. x) result (ended (L.at context text.now)) }
-{
-    let (item, rest) = L::line(alloc, text, context)?;
-    if !rest.is_empty() {
-        return Err(Fault::Text {
-            kind: Refusal::Byte,
-            left: rest.len(),
-        });
-    }
-    Ok(item)
-}
-
 /// Reads the next line, of a kind that is read from one piece.
+#[tactic(auto, using(crate::proofs::LineLaws::rest_within))]
 fn line_from<L: LineKind<Refusal = Refusal>, S: Source>(
     alloc: Global,
     pieces: &mut Pieces,
@@ -60,33 +42,18 @@ fn line_from<L: LineKind<Refusal = Refusal>, S: Source>(
     ensures others { (IsErrOf result Device → ⊥) → S.failed from.new ≡ S.failed from.old }
 {
     let n = pieces.next(from)?;
-    let total = before.saturating_add(n);
-    let item = match only_line::<L>(alloc, pieces.first(n), context) {
-        Ok(item) => item,
-        Err(fault) => return Err(ReaderError::Refused(error(total, fault))),
+    let (item, left) = match L::line(alloc, pieces.first(n), context) {
+        Ok((item, rest)) => (item, rest.len()),
+        Err(fault) => return Err(ReaderError::Refused(error(before.saturating_add(n), fault))),
     };
-    pieces.skip(n);
-    *before = total;
+    let taken = n - left;
+    pieces.skip(taken);
+    *before = before.saturating_add(taken);
     Ok(item)
 }
 
-/// Reads the one line of a section that the whole text is into the buffer, and answers whether it
-/// is one; else it ends the section.
-fn only_item(alloc: Global, line: &mut LineBuffer, text: &[u8]) -> Result<bool, Fault<Refusal>>
-    ensures { Gives (λ there. line_where there line.new) result (ended (item_at text.now)) }
-{
-    let (there, rest) = line_into(alloc, line, text)?;
-    if !rest.is_empty() {
-        return Err(Fault::Text {
-            kind: Refusal::Byte,
-            left: rest.len(),
-        });
-    }
-    Ok(there)
-}
-
 /// Reads the next line of a section into the buffer, and answers whether there is one.
-#[tactic(auto, using(crate::proofs::LineLaws::line_of_piece, crate::proofs::LineLaws::line_within))]
+#[tactic(auto, using(crate::proofs::LineLaws::line_of_piece, crate::proofs::LineLaws::line_within, crate::proofs::LineLaws::rest_within, crate::proofs::LineLaws::rest_less))]
 fn item_from<S: Source>(
     alloc: Global,
     pieces: &mut Pieces,
@@ -102,21 +69,21 @@ fn item_from<S: Source>(
     ensures others { (IsErrOf result Device → ⊥) → S.failed from.new ≡ S.failed from.old }
 {
     let n = pieces.next(from)?;
-    let total = before.saturating_add(n);
-    let there = match only_item(alloc, line, pieces.first(n)) {
-        Ok(there) => there,
-        Err(fault) => return Err(ReaderError::Refused(error(total, fault))),
+    let (there, left) = match line_into(alloc, line, pieces.first(n)) {
+        Ok((there, rest)) => (there, rest.len()),
+        Err(fault) => return Err(ReaderError::Refused(error(before.saturating_add(n), fault))),
     };
-    pieces.skip(n);
-    *before = total;
+    let taken = n - left;
+    pieces.skip(taken);
+    *before = before.saturating_add(taken);
     Ok(there)
 }
 
 /// The text of a certificate, line by line, as a source gives its bytes. It holds the bytes of one
-/// line, and beside them what the source gives at once. However the source cuts its bytes, a call
-/// reads what `read` reads there, and refuses it as `read` does; it takes bytes up to the end of the
-/// line, or to the first byte that no certificate has, and 4,096 at most beyond it. A contract sees
-/// the bytes that were taken and not read.
+/// line and at most two chunks of 4,096 beside. However the source cuts its bytes, a call reads what
+/// `read` reads there, and refuses it as `read` does; it takes bytes up to the end of the line, or to
+/// the first byte that no certificate has, and a chunk at most beyond it. A contract sees the bytes
+/// that were taken and not read.
 ///
 /// After a refusal the text is given up: nothing is said of the bytes that are left.
 #[derive(Drop)]

@@ -2,12 +2,14 @@
 
 ghost use Rattle.std.specs.Prelude.{◌≡◌};
 ghost use Rattle.certificate.specs.Numbers.{reader_number_of, reader_place_of};
+ghost use Rattle.certificate.specs.Refusals.{of_piece};
 ghost use Rattle.base.specs.Witness.{witness};
 ghost use Rattle.certificate.specs.declared.cert_error.CertError.TheVariants.{OutOfMemory};
 ghost use Rattle.certificate.specs.declared.reader_error.ReaderError.TheVariants.{Refused};
 
 use crate::cert_error::CertError;
 use base::Refused;
+use pieces::PieceError;
 use thiserror::Error;
 
 /// Why the parts of a certificate's text are not read on.
@@ -26,6 +28,19 @@ impl From<Refused> for ReaderError {
 
     fn from(refused: Refused) -> ReaderError {
         ReaderError::Refused(CertError::OutOfMemory(refused))
+    }
+}
+
+impl From<PieceError> for ReaderError {
+    ghost from_gives = { λ e r. r ≡ of_piece e };
+
+    fn from(e: PieceError) -> ReaderError {
+        match e {
+            PieceError::OutOfMemory(refused) => ReaderError::Refused(CertError::OutOfMemory(
+                refused,
+            )),
+            PieceError::Device => ReaderError::Device,
+        }
     }
 }
 

@@ -1,0 +1,14 @@
+use Rattle.std.proofs.Common.{rules, ◌≡◌, take, Some, arith}
+use Rattle.certificate.proofs.LineLaws.{rest_less}
+use Rattle.certificate.proofs.StreamLaws.{moves_from}
+use Rattle.certificate.proofs.reader.line_from.Goals as goal
+
+pub returns-clause-says : goal.returns-clause-says
+returns-clause-says g c ys known =
+    let read : g.L.LineKind.at c.args.context (take c.in_ok-n.n c.next.new.self) ≡ Some (c.in-Ok.item, c.in-Ok.rest.now) = search rules in
+    moves_from (g.L.LineKind.at c.args.context) c.requires.line c.args.pieces.now c.next.new.self c.skip.new.self ys _ _ c.in_ok-n.n c.in-Ok.item c.in-Ok.rest.now known c.in_ok-n.ensures.lies c.in_ok-n.ensures.within read c.skip.ensures
+
+pub returns-clause-moves : goal.returns-clause-moves
+returns-clause-moves g c =
+    let read : g.L.LineKind.at c.args.context (take c.in_ok-n.n c.next.new.self) ≡ Some (c.in-Ok.item, c.in-Ok.rest.now) = search rules in
+    omega (arith, rest_less c.requires.line c.next.new.self c.skip.new.self c.in_ok-n.n c.in-Ok.item c.in-Ok.rest.now c.in_ok-n.ensures.within read c.skip.ensures, c.in_ok-n.ensures.moves)
