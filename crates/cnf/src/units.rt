@@ -16,11 +16,7 @@ use std::alloc::Global;
 
 /// Puts the units of the initial case of a clause into a list, which is emptied first and keeps its
 /// memory: each of the clause's literals is denied.
-pub fn init_units_into(
-    units: &mut Vec<i32>,
-    circuit: &Model,
-    clause: &[Lit],
-) -> Result<(), Refused>
+pub fn init_units_into(units: &mut Vec<i32>, circuit: &Model, clause: &[Lit]) -> Result<(), Refused>
     requires { IsOverLatches circuit.now clause.now }
     ensures units { OnOk result (units.new.items ≡ init_units_of circuit.now clause.now) }
     ensures in_range { OnOk result (All (IsLiteral (circuit.now.max_var + 1)) units.new.items) }
