@@ -11,13 +11,20 @@ use std::io::Read;
 use std::test::Fail;
 
 /// How many bytes come at once, at most.
-static PIECES: [usize; 4] = [1, 2, 3, 7];
+pub static PIECES: [usize; 4] = [1, 2, 3, 7];
 
 /// A reader of a text that gives at most this number of bytes a call.
 #[derive(Drop)]
-struct Cut<'a> {
+pub struct Cut<'a> {
     rest: &'a [u8],
     most: usize,
+}
+
+impl<'a> Cut<'a> {
+    /// At the beginning of the text.
+    pub fn new(text: &'a [u8], most: usize) -> Cut<'a> {
+        Cut { rest: text, most }
+    }
 }
 
 impl Read for Cut<'_> {
@@ -35,7 +42,7 @@ fn is_told(alloc: Global, text: &[u8], most: usize, line: &[u8]) -> Result<bool,
     run_safe(
         alloc,
         &mut FromBytes::new(HOLD),
-        &mut FromRead::new(Cut { rest: text, most }),
+        &mut FromRead::new(Cut::new(text, most)),
         &mut out,
     )?;
     Ok(out.as_slice() == line)

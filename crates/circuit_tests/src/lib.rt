@@ -13,6 +13,8 @@ mod circuits;
 #[cfg(test)]
 mod cut_certificate;
 #[cfg(test)]
+mod cut_stimulus;
+#[cfg(test)]
 mod encodings;
 #[cfg(test)]
 mod large_certificate;
