@@ -1,21 +1,30 @@
 -- What the answers to a circuit and a stimulus say.
-use Rattle.std.proofs.Common.{◌≡◌, ◌≢◌, ℕ, List, inl, inr, refl, ap, subst}
+use Rattle.std.proofs.Common.{◌≡◌, ◌≢◌, ℕ, List, None, Some, inl, inr, refl, sym, ap, subst}
 use Rattle.base.specs.Witness.{witness}
+use Rattle.scan.proofs.Toolbox.{spells_one}
 use Rattle.graph.specs.declared.circuit.Property.{Property}
+use Rattle.graph.specs.declared.parts.Parts.{Parts}
 use Rattle.graph.specs.File.{File}
 use Rattle.aiger.specs.Loading.{IsFileOf, SpellsNoFile}
 use Rattle.stimulus.specs.declared.value.Stimulus.{Stimulus}
+use Rattle.stimulus.specs.declared.value.Stimulus.TheVariants.{Holds, Violated, Unknown}
 use Rattle.stimulus.specs.declared.stim_error.StimError.{StimError}
-use Rattle.stimulus.specs.declared.stim_error.StimError.TheVariants.{OutOfMemory as NoMemory}
+use Rattle.stimulus.specs.declared.stim_error.StimError.TheVariants as text
 use Rattle.stimulus.specs.declared.judge_error.JudgeError.{JudgeError}
 use Rattle.stimulus.specs.declared.judge_error.JudgeError.TheVariants.{OutOfMemory}
 use Rattle.stimulus.specs.Causes.{HasCause}
-use Rattle.stimulus.specs.Numbers.{stim_number_of, judge_number_of}
+use Rattle.stimulus.specs.Numbers.{stim_number_of}
 use Rattle.stimulus.specs.Shown.{Shows}
 use Rattle.stimulus.specs.Texts.{SpellsStimulus, property_of}
+use Rattle.stimulus.proofs.ExactLaws.{nothing_shown}
+use Rattle.stimulus.proofs.TextLaws.{stimulus_reads}
+use Rattle.replay.specs.declared.text_error.TextError.{TextError}
+use Rattle.replay.specs.declared.text_error.TextError.TheVariants.{Refused, Device}
+use Rattle.replay.specs.Found.{IsFound}
+use Rattle.replay.specs.Streams.{ForText}
 use Rattle.checker.specs.declared.stop.Stop.{Stop}
-use Rattle.checker.specs.Stops.{stop_of, IsStop}
-use Rattle.checker.specs.Replayed.{Confirms, IsStimulusOf, IsRunRefusal, SpellsNoStimulus}
+use Rattle.checker.specs.Stops.{stop_of, stop_of_text, IsStop}
+use Rattle.checker.specs.Replayed.{Confirms, IsStimulusOf, IsRunRefusal}
 use Rattle.checker.proofs.Said.{stops, stops_more}
 
 -- ---- where it stops
@@ -23,42 +32,53 @@ use Rattle.checker.proofs.Said.{stops, stops_more}
 pub first_stops : (xs ys : List ℕ) (s : Stop) → IsStop (SpellsNoFile xs) s → IsStop (IsRunRefusal xs ys) s
 first_stops xs ys s is = stops_more (SpellsNoFile xs) (IsRunRefusal xs ys) s (λ n none. inl none) is
 
-pub text_stops : (ys : List ℕ) (e : StimError) → ((s : Stimulus) → SpellsStimulus ys s → e ≡ NoMemory witness) → IsStop (SpellsNoStimulus ys) (stop_of (stim_number_of e))
-text_stops ys e only =
-    stops (SpellsNoStimulus ys) (stim_number_of e)
-    (λ other. record { none = λ s spells. other (ap stim_number_of (only s spells)); error = e; other = λ is. other (ap stim_number_of is); number = refl })
+-- the one stimulus of the text
+only_stimulus : (ys : List ℕ) (s : Stimulus) → SpellsStimulus ys s → IsStimulusOf ys s
+only_stimulus ys s spells = record { spells = spells; only = λ t other. spells_one stimulus_reads ys t s other spells }
 
-pub second_stops : (xs ys : List ℕ) (f : File) (s : Stop) → IsFileOf xs f → IsStop (SpellsNoStimulus ys) s → IsStop (IsRunRefusal xs ys) s
-second_stops xs ys f s first is = stops_more (SpellsNoStimulus ys) (IsRunRefusal xs ys) s (λ n none. inr (inl (f, first, none))) is
+-- no stimulus has the text
+text_refused : (xs ys : List ℕ) (f : File) (e : StimError) → IsFileOf xs f → ((s : Stimulus) → SpellsStimulus ys s → ⊥) → IsStop (IsRunRefusal xs ys) (stop_of (stim_number_of e))
+text_refused xs ys f e first none =
+    stops (IsRunRefusal xs ys) (stim_number_of e)
+    (λ other. inr (inl (f, first, record { none = none; error = e; other = λ is. other (ap stim_number_of is); number = refl })))
 
-pub judge_stops : (xs ys : List ℕ) (f : File) (s : Stimulus) (e : JudgeError) → IsFileOf xs f → IsStimulusOf ys s → HasCause f.model s e → (e ≢ OutOfMemory witness → Shows f.model s → ⊥) →
-    IsStop (IsRunRefusal xs ys) (stop_of (judge_number_of e))
-judge_stops xs ys f s e first second cause none =
-    stops (IsRunRefusal xs ys) (judge_number_of e)
-    (λ other. inr (inr (
+pub text_stops : (xs ys : List ℕ) (f : File) (e : TextError) → IsFileOf xs f → ForText e ((s : Stimulus) → SpellsStimulus ys s → ⊥) → IsStop (IsRunRefusal xs ys) (stop_of_text e)
+text_stops xs ys f (Refused (text.OutOfMemory refused)) first none = tt
+text_stops xs ys f (Refused (text.Status place)) first none = text_refused xs ys f (text.Status place) first none
+text_stops xs ys f (Refused (text.PropertyLine place)) first none = text_refused xs ys f (text.PropertyLine place) first none
+text_stops xs ys f (Refused (text.Character place)) first none = text_refused xs ys f (text.Character place) first none
+text_stops xs ys f (Refused (text.Truncated place)) first none = text_refused xs ys f (text.Truncated place) first none
+text_stops xs ys f (Refused (text.AfterEnd place)) first none = text_refused xs ys f (text.AfterEnd place) first none
+text_stops xs ys f Device first none = tt
+
+-- where a cause stands, nothing is shown
+none_shown : (m : Parts) (s : Stimulus) (e : JudgeError) → HasCause m s e → e ≢ OutOfMemory witness → Shows m s → ⊥
+none_shown m (Violated p initial inputs) e cause other shows = nothing_shown m p initial inputs e cause other shows
+none_shown m (Holds p) e cause other (inl b) = b.replays
+none_shown m (Holds p) e cause other (inr l) = l.replays
+none_shown m (Unknown p) e cause other (inl b) = b.replays
+none_shown m (Unknown p) e cause other (inr l) = l.replays
+
+pub found_some : (xs ys : List ℕ) (f : File) (s : Stimulus) (n : ℕ) → IsFileOf xs f → SpellsStimulus ys s → IsFound f.model s (Some n) → IsRunRefusal xs ys n
+found_some xs ys f s n first spells (e, other, cause, is) =
+    inr (inr (
       f,
       s,
       first,
-      second,
-      record {
-        none = none (λ is. other (ap judge_number_of is));
-        error = e;
-        other = λ is. other (ap judge_number_of is);
-        cause = cause;
-        number = refl;
-      },
-    )))
+      only_stimulus ys s spells,
+      record { none = none_shown f.model s e cause other; error = e; other = other; cause = cause; number = is },
+    ))
 
 -- ---- what is confirmed
 
-pub confirms : (xs ys : List ℕ) (f : File) (s : Stimulus) → IsFileOf xs f → IsStimulusOf ys s → Shows f.model s → Confirms xs ys (property_of s)
-confirms xs ys f s first second shows = record {
+pub found_none : (xs ys : List ℕ) (f : File) (s : Stimulus) (p : Property) → IsFileOf xs f → SpellsStimulus ys s → p ≡ property_of s → IsFound f.model s None → Confirms xs ys p
+found_none xs ys f s p first spells same shows = record {
   file = f;
   stimulus = s;
   first = first.spells;
-  second = second.spells;
+  second = spells;
   shows = shows;
-  property = refl;
+  property = sym same;
 }
 
 -- there is no reason to refuse it

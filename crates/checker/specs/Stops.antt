@@ -7,6 +7,9 @@ use Rattle.aiger.specs.declared.load_error.LoadError.TheVariants.{Refused, Devic
 use Rattle.certificate.specs.Numbers.{number_of as certificate_number}
 use Rattle.certificate.specs.declared.reader_error.ReaderError.{ReaderError}
 use Rattle.certificate.specs.declared.reader_error.ReaderError.TheVariants.{Refused as CertificateRefused, Device as SourceFailed}
+use Rattle.stimulus.specs.Numbers.{stim_number_of}
+use Rattle.replay.specs.declared.text_error.TextError.{TextError}
+use Rattle.replay.specs.declared.text_error.TextError.TheVariants.{Refused as StimulusRefused, Device as TextFailed}
 use Rattle.checker.specs.declared.stop.Stop.{Stop}
 use Rattle.checker.specs.declared.stop.Stop.TheVariants.{No, OutOfMemory, Device}
 
@@ -22,16 +25,15 @@ abbrev pub stop_of_reader : ReaderError → Stop
 stop_of_reader (CertificateRefused e) = stop_of (certificate_number e)
 stop_of_reader SourceFailed = Device
 
+abbrev pub stop_of_text : TextError → Stop
+stop_of_text (StimulusRefused e) = stop_of (stim_number_of e)
+stop_of_text TextFailed = Device
+
 -- where it stops, a no has a number of which this holds
 abbrev pub IsStop : (ℕ → Type 0) → Stop → Type 0
 IsStop IsNo (No n) = IsNo n
 IsStop IsNo (OutOfMemory refused) = Unit {0}
 IsStop IsNo Device = Unit {0}
-
--- the device failed once where it stops for a device, and else not
-pub record Fails {X : Type 0} (result : Result X Stop) (before after : ℕ) : Type 0 where
-  pub failed : IsErrOf result Device → after ≡ before + 1
-  pub kept : (IsErrOf result Device → ⊥) → after ≡ before
 
 -- counts of the failures of the three devices
 pub record Counts : Type 0 where

@@ -10,7 +10,8 @@
 //!   upheld.
 //!
 //! - `run_stimulus` does the same for a circuit and a stimulus: `yes run b0` exactly where the
-//!   stimulus's replay shows the violation of its property.
+//!   stimulus's replay shows the violation of its property. It replays the stimulus while it is read
+//!   (`replay`).
 //!
 //! A certificate of version 2 has lemmas: lines that are checked once, and whose clauses the step
 //! cases and the bad case then begin with, beside those of the circuit and the invariant. The initial
@@ -35,7 +36,6 @@ mod run_error;
 mod section_text;
 mod sections;
 mod stop;
-mod whole;
 
 pub use acceptance::check;
 pub use certified::run_safe;

@@ -6,8 +6,8 @@ ghost use Rattle.aiger.specs.Layouts.{SpellsFile};
 ghost use Rattle.graph.specs.declared.circuit.Property.{Property as AProperty};
 ghost use Rattle.graph.specs.File.{File};
 ghost use Rattle.checker.specs.Lines.{yes_line, no_line};
-ghost use Rattle.checker.specs.Replayed.{BeginsRunLine, Confirms, IsRunRefusal, IsStimulusOf, SpellsNoStimulus};
-ghost use Rattle.checker.specs.Stops.{IsStop, Fails, FailsOne};
+ghost use Rattle.checker.specs.Replayed.{BeginsRunLine, Confirms, IsRunRefusal};
+ghost use Rattle.checker.specs.Stops.{IsStop, FailsOne};
 ghost use Rattle.checker.specs.declared.line.Question.TheVariants.{Run};
 ghost use Rattle.checker.specs.declared.stop.Stop.TheVariants.{Device as Failure};
 ghost use Rattle.checker.specs.declared.run_error.RunError.TheVariants.{Device};
@@ -15,22 +15,10 @@ ghost use Rattle.checker.specs.declared.run_error.RunError.TheVariants.{Device};
 use crate::line::{Question, tell};
 use crate::run_error::RunError;
 use crate::stop::Stop;
-use crate::whole::read_whole;
 use aiger::load;
 use graph::{Property, Sink, Source};
+use replay::judge_source;
 use std::alloc::Global;
-use stimulus::{Stimulus, judge};
-
-/// The stimulus that the bytes of a source spell.
-fn read_stimulus<C: Source>(alloc: Global, stimulus: &mut C) -> Result<Stimulus, Stop>
-    requires { C.failed stimulus.old < 2 ^ 64 - 1 }
-    ensures says { (ys : List ℕ) → C.remaining stimulus.old ≡ Some ys → MatchResult result (λ s. IsStimulusOf ys s) (IsStop (SpellsNoStimulus ys)) }
-    ensures fails { Fails result (C.failed stimulus.old) (C.failed stimulus.new) }
-{
-    let text = read_whole(alloc, stimulus)?;
-    let stimulus = stimulus::read(alloc, text.as_slice())?;
-    Ok(stimulus)
-}
 
 /// The property whose violation is shown, by the bytes of two sources. Where the first spells no
 /// circuit, the second is not read.
@@ -46,9 +34,11 @@ fn violated_property<M: Source, C: Source>(
     ensures fails { FailsOne result Failure (record { circuit = M.failed circuit.old; evidence = C.failed stimulus.old; out = 0 }) (record { circuit = M.failed circuit.new; evidence = C.failed stimulus.new; out = 0 }) }
 {
     let file = load(alloc, circuit)?;
-    let stimulus = read_stimulus(alloc, stimulus)?;
-    judge(alloc, file.model(), &stimulus)?;
-    Ok(stimulus.property())
+    let outcome = judge_source(alloc, file.model(), stimulus)?;
+    match outcome.refusal {
+        None => Ok(outcome.property),
+        Some(number) => Err(Stop::No(number)),
+    }
 }
 
 /// Says whether the stimulus that the second source's bytes spell shows its violation in the circuit
@@ -61,7 +51,9 @@ fn violated_property<M: Source, C: Source>(
 /// of the second, anywhere in it, before what its replay shows. Where memory is refused or a source
 /// fails, nothing is put.
 ///
-/// It takes no memory beyond the file, the stimulus, two states and a valuation. While a text is read,
+/// The stimulus is replayed while it is read. For a bad literal or an output it takes no memory beyond
+/// the file, two states, a valuation and one line of the stimulus, however long that is. For a justice
+/// property it holds the lines too, and two states and a valuation more. While the first text is read,
 /// its bytes are held too.
 pub fn run_stimulus<M: Source, C: Source, W: Sink>(
     alloc: Global,

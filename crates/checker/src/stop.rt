@@ -4,15 +4,16 @@ ghost use Rattle.std.specs.Prelude.{◌≡◌};
 ghost use Rattle.base.specs.Witness.{witness};
 ghost use Rattle.graph.specs.Refusals.{number_of as read_number};
 ghost use Rattle.certificate.specs.Numbers.{number_of as certificate_number};
-ghost use Rattle.stimulus.specs.Numbers.{stim_number_of, judge_number_of};
-ghost use Rattle.checker.specs.Stops.{stop_of, stop_of_load, stop_of_reader};
+ghost use Rattle.stimulus.specs.Numbers.{stim_number_of};
+ghost use Rattle.checker.specs.Stops.{stop_of, stop_of_load, stop_of_reader, stop_of_text};
 ghost use Rattle.checker.specs.declared.stop.Stop.TheVariants.{OutOfMemory};
 
 use aiger::LoadError;
 use base::Refused;
 use certificate::{CertError, ReaderError};
 use graph::ReadError;
-use stimulus::{JudgeError, StimError};
+use replay::TextError;
+use stimulus::StimError;
 
 /// Why there is no yes.
 #[derive(Clone, Copy, Debug, PartialEq, Eq)]
@@ -88,13 +89,13 @@ impl From<StimError> for Stop {
     }
 }
 
-impl From<JudgeError> for Stop {
-    ghost from_gives = { λ e s. s ≡ stop_of (judge_number_of e) };
+impl From<TextError> for Stop {
+    ghost from_gives = { λ e s. s ≡ stop_of_text e };
 
-    fn from(e: JudgeError) -> Stop {
+    fn from(e: TextError) -> Stop {
         match e {
-            JudgeError::OutOfMemory(refused) => Stop::OutOfMemory(refused),
-            _ => Stop::No(e.number()),
+            TextError::Refused(e) => Stop::from(e),
+            TextError::Device => Stop::Device,
         }
     }
 }

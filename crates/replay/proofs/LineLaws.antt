@@ -1,0 +1,119 @@
+-- Lines are read from the piece that comes next.
+use Rattle.std.proofs.Common.{◌≡◌, ℕ, ◌+◌, ◌^◌, ◌<◌, ◌%◌, Bool, true, false, leb, List, [], ◌∷◌, ◌++◌, length, Option, Some, None, refl, sym, ap, ◌∙◌, append_assoc, arith, inl, inr}
+use Rattle.std.specs.Prelude.{decimal, flat_map}
+use Rattle.std.proofs.lemmas.Bool.{le-leb, cases_Bool}
+use Rattle.std.proofs.lemmas.Fmt.{decimal_by_steps}
+use Rattle.std.proofs.lemmas.List.{append-nil, length-append}
+use Rattle.scan.specs.Reading.{Read}
+use Rattle.scan.specs.Lists.{items_at}
+use Rattle.scan.proofs.Toolbox.{Reads}
+use Rattle.graph.specs.declared.circuit.Property.{Property as AProperty}
+use Rattle.graph.specs.declared.circuit.Property.TheVariants.{Bad, Justice, Output}
+use Rattle.graph.specs.Properties.{position_of, property_text}
+use Rattle.pieces.specs.Pieces.{is_inner, piece_at, GoesOn}
+use Rattle.pieces.proofs.PieceLaws.{goes_nil, goes_one, goes_append}
+use Rattle.stimulus.specs.Reading.{line_at, property_at, value_at}
+use Rattle.stimulus.specs.Texts.{value_text}
+use Rattle.replay.specs.declared.kinds.Status.{Status}
+use Rattle.replay.specs.declared.kinds.Status.TheVariants.{Holds, Violated, Unknown}
+use Rattle.replay.specs.Lines.{IsOfLine}
+use Rattle.replay.specs.Reading.{dot_at, status_at}
+use Rattle.replay.proofs.TextLaws.{IsDotLine, IsInput, IsLine, IsPropertyLine, IsStatusLine, dot_reads, line_reads, property_reads, status_digit, status_reads, values_reads}
+
+-- ---- what is a line
+
+-- bytes that may stand in a line before its end, and the line end
+abbrev pub IsLineText : List ℕ → Type 0
+IsLineText t = (body : List ℕ) × GoesOn body × (t ≡ body ++ 10 ∷ [])
+
+digit_inner : (d : ℕ) → d < 10 → is_inner (48 + d) ≡ true
+digit_inner d lt =
+    let low : leb 48 (48 + d) ≡ true = le-leb 48 (48 + d) (omega arith) in
+    let high : leb (48 + d) 57 ≡ true = le-leb (48 + d) 57 (omega arith) in
+    rw (low, high) refl
+
+goes_decimal : (n : ℕ) → n < 2 ^ 64 → GoesOn (decimal n)
+goes_decimal n lt =
+    decimal_by_steps (λ n ds. GoesOn ds)
+    (λ n lt. goes_one (48 + n) (digit_inner n lt))
+    (λ n ds ge before. goes_append ds ((48 + n % 10) ∷ []) before (goes_one (48 + n % 10) (digit_inner (n % 10) (omega arith))))
+    n lt
+
+goes_property : (p : AProperty) → position_of p < 4294967296 → GoesOn (property_text p)
+goes_property (Bad n) lt = goes_append (98 ∷ []) (decimal n) (goes_one 98 refl) (goes_decimal n (omega (arith, lt)))
+goes_property (Justice n) lt = goes_append (106 ∷ []) (decimal n) (goes_one 106 refl) (goes_decimal n (omega (arith, lt)))
+goes_property (Output n) lt = goes_append (111 ∷ []) (decimal n) (goes_one 111 refl) (goes_decimal n (omega (arith, lt)))
+
+goes_values : (values : List Bool) → GoesOn (flat_map value_text values)
+goes_values [] = goes_nil
+goes_values (true ∷ values) = goes_append (49 ∷ []) (flat_map value_text values) (goes_one 49 refl) (goes_values values)
+goes_values (false ∷ values) = goes_append (48 ∷ []) (flat_map value_text values) (goes_one 48 refl) (goes_values values)
+
+status_inner : (s : Status) → is_inner (status_digit s) ≡ true
+status_inner Holds = refl
+status_inner Violated = refl
+status_inner Unknown = refl
+
+status_is_line : (t : List ℕ) (s : Status) → IsStatusLine t s → IsLineText t
+status_is_line t s e = (status_digit s ∷ [], goes_one (status_digit s) (status_inner s), e)
+
+property_is_line : (t : List ℕ) (p : AProperty) → IsPropertyLine t p → IsLineText t
+property_is_line t p (spells, within) = (property_text p, goes_property p (omega (arith, within)), spells)
+
+dot_is_line : (t : List ℕ) (u : Unit {0}) → IsDotLine t u → IsLineText t
+dot_is_line t u e = (46 ∷ [], goes_one 46 refl, e)
+
+values_is_line : (t : List ℕ) (values : List Bool) → IsLine t values → IsLineText t
+values_is_line t values e = (flat_map value_text values, goes_values values, e)
+
+input_is_line : (t : List ℕ) (x : Option (List Bool)) → IsInput t x → IsLineText t
+input_is_line t None e = (46 ∷ [], goes_one 46 refl, e)
+input_is_line t (Some values) e = values_is_line t values e
+
+-- ---- a line is read from its piece
+
+piece_of_line : (body rest : List ℕ) → GoesOn body → piece_at ((body ++ 10 ∷ []) ++ rest) ≡ (body ++ 10 ∷ [], rest)
+unfolding piece_at
+piece_of_line body rest goes = ap piece_at (append_assoc body (10 ∷ []) rest) ∙ goes (10 ∷ rest)
+
+pub piece_whole : (bytes : List ℕ) → (piece_at bytes).0 ++ (piece_at bytes).1 ≡ bytes
+unfolding piece_at
+piece_whole [] = refl
+piece_whole (c ∷ cs) = elim (cases_Bool (is_inner c)) [
+  | inl y ↦ rw y (ap (λ (w : List ℕ). c ∷ w) (piece_whole cs))
+  | inr n ↦ rw n refl
+]
+
+some_bytes : (t body : List ℕ) → t ≡ body ++ 10 ∷ [] → 0 < length t
+some_bytes t body e = omega (arith, ap length e, length-append body (10 ∷ []))
+
+of_line : {A : Type 0} {p : List ℕ → Read A} {R : List ℕ → A → Type 0} → Reads p R → ((t : List ℕ) (x : A) → R t x → IsLineText t) → IsOfLine p
+of_line {A} {p} {R} law lines = record {
+  takes = λ bytes rest x e.
+      let (front, spelled, whole) = law.sound bytes x rest e in
+      let (body, goes, is) = lines front x spelled in
+      (front, whole, some_bytes front body is);
+  goes = λ bytes rest more x e.
+      let (front, spelled, whole) = law.sound bytes x rest e in
+      ap p (ap (λ (w : List ℕ). w ++ more) whole ∙ append_assoc front rest more) ∙ law.complete front x (rest ++ more) spelled;
+  cut = λ bytes rest x e.
+      let (front, spelled, whole) = law.sound bytes x rest e in
+      let (body, goes, is) = lines front x spelled in
+      let piece : (piece_at bytes).0 ≡ front = ap (λ (w : List ℕ × List ℕ). w.0) (ap piece_at (whole ∙ ap (λ (w : List ℕ). w ++ rest) is) ∙ piece_of_line body rest goes) ∙ sym is in
+      ap p (piece ∙ sym (append-nil front)) ∙ law.complete front x [] spelled;
+}
+
+pub status_of_line : IsOfLine status_at
+status_of_line = of_line status_reads status_is_line
+
+pub property_of_line : IsOfLine property_at
+property_of_line = of_line property_reads property_is_line
+
+pub dot_of_line : IsOfLine dot_at
+dot_of_line = of_line dot_reads dot_is_line
+
+pub values_of_line : IsOfLine (items_at value_at)
+values_of_line = of_line values_reads values_is_line
+
+pub input_of_line : IsOfLine line_at
+input_of_line = of_line line_reads input_is_line

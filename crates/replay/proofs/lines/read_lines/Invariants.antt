@@ -1,0 +1,14 @@
+use Rattle.std.proofs.Common.{◌≡◌, ◌+◌, ◌++◌, ℕ, List, Some, length}
+use Rattle.scan.specs.Lists.{items_at}
+use Rattle.stimulus.specs.Reading.{line_at}
+use Rattle.replay.specs.Streams.{StillReads}
+use Rattle.replay.proofs.lines.read_lines.Given as goal
+
+abbrev pub invariant-reading : goal.invariant-reading
+invariant-reading g l = record {
+  steady : g.S.Source.failed l.from ≡ g.S.Source.failed l.fn.from;
+  reads : (ys : List ℕ) → g.S.Source.remaining l.fn.from ≡ Some ys → StillReads (items_at line_at (l.fn.reader ++ ys)) l.lines.items (items_at line_at) l.reader (g.S.Source.remaining l.from);
+}
+
+abbrev pub decreases-reading : goal.decreases-reading
+decreases-reading g l = length l.reader + g.S.Source.most l.from

@@ -1,0 +1,14 @@
+use Rattle.std.proofs.Common.{◌≡◌, ◌+◌, ◌++◌, ℕ, Bool, List, Some, length}
+use Rattle.scan.specs.Lists.{items_at}
+use Rattle.stimulus.specs.Reading.{line_at}
+use Rattle.replay.specs.Streams.{StillReads}
+use Rattle.replay.proofs.lines.skip_lines.Given as goal
+
+abbrev pub invariant-skipping : goal.invariant-skipping
+invariant-skipping g l = record {
+  steady : g.S.Source.failed l.from ≡ g.S.Source.failed l.fn.from;
+  reads : (ys : List ℕ) → g.S.Source.remaining l.fn.from ≡ Some ys → (front : List (List Bool)) × StillReads (items_at line_at (l.fn.reader ++ ys)) front (items_at line_at) l.reader (g.S.Source.remaining l.from);
+}
+
+abbrev pub decreases-skipping : goal.decreases-skipping
+decreases-skipping g l = length l.reader + g.S.Source.most l.from

@@ -1,0 +1,39 @@
+use Rattle.std.proofs.Common.{◌≡◌, ◌-◌, ◌++◌, None, ap, arith, length, refl, subst, sym, ◌∙◌}
+use Rattle.std.proofs.lemmas.List.{length-drop}
+use Rattle.stimulus.specs.Reading.{line_at}
+use Rattle.replay.specs.Reading.{line_where}
+use Rattle.replay.proofs.LineLaws.{input_of_line}
+use Rattle.replay.specs.declared.text_error.TextError.TheVariants.{Refused}
+use Rattle.replay.specs.Streams.{ForText}
+use Rattle.replay.proofs.StreamLaws.{for_text, moves_from, some_taken, stuck_from}
+use Rattle.replay.proofs.reader.input_from.Goals as goal
+
+pub returns-in-Err-clause-says : goal.returns-in-Err-clause-says
+returns-in-Err-clause-says g c ys known =
+    let p = line_at in
+    let first = c.first.result.now in
+    let P = p (c.args.pieces.now ++ ys) ≡ None in
+    subst (λ e. ForText (Refused e) P) (sym c.error.ensures)
+    (for_text c.saturating_add.result c.in-Err.fault P (p first)
+    (λ none. stuck_from p input_of_line c.args.pieces.now c.next.new.self ys _ (g.S.Source.remaining c.next.new.from) c.in_ok-n.n known c.in_ok-n.ensures.lies (ap p (sym c.first.ensures) ∙ none))
+    c.in-Err.ensures)
+
+pub overflow_sub-taken : goal.overflow_sub-taken
+overflow_sub-taken g c =
+    let p = line_at in
+    let less = some_taken p input_of_line c.next.new.self c.in-Ok.rest.now c.in_ok-n.n (line_where c.in-Ok.there c.line_or_end.new.line.items) c.in_ok-n.ensures.within (ap p (sym c.first.ensures) ∙ c.in-Ok.ensures) in
+    omega (arith, less)
+
+pub returns-clause-says : goal.returns-clause-says
+returns-clause-says g c ys known =
+    let p = line_at in
+    let k = c.in_ok-n.n - length c.in-Ok.rest.now in
+    let (rest, is, left) = moves_from p input_of_line c.args.pieces.now c.next.new.self ys c.in-Ok.rest.now _ (g.S.Source.remaining c.next.new.from) c.in_ok-n.n k (line_where c.in-Ok.there c.line_or_end.new.line.items) known c.in_ok-n.ensures.lies c.in_ok-n.ensures.within refl (ap p (sym c.first.ensures) ∙ c.in-Ok.ensures) in
+    (rest, is, (left.0, left.1, left.2 ∙ ap (λ w. w ++ left.0) (sym c.skip.ensures)))
+
+pub returns-clause-moves : goal.returns-clause-moves
+returns-clause-moves g c =
+    let p = line_at in
+    let less = some_taken p input_of_line c.next.new.self c.in-Ok.rest.now c.in_ok-n.n (line_where c.in-Ok.there c.line_or_end.new.line.items) c.in_ok-n.ensures.within (ap p (sym c.first.ensures) ∙ c.in-Ok.ensures) in
+    let left = ap length c.skip.ensures in
+    omega (arith, less, left, length-drop (c.in_ok-n.n - length c.in-Ok.rest.now) c.next.new.self, c.in_ok-n.ensures.within, c.in_ok-n.ensures.moves)

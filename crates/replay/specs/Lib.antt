@@ -1,0 +1,5 @@
+pub mod Reading
+pub mod Refusals
+pub mod Lines
+pub mod Streams
+pub mod Found

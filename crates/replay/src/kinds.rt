@@ -1,0 +1,167 @@
+//! The kinds of lines in the text of a stimulus.
+
+ghost use Rattle.std.specs.Prelude.{◌≡◌};
+ghost use Rattle.scan.specs.Reading.{Gives};
+ghost use Rattle.stimulus.specs.Reading.{line_at, property_at, value_at};
+ghost use Rattle.replay.specs.Reading.{digit_at, dot_at, line_where, status_at};
+
+use crate::refusal::{IN_LINES, IN_PROPERTY, IN_STATUS, Refusal, begins_otherwise};
+use graph::Property;
+use scan::{Fault, ItemKind, LineKind, byte, field, items_into, tag};
+use std::alloc::Global;
+
+/// What the first line of a stimulus says.
+#[derive(Clone, Copy, Debug, PartialEq, Eq)]
+pub enum Status {
+    /// The property holds.
+    Holds,
+    /// A run violates the property.
+    Violated,
+    /// Nothing is known of the property.
+    Unknown,
+}
+
+/// The status that a text begins with, and what follows it.
+#[tactic(auto, unfolding(crate::specs::Reading::digit_at))]
+fn digit(text: &[u8]) -> Result<(Status, &[u8]), Fault<Refusal>>
+    ensures { Gives (λ x. (x.0, x.1.now)) result (digit_at text.now) }
+{
+    match text {
+        [b'0', rest @ ..] => Ok((Status::Holds, rest)),
+        [b'1', rest @ ..] => Ok((Status::Violated, rest)),
+        [b'2', rest @ ..] => Ok((Status::Unknown, rest)),
+        _ => Err(begins_otherwise(text, Refusal::Status)),
+    }
+}
+
+/// The first line.
+pub struct StatusLine;
+
+impl LineKind for StatusLine {
+    type Item = Status;
+
+    type Context = ();
+
+    type Refusal = Refusal;
+
+    ghost allows = { λ _. Unit {0} };
+
+    ghost at = { λ _ bytes. status_at bytes };
+
+    #[tactic(auto, unfolding(crate::specs::Reading::status_at))]
+    fn line(_alloc: Global, text: &[u8], _context: ()) -> Result<(Status, &[u8]), Fault<Refusal>> {
+        let (status, rest) = digit(text)?;
+        let rest = byte(rest, b'\n', IN_STATUS)?;
+        Ok((status, rest))
+    }
+}
+
+/// The line of the property.
+pub struct PropertyLine;
+
+impl LineKind for PropertyLine {
+    type Item = Property;
+
+    type Context = ();
+
+    type Refusal = Refusal;
+
+    ghost allows = { λ _. Unit {0} };
+
+    ghost at = { λ _ bytes. property_at bytes };
+
+    #[tactic(auto, unfolding(stimulus::specs::Reading::property_at, stimulus::specs::Reading::bad_at, stimulus::specs::Reading::justice_at, stimulus::specs::Reading::output_at))]
+    fn line(
+        _alloc: Global,
+        text: &[u8],
+        _context: (),
+    ) -> Result<(Property, &[u8]), Fault<Refusal>> {
+        match text {
+            [b'b', position @ ..] => {
+                let (n, rest) = field(position, u32::MAX, b'\n', IN_PROPERTY)?;
+                Ok((Property::Bad(n), rest))
+            }
+            [b'j', position @ ..] => {
+                let (n, rest) = field(position, u32::MAX, b'\n', IN_PROPERTY)?;
+                Ok((Property::Justice(n), rest))
+            }
+            [b'o', position @ ..] => {
+                let (n, rest) = field(position, u32::MAX, b'\n', IN_PROPERTY)?;
+                Ok((Property::Output(n), rest))
+            }
+            _ => Err(begins_otherwise(text, Refusal::PropertyLine)),
+        }
+    }
+}
+
+/// The line of a dot.
+pub struct DotLine;
+
+impl LineKind for DotLine {
+    type Item = ();
+
+    type Context = ();
+
+    type Refusal = Refusal;
+
+    ghost allows = { λ _. Unit {0} };
+
+    ghost at = { λ _ bytes. dot_at bytes };
+
+    #[tactic(auto, unfolding(crate::specs::Reading::dot_at))]
+    fn line(_alloc: Global, text: &[u8], _context: ()) -> Result<((), &[u8]), Fault<Refusal>> {
+        let rest = tag(text, b".\n", IN_LINES)?;
+        Ok(((), rest))
+    }
+}
+
+/// The values of a line, up to its line end.
+pub struct Values;
+
+impl ItemKind for Values {
+    type Item = bool;
+
+    type Context = ();
+
+    type Refusal = Refusal;
+
+    ghost allows = { λ _. Unit {0} };
+
+    ghost at = { λ _ bytes. value_at bytes };
+
+    #[tactic(auto, unfolding(stimulus::specs::Reading::value_at))]
+    fn item(
+        _alloc: Global,
+        text: &[u8],
+        _context: (),
+    ) -> Result<(Option<bool>, &[u8]), Fault<Refusal>> {
+        match text {
+            [b'0', rest @ ..] => Ok((Some(false), rest)),
+            [b'1', rest @ ..] => Ok((Some(true), rest)),
+            [b'\n', rest @ ..] => Ok((None, rest)),
+            _ => Err(begins_otherwise(text, Refusal::Character)),
+        }
+    }
+}
+
+/// Reads an input line into the buffer, and answers whether it is one; else it is the dot's line
+/// behind the last. What follows comes with the answer.
+#[tactic(auto, unfolding(stimulus::specs::Reading::line_at))]
+pub fn line_or_end<'t>(
+    alloc: Global,
+    line: &mut Vec<bool>,
+    text: &'t [u8],
+) -> Result<(bool, &'t [u8]), Fault<Refusal>>
+    ensures { Gives (λ x. (line_where x.0 line.new.items, x.1.now)) result (line_at text.now) }
+{
+    match text {
+        [b'.', behind @ ..] => {
+            let rest = byte(behind, b'\n', IN_LINES)?;
+            Ok((false, rest))
+        }
+        _ => {
+            let rest = items_into::<Values>(alloc, line, text, (), Refusal::Truncated)?;
+            Ok((true, rest))
+        }
+    }
+}

@@ -1,0 +1,100 @@
+//! Input lines, replayed while they are read.
+
+ghost use Rattle.std.specs.Prelude.{◌≡◌, ◌+◌, ◌-◌, ◌^◌, ◌<◌, ◌≤◌, ◌↔◌, ℕ, Bool, List, ◌++◌, All, length, true, IsTrue, IsSome, Some, IsErrOf};
+ghost use Rattle.graph.specs.Properties.{IsWatched};
+ghost use Rattle.graph.specs.Valuation.{Valuation, value_of, variable};
+ghost use Rattle.graph.specs.declared.circuit.Property.{Property as AProperty};
+ghost use Rattle.graph.specs.declared.parts.Parts.{Parts as AParts};
+ghost use Rattle.scan.specs.Lists.{items_at};
+ghost use Rattle.simulate.specs.Replays.{begun};
+ghost use Rattle.simulate.specs.Starts.{Starts};
+ghost use Rattle.stimulus.specs.Reading.{line_at};
+ghost use Rattle.replay.specs.Found.{AreFound, ArePlayed};
+ghost use Rattle.replay.specs.Streams.{FindsWith};
+ghost use Rattle.replay.specs.declared.text_error.TextError.TheVariants.{Device};
+
+use crate::lines::{Lengths, refuse_lines, skip_lines};
+use crate::numbers::{BAD_NOT_SET, CONSTRAINT_BROKEN, LINE_LENGTH, NO_INPUT_LINE};
+use crate::reader::Reader;
+use crate::text_error::TextError;
+use base::Source;
+use graph::Lit;
+use simulate::Replay;
+use std::alloc::Global;
+
+/// Whether every constraint is true at the time stepped last.
+fn keeps(replay: &Replay<'_>, constraints: &[Lit]) -> bool
+    requires stepped { IsSome replay.now.now }
+    requires in_range { All (λ a. variable a ≤ replay.now.circuit.max_var) constraints.now }
+    ensures { (w : Valuation) → replay.now.now ≡ Some w → (IsTrue result ↔ All (λ a. value_of w a ≡ true) constraints.now) }
+{
+    for lit in constraints {
+        if !replay.value(*lit) {
+            return false;
+        }
+    }
+    true
+}
+
+/// What is found where all lines were played, and whether there is one.
+fn found_at_end(replay: &Replay<'_>, bad: Lit, some: bool) -> Option<u8>
+    requires stepped { IsTrue some → IsSome replay.now.now }
+    requires in_range { variable bad ≤ replay.now.circuit.max_var }
+    ensures { (m : AParts) (p : AProperty) (initial : List Bool) (lines : List (List Bool)) → IsWatched m p bad → Starts m.latches initial → length initial ≡ length m.latches → ArePlayed m initial some replay.now lines → AreFound m p initial lines result }
+{
+    if !some {
+        return Some(NO_INPUT_LINE);
+    }
+    if replay.value(bad) {
+        None
+    } else {
+        Some(BAD_NOT_SET)
+    }
+}
+
+/// Reads the input lines, and plays each as it is read: whether the literal is set at the last time,
+/// or else the number of the first cause. After it the rest is only read, and behind a constraint
+/// that is broken the lines' lengths are looked at.
+pub fn play_lines<S: Source>(
+    alloc: Global,
+    replay: &mut Replay<'_>,
+    constraints: &[Lit],
+    long: usize,
+    bad: Lit,
+    line: &mut Vec<bool>,
+    reader: &mut Reader,
+    from: &mut S,
+) -> Result<Option<u8>, TextError>
+    requires source { S.failed from.old < 2 ^ 64 - 1 }
+    requires constraints { constraints.now ≡ replay.old.circuit.constraints }
+    requires long { long ≡ length replay.old.circuit.inputs }
+    requires in_range { All (λ a. variable a ≤ replay.old.circuit.max_var) constraints.now }
+    requires bad { variable bad ≤ replay.old.circuit.max_var }
+    ensures says { (ys : List ℕ) (p : AProperty) (initial : List Bool) → S.remaining from.old ≡ Some ys → IsWatched replay.old.circuit p bad → replay.old ≡ begun replay.old.circuit initial → Starts replay.old.circuit.latches initial → length initial ≡ length replay.old.circuit.latches → FindsWith (AreFound replay.old.circuit p initial) (items_at line_at (reader.old ++ ys)) result reader.new (S.remaining from.new) }
+    ensures device { IsErrOf result Device ↔ (S.failed from.new ≡ S.failed from.old + 1) }
+    ensures others { (IsErrOf result Device → ⊥) → S.failed from.new ≡ S.failed from.old }
+{
+    let mut some = false;
+    'playing: loop {
+        let there = reader.line_into(alloc, line, from)?;
+        if !there {
+            return Ok(found_at_end(replay, bad, some));
+        }
+        if line.len() != long {
+            return skip_lines(alloc, LINE_LENGTH, line, reader, from);
+        }
+        replay.step(line.as_slice());
+        if !keeps(replay, constraints) {
+            return refuse_lines(
+                alloc,
+                CONSTRAINT_BROKEN,
+                long,
+                Lengths::Fit,
+                line,
+                reader,
+                from,
+            );
+        }
+        some = true;
+    }
+}
