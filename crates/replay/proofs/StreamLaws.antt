@@ -12,14 +12,14 @@ use Rattle.scan.specs.declared.fault.Fault.{Fault}
 use Rattle.scan.specs.declared.fault.Fault.TheVariants.{Memory, Text}
 use Rattle.pieces.specs.Pieces.{is_inner, piece_at, Lies}
 use Rattle.stimulus.specs.declared.stim_error.StimError.TheVariants as text
-use Rattle.replay.specs.declared.refusal.Refusal.{Refusal}
-use Rattle.replay.specs.declared.refusal.Refusal.TheVariants as kind
+use Rattle.stimulus.specs.declared.reading.Refusal.{Refusal}
+use Rattle.stimulus.specs.declared.reading.Refusal.TheVariants as kind
 use Rattle.replay.specs.declared.text_error.TextError.{TextError}
 use Rattle.replay.specs.declared.text_error.TextError.TheVariants.{Refused, Device}
 use Rattle.replay.specs.Lines.{IsOfLine}
 use Rattle.stimulus.specs.Reading.{line_at}
 use Rattle.replay.specs.Reading.{end_at, line_where}
-use Rattle.replay.specs.Refusals.{error_of}
+use Rattle.stimulus.specs.Refusals.{error_of}
 use Rattle.replay.specs.Streams.{AreLeft, Finds, FindsWith, ForText, StillReads}
 use Rattle.replay.proofs.LineLaws.{input_of_line, piece_whole}
 
@@ -83,6 +83,7 @@ for_text total (Text kind.Status left) P o f none = f none
 for_text total (Text kind.PropertyLine left) P o f none = f none
 for_text total (Text kind.Character left) P o f none = f none
 for_text total (Text kind.Truncated left) P o f none = f none
+for_text total (Text kind.AfterEnd left) P o f none = f none
 
 pub for_text_map : (e : TextError) (P Q : Type 0) → (P → Q) → ForText e P → ForText e Q
 for_text_map (Refused (text.OutOfMemory refused)) P Q f p = tt

@@ -20,7 +20,7 @@ use crate::kinds::Status;
 use crate::lines::{Lengths, read_lines, refuse_lines, skip_lines};
 use crate::numbers::{INITIAL_RESET, LINE_LENGTH, NO_PROPERTY, NOT_VIOLATED};
 use crate::playing::play_lines;
-use crate::reader::Reader;
+use crate::reader::LineReader;
 use crate::text_error::TextError;
 use base::{Refused, Source};
 use graph::{Lit, Model, Property, Seq};
@@ -35,7 +35,7 @@ fn judge_bad<S: Source>(
     bad: Lit,
     initial: &[bool],
     line: &mut Vec<bool>,
-    reader: &mut Reader,
+    reader: &mut LineReader,
     from: &mut S,
 ) -> Result<Option<u8>, TextError>
     requires source { S.failed from.old < 2 ^ 64 - 1 }
@@ -96,7 +96,7 @@ fn judge_justice<S: Source>(
     j: u32,
     initial: Seq<bool>,
     line: &mut Vec<bool>,
-    reader: &mut Reader,
+    reader: &mut LineReader,
     from: &mut S,
 ) -> Result<Option<u8>, TextError>
     requires source { S.failed from.old < 2 ^ 64 - 1 }
@@ -120,7 +120,7 @@ fn judge_lines<S: Source>(
     property: Property,
     initial: Seq<bool>,
     line: &mut Vec<bool>,
-    reader: &mut Reader,
+    reader: &mut LineReader,
     from: &mut S,
 ) -> Result<Option<u8>, TextError>
     requires source { S.failed from.old < 2 ^ 64 - 1 }
@@ -158,7 +158,7 @@ fn judge_run<S: Source>(
     alloc: Global,
     circuit: &Model,
     property: Property,
-    reader: &mut Reader,
+    reader: &mut LineReader,
     from: &mut S,
 ) -> Result<Option<u8>, TextError>
     requires source { S.failed from.old < 2 ^ 64 - 1 }
@@ -183,7 +183,7 @@ fn judge_run<S: Source>(
 /// Reads what follows the property's line of a stimulus without a run.
 fn refuse_concluded<S: Source>(
     alloc: Global,
-    reader: &mut Reader,
+    reader: &mut LineReader,
     from: &mut S,
 ) -> Result<Option<u8>, TextError>
     requires source { S.failed from.old < 2 ^ 64 - 1 }
@@ -201,7 +201,7 @@ fn judge_body<S: Source>(
     circuit: &Model,
     status: Status,
     property: Property,
-    reader: &mut Reader,
+    reader: &mut LineReader,
     from: &mut S,
 ) -> Result<Option<u8>, TextError>
     requires source { S.failed from.old < 2 ^ 64 - 1 }
@@ -229,7 +229,7 @@ pub struct Outcome {
 fn judge_text<S: Source>(
     alloc: Global,
     circuit: &Model,
-    reader: &mut Reader,
+    reader: &mut LineReader,
     from: &mut S,
 ) -> Result<Outcome, TextError>
     requires source { S.failed from.old < 2 ^ 64 - 1 }
@@ -257,7 +257,7 @@ pub fn judge_source<S: Source>(
     ensures device { IsErrOf result Device ↔ (S.failed from.new ≡ S.failed from.old + 1) }
     ensures others { (IsErrOf result Device → ⊥) → S.failed from.new ≡ S.failed from.old }
 {
-    let mut reader = Reader::new(alloc)?;
+    let mut reader = LineReader::new(alloc)?;
     let outcome = judge_text(alloc, circuit, &mut reader, from)?;
     reader.end(from)?;
     Ok(outcome)

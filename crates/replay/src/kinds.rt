@@ -2,13 +2,13 @@
 
 ghost use Rattle.std.specs.Prelude.{◌≡◌};
 ghost use Rattle.scan.specs.Reading.{Gives};
-ghost use Rattle.stimulus.specs.Reading.{line_at, property_at, value_at};
+ghost use Rattle.stimulus.specs.Reading.{line_at, property_at};
 ghost use Rattle.replay.specs.Reading.{digit_at, dot_at, line_where, status_at};
 
-use crate::refusal::{IN_LINES, IN_PROPERTY, IN_STATUS, Refusal, begins_otherwise};
 use graph::Property;
-use scan::{Fault, ItemKind, LineKind, byte, field, items_into, tag};
+use scan::{Fault, LineKind, byte, items_into, tag};
 use std::alloc::Global;
+use stimulus::{IN_LINES, IN_STATUS, Refusal, Values, begins_otherwise, property};
 
 /// What the first line of a stimulus says.
 #[derive(Clone, Copy, Debug, PartialEq, Eq)]
@@ -70,27 +70,12 @@ impl LineKind for PropertyLine {
 
     ghost at = { λ _ bytes. property_at bytes };
 
-    #[tactic(auto, unfolding(stimulus::specs::Reading::property_at, stimulus::specs::Reading::bad_at, stimulus::specs::Reading::justice_at, stimulus::specs::Reading::output_at))]
     fn line(
         _alloc: Global,
-        text: &[u8],
+        bytes: &[u8],
         _context: (),
     ) -> Result<(Property, &[u8]), Fault<Refusal>> {
-        match text {
-            [b'b', position @ ..] => {
-                let (n, rest) = field(position, u32::MAX, b'\n', IN_PROPERTY)?;
-                Ok((Property::Bad(n), rest))
-            }
-            [b'j', position @ ..] => {
-                let (n, rest) = field(position, u32::MAX, b'\n', IN_PROPERTY)?;
-                Ok((Property::Justice(n), rest))
-            }
-            [b'o', position @ ..] => {
-                let (n, rest) = field(position, u32::MAX, b'\n', IN_PROPERTY)?;
-                Ok((Property::Output(n), rest))
-            }
-            _ => Err(begins_otherwise(text, Refusal::PropertyLine)),
-        }
+        property(bytes)
     }
 }
 
@@ -112,35 +97,6 @@ impl LineKind for DotLine {
     fn line(_alloc: Global, text: &[u8], _context: ()) -> Result<((), &[u8]), Fault<Refusal>> {
         let rest = tag(text, b".\n", IN_LINES)?;
         Ok(((), rest))
-    }
-}
-
-/// The values of a line, up to its line end.
-pub struct Values;
-
-impl ItemKind for Values {
-    type Item = bool;
-
-    type Context = ();
-
-    type Refusal = Refusal;
-
-    ghost allows = { λ _. Unit {0} };
-
-    ghost at = { λ _ bytes. value_at bytes };
-
-    #[tactic(auto, unfolding(stimulus::specs::Reading::value_at))]
-    fn item(
-        _alloc: Global,
-        text: &[u8],
-        _context: (),
-    ) -> Result<(Option<bool>, &[u8]), Fault<Refusal>> {
-        match text {
-            [b'0', rest @ ..] => Ok((Some(false), rest)),
-            [b'1', rest @ ..] => Ok((Some(true), rest)),
-            [b'\n', rest @ ..] => Ok((None, rest)),
-            _ => Err(begins_otherwise(text, Refusal::Character)),
-        }
     }
 }
 

@@ -16,7 +16,6 @@ mod lines;
 mod numbers;
 mod playing;
 mod reader;
-mod refusal;
 mod text_error;
 
 pub use judging::{Outcome, judge_source};

@@ -8,7 +8,7 @@ ghost use Rattle.replay.specs.Streams.{Finds, FindsWith};
 ghost use Rattle.replay.specs.declared.text_error.TextError.TheVariants.{Device};
 
 use crate::numbers::{LINE_LENGTH, NO_INPUT_LINE};
-use crate::reader::Reader;
+use crate::reader::LineReader;
 use crate::text_error::TextError;
 use base::{Source, copied, push};
 use graph::Seq;
@@ -54,7 +54,7 @@ pub fn skip_lines<S: Source>(
     alloc: Global,
     number: u8,
     line: &mut Vec<bool>,
-    reader: &mut Reader,
+    reader: &mut LineReader,
     from: &mut S,
 ) -> Result<Option<u8>, TextError>
     requires source { S.failed from.old < 2 ^ 64 - 1 }
@@ -78,7 +78,7 @@ pub fn refuse_lines<S: Source>(
     long: usize,
     before: Lengths,
     line: &mut Vec<bool>,
-    reader: &mut Reader,
+    reader: &mut LineReader,
     from: &mut S,
 ) -> Result<Option<u8>, TextError>
     requires source { S.failed from.old < 2 ^ 64 - 1 }
@@ -100,7 +100,7 @@ pub fn refuse_lines<S: Source>(
 pub fn read_lines<S: Source>(
     alloc: Global,
     line: &mut Vec<bool>,
-    reader: &mut Reader,
+    reader: &mut LineReader,
     from: &mut S,
 ) -> Result<Seq<Seq<bool>>, TextError>
     requires source { S.failed from.old < 2 ^ 64 - 1 }

@@ -15,7 +15,7 @@ ghost use Rattle.replay.specs.declared.text_error.TextError.TheVariants.{Device}
 
 use crate::lines::{Lengths, refuse_lines, skip_lines};
 use crate::numbers::{BAD_NOT_SET, CONSTRAINT_BROKEN, LINE_LENGTH, NO_INPUT_LINE};
-use crate::reader::Reader;
+use crate::reader::LineReader;
 use crate::text_error::TextError;
 use base::Source;
 use graph::Lit;
@@ -62,7 +62,7 @@ pub fn play_lines<S: Source>(
     long: usize,
     bad: Lit,
     line: &mut Vec<bool>,
-    reader: &mut Reader,
+    reader: &mut LineReader,
     from: &mut S,
 ) -> Result<Option<u8>, TextError>
     requires source { S.failed from.old < 2 ^ 64 - 1 }

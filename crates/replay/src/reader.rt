@@ -8,8 +8,7 @@ ghost use Rattle.replay.specs.Reading.{dot_at, end_at, status_at};
 ghost use Rattle.replay.specs.Streams.{Finds, with_line, with_values};
 ghost use Rattle.replay.specs.declared.text_error.TextError.TheVariants.{Device};
 
-use crate::kinds::{DotLine, PropertyLine, Status, StatusLine, Values, line_or_end};
-use crate::refusal::{Refusal, error};
+use crate::kinds::{DotLine, PropertyLine, Status, StatusLine, line_or_end};
 use crate::text_error::TextError;
 use base::{Refused, Source};
 use graph::Property;
@@ -17,7 +16,7 @@ use pieces::Pieces;
 use scan::{LineKind, items_into};
 use std::alloc::Global;
 use std::marker::Model;
-use stimulus::StimError;
+use stimulus::{Refusal, StimError, Values, text_error};
 
 /// Reads the next line, of one kind.
 fn line_from<L: LineKind<Refusal = Refusal>, S: Source>(
@@ -37,7 +36,7 @@ fn line_from<L: LineKind<Refusal = Refusal>, S: Source>(
     let n = pieces.next(from)?;
     let (item, left) = match L::line(alloc, pieces.first(n), context) {
         Ok((item, rest)) => (item, rest.len()),
-        Err(fault) => return Err(TextError::Refused(error(before.saturating_add(n), fault))),
+        Err(fault) => return Err(TextError::Refused(text_error(before.saturating_add(n), fault))),
     };
     let taken = n - left;
     pieces.skip(taken);
@@ -61,7 +60,7 @@ fn values_from<S: Source>(
     let n = pieces.next(from)?;
     let left = match items_into::<Values>(alloc, line, pieces.first(n), (), Refusal::Truncated) {
         Ok(rest) => rest.len(),
-        Err(fault) => return Err(TextError::Refused(error(before.saturating_add(n), fault))),
+        Err(fault) => return Err(TextError::Refused(text_error(before.saturating_add(n), fault))),
     };
     let taken = n - left;
     pieces.skip(taken);
@@ -86,7 +85,7 @@ fn input_from<S: Source>(
     let n = pieces.next(from)?;
     let (there, left) = match line_or_end(alloc, line, pieces.first(n)) {
         Ok((there, rest)) => (there, rest.len()),
-        Err(fault) => return Err(TextError::Refused(error(before.saturating_add(n), fault))),
+        Err(fault) => return Err(TextError::Refused(text_error(before.saturating_add(n), fault))),
     };
     let taken = n - left;
     pieces.skip(taken);
@@ -101,14 +100,14 @@ fn input_from<S: Source>(
 ///
 /// After a refusal the text is given up: nothing is said of the bytes that are left.
 #[derive(Drop)]
-pub struct Reader {
+pub struct LineReader {
     /// the bytes that were taken, in pieces
     pieces: Pieces,
     /// how many bytes were read
     before: usize,
 }
 
-impl Model for Reader {
+impl Model for LineReader {
     ghost use Rattle.std.specs.Prelude.{List, ℕ};
 
     ghost Value = { List ℕ };
@@ -116,12 +115,12 @@ impl Model for Reader {
     ghost view = { λ r. r.pieces };
 }
 
-impl Reader {
+impl LineReader {
     /// At the beginning of a text.
-    pub fn new(alloc: Global) -> Result<Reader, Refused>
+    pub fn new(alloc: Global) -> Result<LineReader, Refused>
         ensures { IfOk result (λ r. r ≡ []) }
     {
-        Ok(Reader {
+        Ok(LineReader {
             pieces: Pieces::new(alloc)?,
             before: 0,
         })

@@ -27,7 +27,9 @@ mod writing;
 
 pub use judge_error::JudgeError;
 pub use judging::judge;
-pub use reading::read;
+pub use reading::{
+    IN_LINES, IN_STATUS, Refusal, Values, begins_otherwise, property, read, text_error,
+};
 pub use sim_error::SimError;
 pub use stim_error::StimError;
 pub use stim_write_error::StimWriteError;

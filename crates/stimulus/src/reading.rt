@@ -15,7 +15,7 @@ use std::alloc::Global;
 
 /// What is wrong in a text, before its place is known as a byte of the whole.
 #[derive(Clone, Copy, Debug, PartialEq, Eq)]
-enum Refusal {
+pub enum Refusal {
     /// The first line is not 0, 1 or 2.
     Status,
     /// The second line is not a property.
@@ -29,7 +29,7 @@ enum Refusal {
 }
 
 /// The faults behind the status.
-const IN_STATUS: Kinds<Refusal> = Kinds {
+pub const IN_STATUS: Kinds<Refusal> = Kinds {
     truncated: Refusal::Truncated,
     number: Refusal::Status,
     over: Refusal::Status,
@@ -37,7 +37,7 @@ const IN_STATUS: Kinds<Refusal> = Kinds {
 };
 
 /// The faults of a property's number and its line end.
-const IN_PROPERTY: Kinds<Refusal> = Kinds {
+pub const IN_PROPERTY: Kinds<Refusal> = Kinds {
     truncated: Refusal::Truncated,
     number: Refusal::PropertyLine,
     over: Refusal::PropertyLine,
@@ -45,7 +45,7 @@ const IN_PROPERTY: Kinds<Refusal> = Kinds {
 };
 
 /// The faults of the lines behind the property.
-const IN_LINES: Kinds<Refusal> = Kinds {
+pub const IN_LINES: Kinds<Refusal> = Kinds {
     truncated: Refusal::Truncated,
     number: Refusal::Character,
     over: Refusal::Character,
@@ -53,7 +53,7 @@ const IN_LINES: Kinds<Refusal> = Kinds {
 };
 
 /// The fault of a text that begins with a byte that is not needed here.
-fn begins_otherwise(text: &[u8], kind: Refusal) -> Fault<Refusal> {
+pub fn begins_otherwise(text: &[u8], kind: Refusal) -> Fault<Refusal> {
     if text.is_empty() {
         return Fault::Text {
             kind: Refusal::Truncated,
@@ -68,7 +68,7 @@ fn begins_otherwise(text: &[u8], kind: Refusal) -> Fault<Refusal> {
 
 /// The property of a line, and what follows that.
 #[tactic(auto, unfolding(crate::specs::Reading::property_at, crate::specs::Reading::bad_at, crate::specs::Reading::justice_at, crate::specs::Reading::output_at))]
-fn property(text: &[u8]) -> Result<(Property, &[u8]), Fault<Refusal>>
+pub fn property(text: &[u8]) -> Result<(Property, &[u8]), Fault<Refusal>>
     ensures { Gives (λ x. (x.0, x.1.now)) result (property_at text.now) }
 {
     match text {
@@ -108,7 +108,7 @@ fn concluded(text: &[u8]) -> Result<(Property, &[u8]), Fault<Refusal>>
 }
 
 /// The values of a line, up to its line end.
-struct Values;
+pub struct Values;
 
 impl ItemKind for Values {
     ghost use Rattle.stimulus.specs.Reading.{value_at};
@@ -223,7 +223,7 @@ fn only_stimulus(alloc: Global, text: &[u8]) -> Result<Stimulus, Fault<Refusal>>
 }
 
 /// The error for a fault in a text of `length` bytes.
-fn error(length: usize, fault: Fault<Refusal>) -> StimError
+pub fn text_error(length: usize, fault: Fault<Refusal>) -> StimError
     ensures { result ≡ error_of length fault }
 {
     match fault {
@@ -254,6 +254,6 @@ pub fn read(alloc: Global, text: &[u8]) -> Result<Stimulus, StimError>
 {
     match only_stimulus(alloc, text) {
         Ok(stimulus) => Ok(stimulus),
-        Err(fault) => Err(error(text.len(), fault)),
+        Err(fault) => Err(text_error(text.len(), fault)),
     }
 }

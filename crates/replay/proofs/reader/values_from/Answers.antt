@@ -12,7 +12,7 @@ returns-in-Err-clause-says g c ys known =
     let p = items_at value_at in
     let first = c.first.result.now in
     let P = p (c.args.pieces.now ++ ys) ≡ None in
-    subst (λ e. ForText (Refused e) P) (sym c.error.ensures)
+    subst (λ e. ForText (Refused e) P) (sym c.text_error.ensures)
     (for_text c.saturating_add.result c.in-Err.fault P (p first)
     (λ none. stuck_from p values_of_line c.args.pieces.now c.next.new.self ys _ (g.S.Source.remaining c.next.new.from) c.in_ok-n.n known c.in_ok-n.ensures.lies (ap p (sym c.first.ensures) ∙ none))
     c.in-Err.ensures)

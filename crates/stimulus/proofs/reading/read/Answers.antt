@@ -15,4 +15,4 @@ returns-in-Ok-clause-only c = λ s r. same_Some c.in-Ok.stimulus s (sym c.in-Ok.
 
 pub returns-in-Err-clause-only : goal.returns-in-Err-clause-only
 returns-in-Err-clause-only c =
-    λ s r. c.error.ensures ∙ refused_for_memory (length c.args.text.now) c.in-Err.fault s (ended (stimulus_at c.args.text.now)) c.in-Err.ensures (ended_again stimulus_reads c.args.text.now s r)
+    λ s r. c.text_error.ensures ∙ refused_for_memory (length c.args.text.now) c.in-Err.fault s (ended (stimulus_at c.args.text.now)) c.in-Err.ensures (ended_again stimulus_reads c.args.text.now s r)

@@ -1,7 +1,7 @@
 use Rattle.std.proofs.Common.{rules, ◌≡◌, ◌<◌}
 use Rattle.pieces.specs.Pieces.{Lies}
 use Rattle.replay.proofs.StreamLaws.{end_found, end_missed}
-use Rattle.replay.proofs.reader.Reader.end.Goals as goal
+use Rattle.replay.proofs.reader.LineReader.end.Goals as goal
 
 pub returns-then-n-gt0-clause-says : goal.returns-then-n-gt0-clause-says
 returns-then-n-gt0-clause-says g c ys known =
