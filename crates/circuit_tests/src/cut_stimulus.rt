@@ -107,9 +107,9 @@ fn is_told(
 
 /// Whether the number is what `read` and `judge` say, and what is said however many bytes come at once.
 fn is_always(alloc: Global, circuit: &[u8], text: &[u8], number: u8) -> Result<bool, Fail> {
-    let line = match number {
-        0 if text[2] == b'j' => format!(in alloc; "yes run j0\n")?,
-        0 => format!(in alloc; "yes run b0\n")?,
+    let line = match (number, text) {
+        (0, [_, _, b'j', ..]) => format!(in alloc; "yes run j0\n")?,
+        (0, _) => format!(in alloc; "yes run b0\n")?,
         _ => format!(in alloc; "no {number}\n")?,
     };
     for most in &PIECES {
