@@ -2,7 +2,7 @@
 //!
 //! `judge_source` reads a stimulus as a source gives its bytes, and replays it while it is read. What
 //! it says is what `stimulus::read` and `stimulus::judge` say: a fault of the text, anywhere in it,
-//! goes before every fault of the replay, and of the replay's faults the first cause is told. So
+//! goes before every fault of the replay, and of the replay's faults it gives the first cause. So
 //! after a fault of the replay the rest of the text is still read, and its lines' lengths are looked at where
 //! they decide.
 //!
