@@ -1,6 +1,6 @@
 //! A whole AIGER file.
 
-ghost use Rattle.std.specs.Prelude.{◌≡◌, ◌⊎◌, ℕ, MatchOption, option_map, Option, IfOk, IfErr};
+ghost use Rattle.std.specs.Prelude.{◌≡◌, ◌⊎◌, ℕ, MatchOption, option_map, Option, IfOk, IfErr, OnOk};
 ghost use Rattle.base.specs.Witness.{witness};
 ghost use Rattle.graph.specs.Symbols.{symbol_counts, AreSymbols, IsFirstWrong};
 
@@ -29,6 +29,17 @@ impl std::marker::Model for AigerFile {
     ghost invariant = { λ f. AreSymbols (symbol_counts f.model) f.symbols };
 }
 
+/// Whether the symbols name each something of the circuit that has no name yet.
+fn check_symbols(alloc: Global, model: &Model, symbols: &[Symbol]) -> Result<(), ReadError>
+    ensures ok { OnOk result (AreSymbols (symbol_counts model.now) symbols.now) }
+    ensures refused { IfErr result (λ e. (e ≡ ReadError.OutOfMemory witness) ⊎ ((i : ℕ) × (e ≡ ReadError.Symbol i) × IsFirstWrong (symbol_counts model.now) symbols.now i)) }
+{
+    match first_wrong(alloc, model.parts(), symbols)? {
+        Some(i) => Err(ReadError::Symbol(i as u64)),
+        None => Ok(()),
+    }
+}
+
 impl AigerFile {
     /// A file of this circuit, these symbols and this comment. It takes time by their length.
     pub fn new(
@@ -41,14 +52,12 @@ impl AigerFile {
         // The first symbol that names nothing, or what has a name already, or has no name.
         ensures refused { IfErr result (λ e. (e ≡ ReadError.OutOfMemory witness) ⊎ ((i : ℕ) × (e ≡ ReadError.Symbol i) × IsFirstWrong (symbol_counts model) symbols i)) }
     {
-        match first_wrong(alloc, model.parts(), symbols.as_slice())? {
-            Some(i) => Err(ReadError::Symbol(i as u64)),
-            None => Ok(AigerFile {
-                model,
-                symbols,
-                comment,
-            }),
-        }
+        check_symbols(alloc, &model, symbols.as_slice())?;
+        Ok(AigerFile {
+            model,
+            symbols,
+            comment,
+        })
     }
 
     /// A file of this circuit, symbols that were checked against its parts, and this comment.

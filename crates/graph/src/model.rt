@@ -3,9 +3,10 @@
 ghost use Rattle.std.specs.Prelude.{◌≡◌, ◌≢◌, ◌+◌, ◌≤◌, ◌⊎◌, ◌↔◌, ◌∷◌, [], List, Bool, length, slice_get, IsTrue, IfOk, IfErr, IsErrOf};
 ghost use Rattle.base.specs.Witness.{witness};
 ghost use Rattle.graph.specs.Faults.{HasCause};
-ghost use Rattle.graph.specs.Properties.{HasProperty, IsAlone};
+ghost use Rattle.graph.specs.Properties.{HasProperty, IsAlone, IsWatched};
 ghost use Rattle.graph.specs.Valuation.{Agrees, state_of, inputs_of};
-ghost use Rattle.graph.specs.WellFormed.{IsWellFormed, IsOrder, IsOrdered};
+ghost use Rattle.graph.specs.WellFormed.{IsWellFormed, IsOrder, IsOrdered, only_bad};
+ghost use Rattle.graph.specs.declared.circuit.Property.{Property};
 ghost use Rattle.graph.specs.declared.circuit.Property.TheVariants.{Bad, Output};
 
 use crate::check::check;
@@ -13,7 +14,7 @@ use crate::circuit::{Gate, Latch, Lit};
 use crate::error::ReadError;
 use crate::parts::Parts;
 use crate::{fill, numbering};
-use base::{Seq, copied};
+use base::{Refused, Seq, copied};
 use std::alloc::Global;
 
 /// A circuit whose parts are well formed, with an order in which its gates can be evaluated.
@@ -159,6 +160,17 @@ impl Model {
         numbering::is_ordered(&self.parts)
     }
 
+    /// The same circuit and constraints with this one bad literal, which a property watches, and no
+    /// outputs, justice or fairness.
+    fn with_bad(&self, alloc: Global, bad: Lit) -> Result<Model, Refused>
+        requires { (p : Property) × IsWatched self.now p bad }
+        ensures { IfOk result (λ m. m ≡ only_bad self.now bad) }
+    {
+        let parts = self.parts.only_bad(alloc, bad)?;
+        let order = copied(alloc, &self.order)?;
+        Ok(Model { parts, order })
+    }
+
     /// The same circuit and constraints with the one bad literal at position `n`, and no outputs,
     /// justice or fairness.
     pub fn for_bad(&self, alloc: Global, n: u32) -> Result<Model, ReadError>
@@ -168,9 +180,7 @@ impl Model {
         let Some(bad) = nth(self.parts.bad.as_slice(), n) else {
             return Err(ReadError::NoProperty(n));
         };
-        let parts = self.parts.only_bad(alloc, bad)?;
-        let order = copied(alloc, &self.order)?;
-        Ok(Model { parts, order })
+        Ok(self.with_bad(alloc, bad)?)
     }
 
     /// The same circuit with the output at position `n` as its one bad literal, and no outputs. The
@@ -185,9 +195,7 @@ impl Model {
         let Some(output) = nth(self.parts.outputs.as_slice(), n) else {
             return Err(ReadError::NoProperty(n));
         };
-        let parts = self.parts.only_bad(alloc, output)?;
-        let order = copied(alloc, &self.order)?;
-        Ok(Model { parts, order })
+        Ok(self.with_bad(alloc, output)?)
     }
 
     /// Fills in the one valuation that agrees with the gates and has this state and these inputs.

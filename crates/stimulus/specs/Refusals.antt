@@ -1,5 +1,5 @@
 -- What is reported of a text that is refused.
-use Rattle.std.specs.Prelude.{◌≡◌, ℕ, ◌-◌, Result, MatchResult}
+use Rattle.std.specs.Prelude.{◌≡◌, ℕ, ◌-◌, Result, MatchResult, List, [], ◌∷◌, length}
 use Rattle.base.specs.Witness.{witness}
 use Rattle.scan.specs.declared.fault.Fault.{Fault}
 use Rattle.scan.specs.declared.fault.Fault.TheVariants.{Memory, Text}
@@ -25,3 +25,8 @@ at_byte refusal.AfterEnd p = AfterEnd p
 abbrev pub error_of : ℕ → Fault Refusal → StimError
 error_of length (Memory refused) = OutOfMemory witness
 error_of length (Text kind left) = at_byte kind (length - left)
+
+-- the fault of a text that begins otherwise than it is to: at its first byte, or that it ends
+abbrev pub fault_at : List ℕ → Refusal → Fault Refusal
+fault_at [] kind = Text refusal.Truncated 0
+fault_at (b ∷ text) kind = Text kind (length (b ∷ text))

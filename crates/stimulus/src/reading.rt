@@ -3,7 +3,7 @@
 ghost use Rattle.std.specs.Prelude.{◌≡◌, IfOk};
 ghost use Rattle.scan.specs.Reading.{Gives, ended};
 ghost use Rattle.stimulus.specs.Reading.{concluded_at, heading_at, property_at, stimulus_at, violated_at};
-ghost use Rattle.stimulus.specs.Refusals.{IsRead, error_of};
+ghost use Rattle.stimulus.specs.Refusals.{IsRead, error_of, fault_at};
 ghost use Rattle.stimulus.specs.Texts.{SpellsStimulus};
 ghost use Rattle.stimulus.specs.declared.value.Stimulus.{Stimulus as AStimulus};
 
@@ -52,8 +52,10 @@ pub const IN_LINES: Kinds<Refusal> = Kinds {
     byte: Refusal::Character,
 };
 
-/// The fault of a text that begins with a byte that is not needed here.
-pub fn begins_otherwise(text: &[u8], kind: Refusal) -> Fault<Refusal> {
+/// The fault of a text that begins otherwise than it is to: at its first byte, or that it ends.
+pub fn begins_otherwise(text: &[u8], kind: Refusal) -> Fault<Refusal>
+    ensures { result ≡ fault_at text.now kind }
+{
     if text.is_empty() {
         return Fault::Text {
             kind: Refusal::Truncated,
