@@ -1,8 +1,9 @@
 //! From the bytes of a circuit and a certificate to an answer.
 
-ghost use Rattle.std.specs.Prelude.{◌≡◌, ◌+◌, ◌-◌, ◌<◌, ◌^◌, ℕ, List, Some, IfOk, IsTrue, MatchResult, OnErr, false};
+ghost use Rattle.std.specs.Prelude.{◌≡◌, ◌+◌, ◌-◌, ◌<◌, ◌^◌, ℕ, List, Some, IfOk, IsErrOf, IsTrue, MatchResult, OnErr, false};
 ghost use Rattle.std.specs.Io.KnownBytes.{Appends};
 ghost use Rattle.aiger.specs.Layouts.{SpellsFile};
+ghost use Rattle.aiger.specs.Loading.{IsFileOf};
 ghost use Rattle.graph.specs.declared.circuit.Property.{Property as AProperty};
 ghost use Rattle.graph.specs.File.{File};
 ghost use Rattle.checker.specs.Lines.{yes_line, no_line};
@@ -17,8 +18,26 @@ use crate::line::{Question, tell};
 use crate::run_error::RunError;
 use crate::stop::Stop;
 use aiger::load;
-use graph::{Property, Sink, Source};
+use graph::{AigerFile, Property, Sink, Source};
 use std::alloc::Global;
+
+/// The property that is shown safe of the circuit in the file, by the bytes of a source.
+fn safe_property_of<C: Source>(
+    alloc: Global,
+    file: &AigerFile,
+    certificate: &mut C,
+) -> Result<Property, Stop>
+    requires certificate { C.failed certificate.old < 2 ^ 64 - 1 }
+    ensures says { (xs ys : List ℕ) → IsFileOf xs file.now → C.remaining certificate.old ≡ Some ys → MatchResult result (λ p. Accepts xs ys p) (IsStop (IsRefusal xs ys)) }
+    ensures device { IsErrOf result Failure → C.failed certificate.new ≡ C.failed certificate.old + 1 }
+    ensures others { (IsErrOf result Failure → ⊥) → C.failed certificate.new ≡ C.failed certificate.old }
+{
+    let outcome = check_source(alloc, file.model(), certificate)?;
+    match outcome.refusal {
+        None => Ok(outcome.property),
+        Some(number) => Err(Stop::No(number)),
+    }
+}
 
 /// The property that is shown safe, by the bytes of two sources. Where the first spells no circuit,
 /// the second is not read.
@@ -34,11 +53,7 @@ fn safe_property<M: Source, C: Source>(
     ensures fails { FailsOne result Failure (record { circuit = M.failed circuit.old; evidence = C.failed certificate.old; out = 0 }) (record { circuit = M.failed circuit.new; evidence = C.failed certificate.new; out = 0 }) }
 {
     let file = load(alloc, circuit)?;
-    let outcome = check_source(alloc, file.model(), certificate)?;
-    match outcome.refusal {
-        None => Ok(outcome.property),
-        Some(number) => Err(Stop::No(number)),
-    }
+    safe_property_of(alloc, &file, certificate)
 }
 
 /// Says whether the certificate that the second source's bytes spell is accepted for the circuit

@@ -1,8 +1,9 @@
 //! From the bytes of a circuit and a stimulus to an answer.
 
-ghost use Rattle.std.specs.Prelude.{◌≡◌, ◌+◌, ◌-◌, ◌<◌, ◌^◌, ℕ, List, Some, IfOk, IsTrue, MatchResult, OnErr, false};
+ghost use Rattle.std.specs.Prelude.{◌≡◌, ◌+◌, ◌-◌, ◌<◌, ◌^◌, ℕ, List, Some, IfOk, IsErrOf, IsTrue, MatchResult, OnErr, false};
 ghost use Rattle.std.specs.Io.KnownBytes.{Appends};
 ghost use Rattle.aiger.specs.Layouts.{SpellsFile};
+ghost use Rattle.aiger.specs.Loading.{IsFileOf};
 ghost use Rattle.graph.specs.declared.circuit.Property.{Property as AProperty};
 ghost use Rattle.graph.specs.File.{File};
 ghost use Rattle.checker.specs.Lines.{yes_line, no_line};
@@ -16,9 +17,27 @@ use crate::line::{Question, tell};
 use crate::run_error::RunError;
 use crate::stop::Stop;
 use aiger::load;
-use graph::{Property, Sink, Source};
+use graph::{AigerFile, Property, Sink, Source};
 use replay::judge_source;
 use std::alloc::Global;
+
+/// The property of the circuit in the file whose violation is shown, by the bytes of a source.
+fn violated_property_of<C: Source>(
+    alloc: Global,
+    file: &AigerFile,
+    stimulus: &mut C,
+) -> Result<Property, Stop>
+    requires stimulus { C.failed stimulus.old < 2 ^ 64 - 1 }
+    ensures says { (xs ys : List ℕ) → IsFileOf xs file.now → C.remaining stimulus.old ≡ Some ys → MatchResult result (λ p. Confirms xs ys p) (IsStop (IsRunRefusal xs ys)) }
+    ensures device { IsErrOf result Failure → C.failed stimulus.new ≡ C.failed stimulus.old + 1 }
+    ensures others { (IsErrOf result Failure → ⊥) → C.failed stimulus.new ≡ C.failed stimulus.old }
+{
+    let outcome = judge_source(alloc, file.model(), stimulus)?;
+    match outcome.refusal {
+        None => Ok(outcome.property),
+        Some(number) => Err(Stop::No(number)),
+    }
+}
 
 /// The property whose violation is shown, by the bytes of two sources. Where the first spells no
 /// circuit, the second is not read.
@@ -34,11 +53,7 @@ fn violated_property<M: Source, C: Source>(
     ensures fails { FailsOne result Failure (record { circuit = M.failed circuit.old; evidence = C.failed stimulus.old; out = 0 }) (record { circuit = M.failed circuit.new; evidence = C.failed stimulus.new; out = 0 }) }
 {
     let file = load(alloc, circuit)?;
-    let outcome = judge_source(alloc, file.model(), stimulus)?;
-    match outcome.refusal {
-        None => Ok(outcome.property),
-        Some(number) => Err(Stop::No(number)),
-    }
+    violated_property_of(alloc, &file, stimulus)
 }
 
 /// Says whether the stimulus that the second source's bytes spell shows its violation in the circuit
