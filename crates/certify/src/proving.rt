@@ -7,7 +7,7 @@ ghost use Rattle.base.specs.Budget.{Spends};
 ghost use Rattle.lrat.specs.Literals.{IsLiteral};
 ghost use Rattle.lrat.specs.Shared.{Base};
 ghost use Rattle.cnf.specs.Clauses.{step_units};
-ghost use Rattle.cnf.specs.Formulas.{IsInvariant, shared_formula};
+ghost use Rattle.cnf.specs.Formulas.{IsInvariant, shared_formula, start_formula};
 ghost use Rattle.cdcl.specs.Logged.{with_units};
 ghost use Rattle.checker.specs.Accepted.{Case as AnyCase, IsProofOf, IsShared, bad_case, cases, init_case, step_case};
 ghost use Rattle.certify.specs.Halts.{IsHalt, IsHaltOf};
@@ -58,6 +58,30 @@ fn prove(
     }
 }
 
+/// Adds a proof for the initial case of each clause, where the latches' resets are loaded.
+fn prove_initial_cases(
+    alloc: Global,
+    circuit: &Model,
+    invariant: &[Seq<Lit>],
+    refuter: &mut Refuter,
+    sections: &mut Seq<Proof>,
+    budget: &mut Budget,
+) -> Result<(), Halt>
+    requires invariant { IsInvariant circuit.now invariant.now }
+    requires start { refuter.old.formula ≡ start_formula circuit.now }
+    requires room { All (λ c. length c ≤ refuter.old.room) invariant.now }
+    ensures spends { Spends budget.old budget.new }
+    ensures proved { OnOk result ((cs : List AnyCase) → AreProofs cs sections.old → AreProofs (cs ++ map (init_case circuit.now) invariant.now) sections.new) }
+    ensures halted { IfErr result (λ h. (a : Lit) → IsHalt circuit.now invariant.now a budget.new h) }
+{
+    for (place, clause) in invariant.iter().enumerate() {
+        let units = init_units(alloc, circuit, clause.as_slice())?;
+        let case = Case::Initial(place as u64);
+        sections.push(prove(alloc, refuter, case, units.as_slice(), budget)?)?;
+    }
+    Ok(())
+}
+
 /// Adds a proof for the initial case of each clause. The latches' resets are loaded once.
 fn prove_initial(
     alloc: Global,
@@ -73,12 +97,7 @@ fn prove_initial(
 {
     let start = start_base(alloc, circuit)?;
     let mut refuter = Refuter::new(alloc, &start, most_literals(invariant))?;
-    for (place, clause) in invariant.iter().enumerate() {
-        let units = init_units(alloc, circuit, clause.as_slice())?;
-        let case = Case::Initial(place as u64);
-        sections.push(prove(alloc, &mut refuter, case, units.as_slice(), budget)?)?;
-    }
-    Ok(())
+    prove_initial_cases(alloc, circuit, invariant, &mut refuter, sections, budget)
 }
 
 /// Closes the step case of each clause, where the circuit and the clauses are loaded.

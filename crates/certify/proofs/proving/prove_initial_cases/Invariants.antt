@@ -2,7 +2,7 @@ use Rattle.std.proofs.Common.{◌≡◌, List, ◌++◌, map, take}
 use Rattle.base.specs.Budget.{Spends}
 use Rattle.checker.specs.Accepted.{Case, init_case}
 use Rattle.certify.specs.Sections.{AreProofs}
-use Rattle.certify.proofs.proving.prove_initial.Given as goal
+use Rattle.certify.proofs.proving.prove_initial_cases.Given as goal
 
 abbrev pub invariant-loop-place : goal.invariant-loop-place
 invariant-loop-place l = record {

@@ -14,7 +14,7 @@ use Rattle.certify.specs.declared.halt.Halt.TheVariants.{OutOfMemory}
 use Rattle.certify.specs.declared.counterexample.Case.TheVariants.{Initial}
 use Rattle.certify.proofs.Pairs.{case_is, case_over_is, one_mapped}
 use Rattle.certify.proofs.Stopped.{halt_of}
-use Rattle.certify.proofs.proving.prove_initial.Goals as goal
+use Rattle.certify.proofs.proving.prove_initial_cases.Goals as goal
 
 pub init_units-requires : goal.init_units-requires
 init_units-requires c =
@@ -29,7 +29,7 @@ prove-requires-clause-few c =
     let is = clause_is inv c.loop-place.place c.index-invariant-place.result c.as_slice.result.now c.loop-place-test.true c.index-invariant-place.is c.as_slice.ensures in
     let units : c.as_slice-in-loop-place.result.now ≡ init_units m (get_or inv c.loop-place.place []) = c.as_slice-in-loop-place.ensures.value ∙ c.in_ok-units.ensures.units ∙ ap (init_units m) is in
     let long : length c.as_slice-in-loop-place.result.now ≡ length (get_or inv c.loop-place.place []) = ap length units ∙ length-map (get_or inv c.loop-place.place []) (denial m.max_var 0) in
-    let short : length (get_or inv c.loop-place.place []) ≤ c.most_literals.result = c.most_literals.ensures.all c.loop-place.place [] c.loop-place-test.true in
+    let short : length (get_or inv c.loop-place.place []) ≤ c.args.refuter.now.room = c.requires.room c.loop-place.place [] c.loop-place-test.true in
     search rules
 
 pub returns-in_err-prove-clause-halted : goal.returns-in_err-prove-clause-halted
@@ -62,7 +62,7 @@ returns-in_err-push-clause-halted c =
 
 pub returns-in_err-units-clause-halted : goal.returns-in_err-units-clause-halted
 returns-in_err-units-clause-halted c =
-    err_gives (λ h. (a : Lit) → IsHalt c.args.circuit.now c.args.invariant.now a c.loop-place.budget h) _ (OutOfMemory witness) c.from_residual-in_err-units.ensures.1 (λ a. tt)
+    err_gives (λ h. (a : Lit) → IsHalt c.args.circuit.now c.args.invariant.now a c.loop-place.budget h) _ (OutOfMemory witness) c.from_residual.ensures.1 (λ a. tt)
 
 pub returns-clause-proved : goal.returns-clause-proved
 returns-clause-proved c = λ cs are.
