@@ -1,11 +1,20 @@
 -- Lists that are made step by step.
-use Rattle.std.proofs.Common.{◌≡◌, ℕ, suc, ◌+◌, ◌-◌, ◌<◌, ◌≤◌, arith, ℤ, List, [], ◌∷◌, ◌++◌, append_assoc, refl, ◌∙◌, ap}
+use Rattle.std.proofs.Common.{◌≡◌, ℕ, suc, ◌+◌, ◌-◌, ◌<◌, ◌≤◌, arith, ℤ, List, [], ◌∷◌, ◌++◌, append_assoc, refl, sym, ◌∙◌, ap, map, take, length, get_or}
+use Rattle.std.proofs.lemmas.List.{take_more, map-append}
 use Rattle.std.specs.Prelude.{flat_map}
 use Rattle.graph.specs.declared.circuit.Gate.{Gate}
 use Rattle.graph.specs.declared.circuit.Latch.{Latch}
 use Rattle.graph.specs.declared.parts.Parts.{Parts}
 use Rattle.cnf.specs.Clauses.{literal, denial, gate_clauses, time_clauses}
 use Rattle.cnf.specs.Unrolled.{join_clauses, times_from}
+
+-- a list of what is made of each item of another, by one item more
+pub map_more : {X Y : Type 0} (f : X → Y) (xs : List X) (i : ℕ) (d : X) (old us vs : List Y) (y : Y) → i < length xs → us ≡ old ++ map f (take i xs) → vs ≡ us ++ y ∷ [] → y ≡ f (get_or xs i d) →
+    vs ≡ old ++ map f (take (i + 1) xs)
+map_more f xs i d old us vs y i_in before more is =
+    more ∙ rw (before, is) (append_assoc old (map f (take i xs)) (f (get_or xs i d) ∷ []))
+    ∙ ap (λ zs. old ++ zs) (sym (map-append f (take i xs) (get_or xs i d ∷ [])))
+    ∙ ap (λ zs. old ++ map f zs) (sym (take_more xs i d i_in))
 
 three_more : {X : Type 0} (old a b c : List X) (x y z : X) → a ≡ old ++ x ∷ [] → b ≡ a ++ y ∷ [] → c ≡ b ++ z ∷ [] → c ≡ old ++ x ∷ y ∷ z ∷ []
 three_more old a b c x y z p q r = r ∙ ap (λ u. u ++ z ∷ []) (q ∙ ap (λ u. u ++ y ∷ []) p) ∙ simp append_assoc
