@@ -1,6 +1,6 @@
-use Rattle.std.proofs.Common.{rules, Contains, SFits, w32}
+use Rattle.std.proofs.Common.{rules, Contains, SFits, w32, inr}
 use Rattle.std.proofs.lemmas.Int.{to_z-of_z}
-use Rattle.std.proofs.lemmas.List.Elements.{All-contains_itself, All-push}
+use Rattle.std.proofs.lemmas.List.Elements.{All-contains_itself, All-push, Contains-push}
 use Rattle.solver.proofs.Looks.{all_in_more}
 use Rattle.solver.proofs.look.look.Goals as goal
 
@@ -26,3 +26,8 @@ returns-in_ok-push-in-Some-clause-more c = rw c.in_ok-push-in-Some.ensures.items
 
 pub returns-else-not-contains-clause-more : goal.returns-else-not-contains-clause-more
 returns-else-not-contains-clause-more c = All-contains_itself c.args.core.now.items
+
+pub returns-in_ok-push-in-Some-clause-finds : goal.returns-in_ok-push-in-Some-clause-finds
+returns-in_ok-push-in-Some-clause-finds c =
+    let f : SFits w32 c.in-Some.literal = search rules in
+    rw (c.in_ok-push-in-Some.ensures.items, to_z-of_z w32 c.in-Some.literal f) (inr (c.in-Some.literal, Contains-push c.args.core.now.items c.in-Some.literal, c.in-Some.ensures.1))
