@@ -6,7 +6,7 @@ use crate::guide::Guide;
 use crate::logged_kernel::LoggedKernel;
 use crate::search::search;
 use base::Budget;
-use solver::{Answer, Sat, SatError};
+use solver::{Answer, Part, PartSat, Sat, SatError};
 use std::alloc::Global;
 use std::marker::Model;
 
@@ -77,7 +77,26 @@ impl Sat for Cdcl {
         assume: &[i32],
         budget: &mut Budget,
     ) -> Result<Answer, SatError> {
-        let answer = search(&mut self.kernel, &mut self.guide, assume, budget);
+        let answer = search(&mut self.kernel, &mut self.guide, None, assume, budget);
+        if answer.is_err() {
+            self.kernel.backtrack(0);
+            self.guide = Guide::new(alloc);
+        }
+        answer
+    }
+}
+
+impl PartSat for Cdcl {
+    /// As `solve`. It decides the part's variables, most active first, and passes clauses over that lead out of the part.
+    fn solve_part(
+        &mut self,
+        alloc: Global,
+        part: &Part,
+        assume: &[i32],
+        budget: &mut Budget,
+    ) -> Result<Answer, SatError> {
+        let kernel = &mut self.kernel;
+        let answer = search(kernel, &mut self.guide, Some(part), assume, budget);
         if answer.is_err() {
             self.kernel.backtrack(0);
             self.guide = Guide::new(alloc);

@@ -6,6 +6,7 @@ use crate::restarts::Restarts;
 use crate::table::Table;
 use crate::watches::Watches;
 use base::{Refused, push};
+use solver::Part;
 use std::alloc::Global;
 
 /// A reason that shows a part of the clause in progress, and its place on the trail.
@@ -50,6 +51,12 @@ pub struct Guide {
     pub learned: Vec<u32>,
     /// how many conflicts were met
     pub conflicts: u64,
+    /// of each variable the last question of whose part it is
+    pub parts: Table<u32>,
+    /// the number of the last question about a part
+    pub question: u32,
+    /// whether only variables of its part are decided
+    pub is_part: bool,
 }
 
 impl Guide {
@@ -74,6 +81,9 @@ impl Guide {
             hints: Vec::new(alloc),
             learned: Vec::new(alloc),
             conflicts: 0,
+            parts: Table::new(alloc),
+            question: 0,
+            is_part: false,
         }
     }
 
@@ -95,6 +105,7 @@ impl Guide {
         self.levels.grow()?;
         self.phases.push(false)?;
         self.units.push(0)?;
+        self.parts.push(0)?;
         self.seen.push(false)
     }
 
@@ -103,9 +114,73 @@ impl Guide {
     pub fn take_in(&mut self, clause: &[i32]) -> Result<(), Refused> {
         self.grow_to(clause)?;
         for literal in clause {
-            self.heap.insert(*literal)?;
+            self.open(*literal)?;
         }
         Ok(())
+    }
+
+    /// Whether the literal's variable may be decided: any, or one of the part in question.
+    #[inline]
+    pub fn is_inside(&self, literal: i32) -> bool {
+        !self.is_part || self.parts.at(literal.unsigned_abs() as usize, 0) == self.question
+    }
+
+    /// The literal's variable has no value any more, and is to be decided.
+    #[inline]
+    pub fn open(&mut self, literal: i32) -> Result<(), Refused> {
+        if self.is_inside(literal) {
+            self.heap.insert(literal)?;
+        }
+        Ok(())
+    }
+
+    /// Only the variables of the part are decided from now on, or all where there is none.
+    pub fn begin(&mut self, part: Option<&Part>) -> Result<(), Refused> {
+        match part {
+            Some(part) => self.begin_part(part),
+            None => self.begin_whole(),
+        }
+    }
+
+    /// All variables are decided from now on.
+    fn begin_whole(&mut self) -> Result<(), Refused> {
+        if !self.is_part {
+            return Ok(());
+        }
+        self.is_part = false;
+        for variable in 1..self.seen.len() {
+            if let Ok(variable) = i32::try_from(variable) {
+                self.heap.insert(variable)?;
+            }
+        }
+        Ok(())
+    }
+
+    /// Only the variables of the part are decided from now on.
+    fn begin_part(&mut self, part: &Part) -> Result<(), Refused> {
+        self.is_part = true;
+        self.question = self.question.wrapping_add(1);
+        self.heap.clear();
+        for gate in part.gates.iter() {
+            self.enter(gate.lhs)?;
+            self.enter(gate.rhs0)?;
+            self.enter(gate.rhs1)?;
+        }
+        for literal in part.literals.iter() {
+            self.enter(*literal)?;
+        }
+        Ok(())
+    }
+
+    /// The literal's variable is one of the part.
+    #[inline]
+    fn enter(&mut self, literal: i32) -> Result<(), Refused> {
+        let index = literal.unsigned_abs() as usize;
+        if self.parts.at(index, self.question) == self.question {
+            return Ok(());
+        }
+        self.parts.put(index, self.question);
+        self.heap.insert(literal)
     }
 
     /// The id of the clause that is the literal of this variable alone, or 0.

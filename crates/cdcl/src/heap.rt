@@ -136,6 +136,14 @@ impl Heap {
         Ok(())
     }
 
+    /// Takes all variables out. Their activities stay.
+    pub fn clear(&mut self) {
+        for entry in self.entries.iter() {
+            self.places.put(index_of(entry.variable), 0);
+        }
+        self.entries.clear();
+    }
+
     /// Takes the most active variable out.
     pub fn pop(&mut self) -> Option<i32> {
         let top = self.entries.first().copied()?;

@@ -94,12 +94,18 @@ pub fn go_back(kernel: &mut LoggedKernel, guide: &mut Guide, level: usize) -> Re
 }
 
 /// Goes back to a level at the end of a call. The phases of what goes from the trail are the negative
-/// ones again, so that the models of the next call have few variables that are true.
+/// ones again, so that the models of the next call have few variables that are true. Of a part they keep
+/// their values, since its questions are much alike.
 pub fn leave(kernel: &mut LoggedKernel, guide: &mut Guide, level: usize) -> Result<(), SatError>
     ensures keeps { Keeps kernel.old kernel.new }
     ensures refused { IfErr result (λ e. e ≡ OutOfMemory witness) }
 {
-    give_up(kernel, guide, level, Phases::Negative)
+    let phases = if guide.is_part {
+        Phases::Kept
+    } else {
+        Phases::Negative
+    };
+    give_up(kernel, guide, level, phases)
 }
 
 /// What becomes of the phases of literals that go from the trail.
@@ -129,7 +135,7 @@ fn give_up(
         if let Some(literal) = kernel.known().literal(place) {
             let phase = phases == Phases::Kept && literal > 0;
             guide.phases.put(literal.unsigned_abs() as usize, phase);
-            guide.heap.insert(literal)?;
+            guide.open(literal)?;
         }
     }
     kernel.backtrack(start);

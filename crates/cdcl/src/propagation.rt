@@ -87,6 +87,16 @@ fn propagate_literal(
     outcome
 }
 
+/// Whether a clause with this blocker need not be looked at: the blocker is true; or it has no value and is not of the
+/// part in question, above level 0, so that the clause may stay as it is.
+#[inline]
+fn is_passed_over(kernel: &LoggedKernel, guide: &Guide, blocker: i32) -> bool {
+    if kernel.known().is_true(blocker) {
+        return true;
+    }
+    !guide.is_inside(blocker) && guide.levels.current() > 0 && !kernel.known().is_false(blocker)
+}
+
 /// Looks at the clauses of two literals that have this one.
 fn visit_binary(
     kernel: &mut LoggedKernel,
@@ -102,7 +112,7 @@ fn visit_binary(
         let Some(watch) = guide.watches.binary(denied).get(at).copied() else {
             break;
         };
-        if kernel.known().is_true(watch.blocker) {
+        if is_passed_over(kernel, guide, watch.blocker) {
             continue;
         }
         if !budget.tick() {
@@ -131,7 +141,7 @@ fn visit_long(
     let mut kept = 0;
     for at in 0..list.len() {
         let watch = list[at];
-        if kernel.known().is_true(watch.blocker) {
+        if is_passed_over(kernel, guide, watch.blocker) {
             list[kept] = watch;
             kept += 1;
             continue;

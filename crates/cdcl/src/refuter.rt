@@ -144,7 +144,7 @@ fn searched(
     ensures ends { IfOk result (EndsWith kernel.old kernel.new units.now) }
     ensures limit { IfErr result (λ e. e ≡ Limit full → IsFull kernel.new) }
 {
-    let answer = search(kernel, guide, units, budget);
+    let answer = search(kernel, guide, None, units, budget);
     if answer.is_err() {
         kernel.backtrack(0);
         *guide = Guide::new(alloc);

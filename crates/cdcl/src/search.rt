@@ -1,11 +1,10 @@
 //! The search: propagate, learn from a conflict, decide.
 
-ghost use Rattle.std.specs.Prelude.{◌≡◌, All, IfOk, IfSome, IfErr};
+ghost use Rattle.std.specs.Prelude.{◌≡◌, All, IfOk, IfSome, IfErr, option_map};
 ghost use Rattle.base.specs.Budget.{Spends};
 ghost use Rattle.cdcl.specs.Keeping.{Keeps};
 ghost use Rattle.lrat.specs.Literals.{IsLiteral};
-ghost use Rattle.cdcl.specs.Settled.{EndsWith, IsSettled};
-ghost use Rattle.solver.specs.Answers.{IsLawful};
+ghost use Rattle.cdcl.specs.Settled.{EndsWith, IsSettled, IsCoreAnswer, IsAnswer};
 ghost use Rattle.solver.specs.declared.sat_error.SatError.TheVariants.{Limit};
 ghost use Rattle.solver.specs.Full.{full};
 ghost use Rattle.cdcl.specs.Logged.{IsFull};
@@ -23,7 +22,7 @@ use crate::trail_reuse::reuse_trail;
 use crate::units::imply;
 use base::Budget;
 use cdcl_kernel::{Found, Kernel};
-use solver::{Answer, SatError};
+use solver::{Answer, Part, SatError};
 
 /// What to do where nothing more follows.
 enum Next {
@@ -35,28 +34,30 @@ enum Next {
     Full,
 }
 
-/// Finds a model under the assumptions, or part of them that can't hold. Where a log is wanted, the
-/// clause that denies that part may follow it then. It is refused for `Limit` only where all ids are
+/// Finds a model under the assumptions, of all clauses or of a part, or some of them that can't hold. Where a log is
+/// wanted, the clause that denies these may follow it then. It is refused for `Limit` only where all ids are
 /// taken then.
 pub fn search(
     kernel: &mut LoggedKernel,
     guide: &mut Guide,
+    part: Option<&Part>,
     assume: &[i32],
     budget: &mut Budget,
 ) -> Result<Answer, SatError>
     requires { All (IsLiteral kernel.old.vars) assume.now }
     ensures keeps { Keeps kernel.old kernel.new }
     ensures spends { Spends budget.old budget.new }
-    ensures lawful { IfOk result (IsLawful kernel.old.vars kernel.old.clauses assume.now budget.new) }
+    ensures lawful { IfOk result (IsAnswer kernel.old (option_map (λ p. p.now) part.entry) assume.now budget.new) }
     ensures ends { IfOk result (EndsWith kernel.old kernel.new assume.now) }
     ensures limit { IfErr result (λ e. e ≡ Limit full → IsFull kernel.new) }
 {
-    reuse_trail(kernel, guide, assume)?;
+    reuse_trail(kernel, guide, part.is_some(), assume)?;
     guide.grow_to(assume)?;
     attach_new(kernel, guide)?;
+    guide.begin(part)?;
     recall(kernel, guide)?;
     'searching: while budget.tick() {
-        if let Some(answer) = turn(kernel, guide, assume, budget)? {
+        if let Some(answer) = turn(kernel, guide, part, assume, budget)? {
             return Ok(answer);
         }
     }
@@ -67,13 +68,14 @@ pub fn search(
 fn turn(
     kernel: &mut LoggedKernel,
     guide: &mut Guide,
+    part: Option<&Part>,
     assume: &[i32],
     budget: &mut Budget,
 ) -> Result<Option<Answer>, SatError>
     requires { All (IsLiteral kernel.old.vars) assume.now }
     ensures keeps { Keeps kernel.old kernel.new }
     ensures spends { Spends budget.old budget.new }
-    ensures lawful { IfOk result (λ r. IfSome r (IsSettled kernel.old assume.now)) }
+    ensures lawful { IfOk result (λ r. IfSome r (IsSettled kernel.old (option_map (λ p. p.now) part.entry) assume.now)) }
     ensures ends { IfOk result (λ r. IfSome r (EndsWith kernel.old kernel.new assume.now)) }
     ensures limit { IfErr result (λ e. e ≡ Limit full → IsFull kernel.new) }
 {
@@ -83,7 +85,7 @@ fn turn(
     match propagate(kernel, guide, budget)? {
         Propagated::Spent => Ok(None),
         Propagated::Conflict(conflict) => meet(kernel, guide, conflict, assume),
-        Propagated::Quiet => advance(kernel, guide, assume),
+        Propagated::Quiet => advance(kernel, guide, part, assume),
     }
 }
 
@@ -95,7 +97,7 @@ fn meet(
     assume: &[i32],
 ) -> Result<Option<Answer>, SatError>
     ensures keeps { Keeps kernel.old kernel.new }
-    ensures lawful { IfOk result (λ r. IfSome r (IsSettled kernel.old assume.now)) }
+    ensures lawful { IfOk result (λ r. IfSome r (IsCoreAnswer kernel.old assume.now)) }
     ensures ends { IfOk result (λ r. IfSome r (EndsWith kernel.old kernel.new assume.now)) }
     ensures limit { IfErr result (λ e. e ≡ Limit full → IsFull kernel.new) }
 {
@@ -122,11 +124,12 @@ fn meet(
 fn advance(
     kernel: &mut LoggedKernel,
     guide: &mut Guide,
+    part: Option<&Part>,
     assume: &[i32],
 ) -> Result<Option<Answer>, SatError>
     requires { All (IsLiteral kernel.old.vars) assume.now }
     ensures keeps { Keeps kernel.old kernel.new }
-    ensures lawful { IfOk result (λ r. IfSome r (IsSettled kernel.old assume.now)) }
+    ensures lawful { IfOk result (λ r. IfSome r (IsSettled kernel.old (option_map (λ p. p.now) part.entry) assume.now)) }
     ensures ends { IfOk result (λ r. IfSome r (EndsWith kernel.old kernel.new assume.now)) }
     ensures limit { IfErr result (λ e. e ≡ Limit full → IsFull kernel.new) }
 {
@@ -139,7 +142,7 @@ fn advance(
             let core = core_of_denied(kernel, guide, literal, assume)?;
             Ok(core.map(Answer::Core))
         }
-        Next::Full => look_through(kernel, guide, assume),
+        Next::Full => look_through(kernel, guide, part, assume),
     }
 }
 
@@ -162,20 +165,24 @@ fn choose(kernel: &Kernel, guide: &mut Guide, assume: &[i32]) -> Next {
     Next::Full
 }
 
-/// Answers the values on the trail where they satisfy the clauses. Else a clause without a true
+/// Answers the values on the trail where they satisfy the clauses, or the part. Else a clause without a true
 /// literal is met as a conflict, or one of its open literals comes on the trail.
 fn look_through(
     kernel: &mut LoggedKernel,
     guide: &mut Guide,
+    part: Option<&Part>,
     assume: &[i32],
 ) -> Result<Option<Answer>, SatError>
     requires { All (IsLiteral kernel.old.vars) assume.now }
     ensures keeps { Keeps kernel.old kernel.new }
-    ensures lawful { IfOk result (λ r. IfSome r (IsSettled kernel.old assume.now)) }
+    ensures lawful { IfOk result (λ r. IfSome r (IsSettled kernel.old (option_map (λ p. p.now) part.entry) assume.now)) }
     ensures ends { IfOk result (λ r. IfSome r (EndsWith kernel.old kernel.new assume.now)) }
     ensures limit { IfErr result (λ e. e ≡ Limit full → IsFull kernel.new) }
 {
-    let values = kernel.known().model_of(guide.alloc, assume)?;
+    let values = match part {
+        Some(part) => kernel.known().part_model(guide.alloc, part, assume)?,
+        None => kernel.known().model_of(guide.alloc, assume)?,
+    };
     if values.is_none() {
         repair(kernel, guide)?;
     }

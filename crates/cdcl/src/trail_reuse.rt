@@ -19,16 +19,18 @@ use solver::SatError;
 const WAITING: usize = 32;
 
 /// Goes back to where the assumptions are no longer those of the call before, and takes note of
-/// them. Where many clauses of one literal wait for level 0, it goes back to that.
+/// them. It goes back to level 0 where many clauses of one literal wait for that, and where either call is about a part:
+/// what follows outside of a part is not on the trail.
 pub fn reuse_trail(
     kernel: &mut LoggedKernel,
     guide: &mut Guide,
+    is_part: bool,
     assume: &[i32],
 ) -> Result<(), SatError>
     ensures keeps { Keeps kernel.old kernel.new }
     ensures refused { IfErr result (λ e. e ≡ OutOfMemory witness) }
 {
-    let level = if guide.single.len() > WAITING {
+    let level = if is_part || guide.is_part || guide.single.len() > WAITING {
         0
     } else {
         shared(guide, assume)

@@ -1,5 +1,5 @@
 -- What the trail says of the added clauses and of assumptions.
-use Rattle.std.proofs.Common.{◌≡◌, ◌≢◌, ◌⊎◌, inl, inr, ◌∙◌, ◌+◌, ◌<◌, ℕ, zero, suc, Bool, true, false, not, IsTrue, ◌↔◌, List, [], ◌∷◌, length, take, get_or, set, slice_index_or, map, All, Contains, Option, None, Some, MatchOption, ℤ, pos, negsuc, neg_ℤ, unsigned_abs, refl, sym, ap, subst, arith, get_or-set_other, get_or-set_same}
+use Rattle.std.proofs.Common.{◌≡◌, ◌≢◌, ◌⊎◌, inl, inr, ◌∙◌, ◌+◌, ◌<◌, ℕ, zero, suc, Bool, true, false, not, ◌&&◌, IsTrue, ◌↔◌, List, [], ◌∷◌, length, take, get_or, set, slice_index_or, map, All, Contains, Option, None, Some, MatchOption, ℤ, pos, negsuc, neg_ℤ, unsigned_abs, refl, sym, ap, subst, arith, get_or-set_other, get_or-set_same}
 use Rattle.std.proofs.lemmas.List.{get_or-take, length-take}
 use Rattle.std.proofs.lemmas.Bool.Decides.{nat_tests}
 use Rattle.std.proofs.lemmas.List.Elements.{All-nil, All-cons, All-contains, Contains-append_right, Contains-get_or}
@@ -10,10 +10,13 @@ use Rattle.lrat.specs.Marks.{AreApart}
 use Rattle.lrat.proofs.Sound.{apart}
 use Rattle.lrat.proofs.Proper.{denial_of}
 use Rattle.solver.specs.Answers.{AreTrue, values, IsModel, IsCore}
+use Rattle.solver.specs.Parts.{IsAnd, IsPartModel}
+use Rattle.solver.specs.declared.part.AndGate.{AndGate}
+use Rattle.solver.specs.declared.part.Part.{Part}
 use Rattle.solver.proofs.Looks.{all_more}
 use Rattle.cdcl_kernel.specs.Kept.{Kept, origin_in, added, added_if, gone, live, live_if}
 use Rattle.cdcl_kernel.specs.Known.{Known, IsLearned}
-use Rattle.cdcl_kernel.specs.Verdicts.{HoldsOne, HoldsOneOf, IsUnsatisfied, DeniesAssumed, IsOpposed}
+use Rattle.cdcl_kernel.specs.Verdicts.{HoldsOne, HoldsOneOf, IsUnsatisfied, IsSettledGate, DeniesAssumed, IsOpposed}
 use Rattle.cdcl_kernel.specs.declared.origin.Origin.{Origin}
 use Rattle.cdcl_kernel.specs.declared.origin.Origin.TheVariants.{Added, Learned, Removed}
 use lib.Signed.{lt_z}
@@ -132,6 +135,48 @@ model_from n cs assume ls b held assumed places none all = record {
   none = none;
   satisfied = λ k d lt. held_true (values b) ls (get_or cs k d) all (held k d lt);
   assumed = λ k d lt. All-contains (λ l. is_true (values b) l ≡ true) ls (get_or assume k d) all (assumed k d lt);
+}
+
+-- ---- the gates that a trail settles
+
+on_trail : (v : ℕ → Bool) (ls : List ℤ) (l : ℤ) → AreTrue v ls → Contains ls l → is_true v l ≡ true
+on_trail v ls l all at = All-contains (λ k. is_true v k ≡ true) ls l all at
+
+not_held : (b : Bool) → (b ≡ true → ⊥) → b ≡ false
+not_held true h = absurd (h refl)
+not_held false h = refl
+
+denied_false : (v : ℕ → Bool) (ls : List ℤ) (l : ℤ) → AreTrue v ls → Contains ls (neg_ℤ l) → is_true v l ≡ false
+denied_false v ls l all at = not_held (is_true v l) (λ e. apart v l e (on_trail v ls (neg_ℤ l) all at))
+
+both_true : (a b c : Bool) → a ≡ true → b ≡ true → c ≡ true → a ≡ (b && c)
+both_true a true c p q r = p ∙ sym r
+both_true a false c p q r = absurd (let f : false ≡ true = q in cc)
+
+left_false : (a b c : Bool) → a ≡ false → b ≡ false → a ≡ (b && c)
+left_false a true c p q = absurd (let f : true ≡ false = q in cc)
+left_false a false c p q = p
+
+right_false : (a b c : Bool) → a ≡ false → c ≡ false → a ≡ (b && c)
+right_false a true c p q = p ∙ sym q
+right_false a false c p q = p
+
+settled_and : (v : ℕ → Bool) (ls : List ℤ) (g : AndGate) → AreTrue v ls → IsSettledGate ls g → IsAnd v g
+settled_and v ls g all (inl h) =
+    both_true (is_true v g.lhs) (is_true v g.rhs0) (is_true v g.rhs1) (on_trail v ls g.lhs all h.0) (on_trail v ls g.rhs0 all h.1) (on_trail v ls g.rhs1 all h.2)
+settled_and v ls g all (inr (low, inl d)) =
+    left_false (is_true v g.lhs) (is_true v g.rhs0) (is_true v g.rhs1) (denied_false v ls g.lhs all low) (denied_false v ls g.rhs0 all d)
+settled_and v ls g all (inr (low, inr d)) =
+    right_false (is_true v g.lhs) (is_true v g.rhs0) (is_true v g.rhs1) (denied_false v ls g.lhs all low) (denied_false v ls g.rhs1 all d)
+
+pub part_model_from : (n : ℕ) (part : Part) (assume ls : List ℤ) (b : List Bool) → All (IsSettledGate ls) part.gates.items → All (Contains ls) part.literals.items → All (Contains ls) assume → length b ≡ n + 1
+    → slice_index_or b 0 true ≡ false → AreTrue (values b) ls → IsPartModel n part assume b
+part_model_from n part assume ls b settled wanted assumed places none all = record {
+  places = places;
+  none = none;
+  gates = λ k d lt. settled_and (values b) ls (get_or part.gates.items k d) all (settled k d lt);
+  wanted = λ k d lt. on_trail (values b) ls (get_or part.literals.items k d) all (wanted k d lt);
+  assumed = λ k d lt. on_trail (values b) ls (get_or assume k d) all (assumed k d lt);
 }
 
 -- ---- assumptions

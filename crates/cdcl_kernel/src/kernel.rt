@@ -9,8 +9,9 @@ ghost use Rattle.cdcl_kernel.specs.Forgotten.{Forgets, GoOut};
 ghost use Rattle.cdcl_kernel.specs.Grounds.{decisions, reasons};
 ghost use Rattle.cdcl_kernel.specs.Known.{none_known, with_clause, back_to, Tells, Decides, IsLearned, Learns};
 ghost use Rattle.cdcl_kernel.specs.declared.origin.Origin.TheVariants.{Added};
-ghost use Rattle.cdcl_kernel.specs.Verdicts.{HoldsOne, IsUnsatisfied, HoldsAll, DeniesAssumed, IsOpposed, IsReplacement};
+ghost use Rattle.cdcl_kernel.specs.Verdicts.{HoldsOne, IsUnsatisfied, HoldsAll, IsHighGate, HasDenied, IsSettledGate, HoldsPart, DeniesAssumed, IsOpposed, IsReplacement};
 ghost use Rattle.solver.specs.Answers.{IsModel, IsCore};
+ghost use Rattle.solver.specs.Parts.{IsPartModel};
 ghost use Rattle.solver.specs.declared.sat_error.SatError.TheVariants.{Limit, OutOfMemory};
 ghost use Rattle.solver.specs.Full.{full};
 
@@ -22,7 +23,7 @@ use crate::store::Store;
 use crate::verdict::{assumed_part, opposed_pair, replacement, values_of};
 use base::{copied, push, reserve_one};
 use lrat::{Fault, Left, Lookup, Trail, derive_with, look_at};
-use solver::{SatError, Taken};
+use solver::{AndGate, Part, SatError, Taken};
 use std::alloc::Global;
 use std::marker::Model;
 
@@ -349,6 +350,71 @@ impl Kernel {
             return Ok(None);
         }
         if !self.are_true(assume) {
+            return Ok(None);
+        }
+        let values = values_of(alloc, self.trail.vars(), self.trail.literals())?;
+        Ok(Some(values))
+    }
+
+    /// Whether the trail has the gate's literal and both right sides.
+    #[inline]
+    fn is_high(&self, gate: AndGate) -> bool
+        ensures { IsTrue result ↔ IsHighGate self.now.literals gate }
+    {
+        if !self.is_true(gate.lhs) {
+            return false;
+        }
+        self.is_true(gate.rhs0) && self.is_true(gate.rhs1)
+    }
+
+    /// Whether the trail has the negation of a right side.
+    #[inline]
+    fn is_denied(&self, gate: AndGate) -> bool
+        ensures { IsTrue result ↔ HasDenied self.now.literals gate }
+    {
+        self.is_false(gate.rhs0) || self.is_false(gate.rhs1)
+    }
+
+    /// Whether the trail has the gate's literal and both right sides, or its negation and that of a right side.
+    #[inline]
+    fn is_settled(&self, gate: AndGate) -> bool
+        ensures { IsTrue result ↔ IsSettledGate self.now.literals gate }
+    {
+        self.is_high(gate) || (self.is_false(gate.lhs) && self.is_denied(gate))
+    }
+
+    /// Whether the trail settles each of the gates.
+    fn settles(&self, gates: &[AndGate]) -> bool
+        ensures { IsTrue result ↔ All (IsSettledGate self.now.literals) gates.now }
+    {
+        for gate in gates {
+            if !self.is_settled(*gate) {
+                return false;
+            }
+        }
+        true
+    }
+
+    /// The values that the trail gives, where it settles each gate of the part, and holds the part's literals
+    /// and all assumptions. Variables that are not on the trail are false. It costs the part, the assumptions
+    /// and the variables.
+    pub fn part_model(
+        &self,
+        alloc: Global,
+        part: &Part,
+        assume: &[i32],
+    ) -> Result<Option<Vec<bool>>, SatError>
+        ensures model { IfOk result (λ r. MatchOption r (HoldsPart self.now part.now assume.now → ⊥) (λ b. IsPartModel self.now.vars part.now assume.now b.items)) }
+        ensures refused { IfErr result (λ e. e ≡ OutOfMemory witness) }
+    {
+        if !self.settles(part.gates.as_slice()) {
+            return Ok(None);
+        }
+        if !self.are_true(part.literals.as_slice()) {
+            return Ok(None);
+        }
+        let is_assumed = self.are_true(assume);
+        if !is_assumed {
             return Ok(None);
         }
         let values = values_of(alloc, self.trail.vars(), self.trail.literals())?;

@@ -2,3 +2,4 @@ pub mod Answers
 pub mod Branches
 pub mod Full
 pub mod Numbers
+pub mod Parts

@@ -4,6 +4,7 @@
 //!   last `reset` and the assumptions; a core is part of the assumptions, and nothing satisfies
 //!   it together with the clauses; `Spent` is answered only where the budget is exhausted.
 //!   A refusal, for lack of memory or of ids, leaves the clauses as they were.
+//! - `PartSat` is what a solver keeps to that answers a question about part of a circuit at the cost of that part.
 //! - `Full` is the witness that all ids of clauses are taken, and `Taken` makes it.
 //! - `Plain` is a solver by backtracking, short rather than fast.
 //!
@@ -15,6 +16,8 @@ mod answer;
 mod free;
 mod full;
 mod look;
+mod part;
+mod part_sat;
 mod plain;
 mod sat;
 mod sat_error;
@@ -22,6 +25,8 @@ mod search;
 
 pub use answer::Answer;
 pub use full::{Full, Taken};
+pub use part::{AndGate, Part};
+pub use part_sat::PartSat;
 pub use plain::Plain;
 pub use sat::Sat;
 pub use sat_error::SatError;

@@ -1,4 +1,4 @@
-use Rattle.std.proofs.Common.{rules, ◌≢◌, ℤ, pos, get_or, unsigned_abs}
+use Rattle.std.proofs.Common.{rules, ◌≢◌, pos, get_or, unsigned_abs}
 use Rattle.solver.proofs.Looks.{all_more}
 use Rattle.solver.proofs.free.lacks.Goals as goal
 
