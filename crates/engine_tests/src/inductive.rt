@@ -1,15 +1,15 @@
-//! Worked circuits: IC3 by backtracking finds an invariant that is certified, or a run that shows the bad
-//! literal, wastes no budget, and tells how far it has come. `cases/texts.tsv` has the same by the solver of `aigmc`.
+//! Worked circuits: IC3 finds an invariant that is certified, or a run that shows the bad literal, and tells how far
+//! it has come. `cases/texts.tsv` has the same by `aigmc`.
 
 ghost use Rattle.engine.specs.Findings.{IsForBad};
 
 use crate::bounded::circuit;
+use cdcl::Cdcl;
 use certify::{Certified, certify};
 use checker::check;
 use engine::{Engine, Finding, Progress};
 use graph::{Budget, Lit, Model, Property, Seq};
 use ic3::Ic3;
-use solver::{Plain, Sat};
 use std::alloc::Global;
 use std::test::Fail;
 use stimulus::{Stimulus, judge};
@@ -61,10 +61,10 @@ fn is_shown(alloc: Global, circuit: &Model, initial: Seq<bool>, inputs: Seq<Seq<
 }
 
 /// Whether the circuit is found safe or not, with evidence that stands.
-fn found<S: Sat>(solver: S, alloc: Global, circuit: &Model, safe: bool) -> Result<bool, Fail>
+fn found(alloc: Global, circuit: &Model, safe: bool) -> Result<bool, Fail>
     requires { IsForBad circuit.now }
 {
-    match Ic3::new(solver).find(alloc, circuit, &mut Budget::new(STEPS))? {
+    match Ic3::new(Cdcl::new(alloc)).find(alloc, circuit, &mut Budget::new(STEPS))? {
         Finding::Invariant(clauses) => Ok(
             safe && is_certified(alloc, circuit, clauses.as_slice())?,
         ),
@@ -73,14 +73,14 @@ fn found<S: Sat>(solver: S, alloc: Global, circuit: &Model, safe: bool) -> Resul
     }
 }
 
-/// The same of the circuit of a text, by backtracking.
+/// The same of the circuit of a text.
 fn is_found(alloc: Global, text: &[u8], safe: bool) -> Result<bool, Fail> {
     let circuit = circuit(alloc, text)?;
-    found(Plain::new(alloc), alloc, &circuit, safe)
+    found(alloc, &circuit, safe)
 }
 
 #[test]
-fn by_backtracking(rt: HostRuntime) -> Result<(), Fail> {
+fn finds_worked_circuits(rt: HostRuntime) -> Result<(), Fail> {
     for (text, safe) in &WORKED {
         assert!(rt; is_found(rt.alloc(), text, *safe)?, "{text:?}");
     }
@@ -116,7 +116,7 @@ fn heard_of(alloc: Global, text: &[u8]) -> Result<Heard, Fail> {
         clauses: 0,
         questions: 0,
     };
-    let mut engine = Ic3::new(Plain::new(alloc)).with_progress(nothing);
+    let mut engine = Ic3::new(Cdcl::new(alloc)).with_progress(nothing);
     engine.find(alloc, &circuit, &mut Budget::new(STEPS))?;
     Ok(engine.into_progress())
 }

@@ -144,7 +144,7 @@ pub after_answer : (m : Parts) (es : List Entry) (levels k : ℕ) (gs : List Gua
     All (λ g. (k ≤ g) × (g < levels)) guards → IsConsecution m gs guards c after r → IsAfter m es k c after r
 after_answer m es levels k gs guards c after (Held part) backs are law = λ w time inside.
     wider part c (next_state m w) law.0 (law.1 w time (frame_guarded es levels k gs guards (state_of m w) backs are inside))
-after_answer m es levels k gs guards c after (Broken t) backs are law = (law.0, law.1, law.3)
+after_answer m es levels k gs guards c after (Broken t) backs are law = law
 after_answer m es levels k gs guards c after Spent backs are law = law
 
 -- an answer with the clause itself under a guard of its own
@@ -152,7 +152,7 @@ pub relative_answer : (m : Parts) (es : List Entry) (levels k next : ℕ) (gs : 
     All (λ g. g.guard < next) gs → AreGuards k levels next guards → IsConsecution m (gs ++ record { guard = next; clause = c } ∷ []) guards c after r → IsRelative m es k c after r
 relative_answer m es levels k next gs guards c after (Held part) backs used are law =
     (law.0, λ w time inside holds. law.1 w time (query_guarded es levels k next gs (record { guard = next; clause = c }) guards (state_of m w) backs used are inside holds))
-relative_answer m es levels k next gs guards c after (Broken t) backs used are law = (law.0, law.1, law.3)
+relative_answer m es levels k next gs guards c after (Broken t) backs used are law = law
 relative_answer m es levels k next gs guards c after Spent backs used are law = law
 
 -- a query's guards: those of the levels and its own

@@ -9,10 +9,10 @@ use engine::EngineError;
 use graph::{Model, Seq};
 use ic3_frames::Frames;
 use ic3_step::StateLit;
-use solver::Sat;
+use solver::PartSat;
 use std::alloc::Global;
 
-impl<S: Sat> FrameSolver<S> {
+impl<S: PartSat> FrameSolver<S> {
     /// Adds a clause that is inductive from a frame to the frames up to the next one.
     pub(crate) fn add_to_frames(
         &mut self,

@@ -11,7 +11,7 @@ use engine::EngineError;
 use graph::{Budget, Model};
 use ic3_frames::Frames;
 use ic3_step::{Assignment, Reply};
-use solver::Sat;
+use solver::PartSat;
 use std::alloc::Global;
 
 /// What is known of the bad literal in a frame.
@@ -25,7 +25,7 @@ pub(crate) enum AtBad {
     Spent,
 }
 
-impl<S: Sat> FrameSolver<S> {
+impl<S: PartSat> FrameSolver<S> {
     /// Asks for a time of the last frame at which the bad literal is true.
     pub(crate) fn at_bad(
         &mut self,

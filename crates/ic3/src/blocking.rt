@@ -12,7 +12,7 @@ use engine::EngineError;
 use graph::{Budget, Model, Seq};
 use ic3_frames::Frames;
 use ic3_step::{Assignment, Consecution, StateLit};
-use solver::Sat;
+use solver::PartSat;
 use std::alloc::Global;
 
 /// What became of states that were to be blocked.
@@ -28,7 +28,7 @@ pub(crate) enum Blocking {
     Spent,
 }
 
-impl<S: Sat> FrameSolver<S> {
+impl<S: PartSat> FrameSolver<S> {
     /// Adds a clause that is inductive from a frame, as short as it gets and as far on as it holds.
     fn learn(
         &mut self,

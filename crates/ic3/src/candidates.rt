@@ -14,7 +14,7 @@ use engine::EngineError;
 use graph::{Budget, Lit, Model, Seq};
 use ic3_frames::Frames;
 use ic3_step::StateLit;
-use solver::Sat;
+use solver::PartSat;
 use std::alloc::Global;
 
 /// The position of each latch, by its variable. It costs the circuit's variables.
@@ -100,7 +100,7 @@ fn state_clause(
     Ok(Some(Seq::from_vec(found)))
 }
 
-impl<S: Sat> FrameSolver<S> {
+impl<S: PartSat> FrameSolver<S> {
     /// Adds a clause to the first frame behind the initial states, if it has a literal that each of those sets and
     /// holds after each step from one.
     fn try_clause(

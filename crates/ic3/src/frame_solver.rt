@@ -16,7 +16,7 @@ use engine::EngineError;
 use graph::{Budget, Model, Seq};
 use ic3_frames::{Entry, Frames};
 use ic3_step::{Consecution, StateLit, Transition, holds_after};
-use solver::Sat;
+use solver::PartSat;
 use std::alloc::Global;
 
 /// The fewest queries with a clause of their own, and propagated clauses, for which a circuit is
@@ -32,7 +32,7 @@ const VARIABLES: u32 = 64;
 /// A solver that has a circuit and the clauses of its frames, each under a guard. Its clauses
 /// are those of the frames: `IsSound` says so, and every call keeps it.
 #[derive(Drop)]
-pub(crate) struct FrameSolver<S: Sat> {
+pub(crate) struct FrameSolver<S: PartSat> {
     pub transition: Transition<S>,
     /// the guards below are those of the levels
     pub levels: u32,
@@ -65,7 +65,7 @@ pub(crate) fn guards_from(alloc: Global, first: u32, end: u32) -> Result<Seq<u32
     Ok(guards)
 }
 
-impl<S: Sat> FrameSolver<S> {
+impl<S: PartSat> FrameSolver<S> {
     /// A solver that has no circuit yet.
     pub(crate) fn new(solver: S) -> FrameSolver<S> {
         FrameSolver {
@@ -191,6 +191,7 @@ impl<S: Sat> FrameSolver<S> {
             circuit,
             guards.as_slice(),
             clause,
+            frames.activities(),
             budget,
         )
     }
@@ -224,6 +225,7 @@ impl<S: Sat> FrameSolver<S> {
             circuit,
             guards.as_slice(),
             clause,
+            frames.activities(),
             budget,
         )?;
         self.transition.add(alloc, circuit, guard, &[])?;

@@ -8,12 +8,12 @@ ghost use Rattle.ic3.specs.Answers.{IsDecided};
 use crate::frame_solver::FrameSolver;
 use engine::{Engine, EngineError, Finding, Progress, Silent};
 use graph::{Budget, Lit, Model, Seq};
-use solver::Sat;
+use solver::PartSat;
 use std::alloc::Global;
 
 /// IC3 (Bradley 2011) by any solver.
 #[derive(Drop)]
-pub struct Ic3<S: Sat, P: Progress> {
+pub struct Ic3<S: PartSat, P: Progress> {
     frame_solver: FrameSolver<S>,
     /// clauses that are tried first
     candidates: Option<Seq<Seq<Lit>>>,
@@ -21,7 +21,7 @@ pub struct Ic3<S: Sat, P: Progress> {
     progress: P,
 }
 
-impl<S: Sat> Ic3<S, Silent> {
+impl<S: PartSat> Ic3<S, Silent> {
     /// An engine that asks this solver.
     pub fn new(solver: S) -> Ic3<S, Silent> {
         Ic3 {
@@ -58,7 +58,7 @@ impl<S: Sat> Ic3<S, Silent> {
     }
 }
 
-impl<S: Sat, P: Progress> Ic3<S, P> {
+impl<S: PartSat, P: Progress> Ic3<S, P> {
     /// What heard of the searches.
     pub fn into_progress(self) -> P
         ensures { result ≡ self.progress }
@@ -67,7 +67,7 @@ impl<S: Sat, P: Progress> Ic3<S, P> {
     }
 }
 
-impl<S: Sat, P: Progress> Engine for Ic3<S, P> {
+impl<S: PartSat, P: Progress> Engine for Ic3<S, P> {
     ghost honest = { λ _. Unit {0} };
 
     ghost answers = { λ _ m _ r after. IfOk r (IsSo m after) × IfOk r IsDecided };

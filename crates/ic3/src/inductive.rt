@@ -15,10 +15,10 @@ use engine::EngineError;
 use graph::{Budget, Model, Seq};
 use ic3_frames::Frames;
 use ic3_step::{Consecution, StateLit};
-use solver::Sat;
+use solver::PartSat;
 use std::alloc::Global;
 
-impl<S: Sat> FrameSolver<S> {
+impl<S: PartSat> FrameSolver<S> {
     /// Asks whether the clause, which has a literal that every initial state sets, holds after each
     /// step from a state of the frame in which it holds. Where it does, what the solver needed of
     /// it is answered, with such a literal (Bradley 2011).

@@ -20,7 +20,7 @@ use engine::{EngineError, Finding, Progress, Reason};
 use graph::{Budget, Model};
 use ic3_frames::Frames;
 use ic3_step::Assignment;
-use solver::Sat;
+use solver::PartSat;
 use std::alloc::Global;
 
 /// Puts an obligation aside, until its predecessors are blocked.
@@ -31,7 +31,7 @@ fn stack(earlier: &mut Vec<Obligation>, now: Obligation) -> Result<(), Refused>
     Ok(())
 }
 
-impl<S: Sat> FrameSolver<S> {
+impl<S: PartSat> FrameSolver<S> {
     /// Blocks a time of the frame at `level` at which the bad literal is true, and before it its
     /// predecessors, or finds a run. Each time stands for all states that lead on as its own
     /// does. What is blocked is taken up again in the frames above, so that all of a long way to the

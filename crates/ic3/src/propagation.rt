@@ -11,10 +11,10 @@ use engine::EngineError;
 use graph::{Budget, Lit, Model, Seq};
 use ic3_frames::Frames;
 use ic3_step::Consecution;
-use solver::Sat;
+use solver::PartSat;
 use std::alloc::Global;
 
-impl<S: Sat> FrameSolver<S> {
+impl<S: PartSat> FrameSolver<S> {
     /// Propagates the clause at a place to the next frame, if it ends at the level and holds after
     /// each step from there.
     fn propagate_clause(

@@ -7,10 +7,10 @@ ghost use Rattle.engine.specs.Findings.{IsForBad, IsInvariant};
 use crate::frame_solver::FrameSolver;
 use engine::EngineError;
 use graph::{Budget, Lit, Model, Seq};
-use solver::Sat;
+use solver::PartSat;
 use std::alloc::Global;
 
-impl<S: Sat> FrameSolver<S> {
+impl<S: PartSat> FrameSolver<S> {
     /// The clauses of an invariant that the proof needs, in their order. It asks a question for each of them, and one
     /// more. Where the budget does not suffice, all clauses stay. The frames are to be loaded again after that.
     pub(crate) fn reduced(

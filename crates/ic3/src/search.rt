@@ -16,7 +16,7 @@ use crate::lift::Lifting;
 use engine::{EngineError, Finding, Progress, Reason};
 use graph::{Budget, Lit, Model, Seq};
 use ic3_frames::Frames;
-use solver::Sat;
+use solver::PartSat;
 use std::alloc::Global;
 
 /// How many levels have guards at first.
@@ -25,7 +25,7 @@ const LEVELS: u32 = 32;
 /// With more levels than this there are no guards for twice as many.
 const MOST_DOUBLED: u32 = 1_000_000_000;
 
-impl<S: Sat> FrameSolver<S> {
+impl<S: PartSat> FrameSolver<S> {
     /// Opens the next frame. Where it has no guard, the circuit is loaded again, for twice as many
     /// levels. With a thousand million frames there are no more: then it changes nothing and answers false.
     fn open_next(

@@ -10,6 +10,7 @@ ghost use Rattle.ic3_frames.specs.declared.frames.Entry.{Entry};
 ghost use Rattle.ic3_frames.specs.Frames.{InFrame, AreFrames, AreWithin, Excludes, IsRising, IsStateClause, HoldsInitially, HoldsAfter, HoldsOnward, IsNotSubsumed};
 ghost use Rattle.ic3_frames.specs.Resets.{IsInitialState};
 
+use crate::activities::Activities;
 use crate::invariant::{clauses_above, is_left};
 use crate::resets::reset_entries;
 use crate::subsumption::{insert, is_part};
@@ -30,6 +31,7 @@ pub struct Entry {
 pub struct Frames {
     entries: Vec<Entry>,
     top: u32,
+    activities: Activities,
 }
 
 impl std::marker::Model for Frames {
@@ -51,7 +53,12 @@ impl Frames {
     {
         circuit.well_formed();
         let entries = reset_entries(alloc, circuit.latches())?;
-        Ok(Frames { entries, top: 0 })
+        let activities = Activities::new(alloc, circuit.latches())?;
+        Ok(Frames {
+            entries,
+            top: 0,
+            activities,
+        })
     }
 
     /// The greatest frame, which is open.
@@ -66,6 +73,12 @@ impl Frames {
         ensures { result.now ≡ self.now.entries }
     {
         self.entries.as_slice()
+    }
+
+    /// How active each latch is, by its position: the more, the more clauses with it were added, and the later. A question
+    /// about a clause assumes the most active first. Nothing else rests on it.
+    pub fn activities(&self) -> &[u64] {
+        self.activities.values()
     }
 
     /// Whether a clause of the frame at `level` is part of this one, which then holds in each of its states.
@@ -95,6 +108,7 @@ impl Frames {
         ensures laws { (m : Parts) (bad : Lit) (k : ℕ) → AreFrames m bad self.old → level ≡ k + 1 → IsStateClause m clause → HoldsInitially m clause →
             HoldsOnward m self.old.entries k clause → OnOk result (AreFrames m bad self.new) }
     {
+        self.activities.bump(clause.as_slice());
         insert(&mut self.entries, clause, level)
     }
 

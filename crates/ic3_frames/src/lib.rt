@@ -8,6 +8,7 @@
 //! No solver is asked here: the contracts say what a solver has to have answered before.
 #![tactic(auto)]
 
+mod activities;
 mod frames;
 mod invariant;
 mod resets;

@@ -1,23 +1,28 @@
 -- From a reply about the denials of a clause to what holds after a step.
 use Rattle.std.proofs.Common.{◌≡◌, ℕ, suc, ◌+◌, ◌-◌, ◌/◌, ◌%◌, ◌*◌, ◌<◌, ◌≤◌, ◌⊎◌, Bool, true, false, not, List, [], ◌∷◌, ◌++◌, length, map, get_or, take, refl, inl, inr, arith, All, Contains, ◌∙◌, sym, ap, subst}
 use Rattle.std.proofs.lemmas.Bool.{cases_eq, eq-eqb, ne_eqb}
-use Rattle.std.proofs.lemmas.List.Elements.{All-contains, All-cons, All-nil, All-map, Contains-get_or, Contains-push, Contains-push_cases, Contains-append_left}
+use Rattle.std.proofs.lemmas.List.Elements.{All-contains, All-cons, All-nil, All-map, All-append, Contains-get_or, Contains-push, Contains-push_cases, Contains-append_left}
 use Rattle.std.proofs.lemmas.List.{take_more, get_or-map, length-map}
+use Rattle.std.specs.List.Sorted.{IsPermutation}
+use Rattle.std.proofs.lemmas.List.Sorted.{All-permutation, Contains-permutation, IsPermutation-sym}
 use Rattle.base.specs.Budget.{Steps}
 use Rattle.graph.specs.declared.circuit.Lit.{Lit}
 use Rattle.graph.specs.declared.circuit.Latch.{Latch}
 use Rattle.graph.specs.declared.parts.Parts.{Parts}
-use Rattle.graph.specs.Valuation.{place, value_of, defined}
+use Rattle.graph.specs.Valuation.{variable, place, value_of, defined}
 use Rattle.graph.specs.Runs.{next_state}
 use Rattle.graph.specs.WellFormed.{IsWellFormed}
 use Rattle.graph.proofs.Tabled.{holds_of_used}
+use Rattle.graph.proofs.Evaluation.{All-left, All-right, All-unmap}
+use Rattle.cones.specs.Marks.{IsMarked}
 use Rattle.cnf.specs.Clauses.{along}
 use Rattle.cnf.proofs.Formed.{IsKnown}
 use Rattle.cnf.proofs.Values.{turned}
 use Rattle.ic3_step.specs.declared.state.StateLit.{StateLit}
 use Rattle.ic3_step.specs.declared.state.Assignment.{Assignment}
 use Rattle.ic3_step.specs.declared.reply.Reply.TheVariants.{Found, Core}
-use Rattle.ic3_step.specs.declared.step.Consecution.TheVariants.{Held, Broken}
+use Rattle.ic3_step.specs.declared.step.Consecution.{Consecution}
+use Rattle.ic3_step.specs.declared.step.Consecution.TheVariants.{Held, Broken, Spent}
 use Rattle.ic3_step.specs.States.{latch_at, IsSet, Holds, Denies, IsPartOf, Guarded, AllSet, IsAt}
 use Rattle.ic3_step.specs.Replies.{IsReply}
 use Rattle.ic3_step.specs.Steps.{IsConsecution, HasNeeded, denial, next_literal}
@@ -129,14 +134,43 @@ held m gs guards clause part lits core after known are law among needs = (
 pub broken : (m : Parts) (gs : List Guarded) (guards : List ℕ) (clause : List StateLit) (lits : List Lit) (after : Steps) (t : Assignment)
     → All (λ a. a.latch < length m.latches) clause → lits ≡ map (denial m.latches) clause → IsReply m gs guards lits after (Found t)
     → IsConsecution m gs guards clause after (Broken t)
-broken m gs guards clause lits after t known are (w, at, set, holds) = (
+broken m gs guards clause lits after t known are (w, at, set) = (
   w,
   subst (λ (ls : List Lit). IsAt m ls w t) are at,
-  holds,
   λ k d k_in. unset_by_denial m w (get_or clause k d) (known k d k_in)
       (sym (ap (value_of w) (get_or-map (denial m.latches) clause k d (record { 0 = 0 }) k_in))
       ∙ subst (AllSet w) are set k (record { 0 = 0 }) (omega (arith, length-map clause (denial m.latches)))),
 )
+
+-- what is known of a clause is known of it in any order
+pub in_any_order : (m : Parts) (gs : List Guarded) (guards : List ℕ) (clause ordered : List StateLit) (after : Steps) (r : Consecution) → IsPermutation clause ordered →
+    IsConsecution m gs guards ordered after r → IsConsecution m gs guards clause after r
+in_any_order m gs guards clause ordered after (Held part) same law =
+    (λ a found. Contains-permutation ordered clause a (IsPermutation-sym clause ordered same) (law.0 a found), law.1)
+in_any_order m gs guards clause ordered after (Broken t) same (w, at, denied) =
+    let back : IsPermutation ordered clause = IsPermutation-sym clause ordered same in
+    let values = at.values in
+    let P : Lit → Type 0 = λ a. IsMarked values.cone (variable a) in
+    let first : List Lit = map (denial m.latches) ordered in (
+      w,
+      record {
+        is_time = at.is_time;
+        state = at.state;
+        inputs = at.inputs;
+        values = record {
+          cone = values.cone;
+          closed = values.closed;
+          asked = All-append P (map (denial m.latches) clause) m.constraints
+              (All-map P (denial m.latches) clause (All-permutation (λ (x : StateLit). P (denial m.latches x)) ordered clause back
+              (All-unmap P (denial m.latches) ordered (All-left P first m.constraints values.asked))))
+              (All-right P first m.constraints values.asked);
+          places = values.places;
+          same = values.same;
+        };
+      },
+      All-permutation (λ (x : StateLit). IsSet (next_state m w) x → ⊥) ordered clause back denied,
+    )
+in_any_order m gs guards clause ordered after Spent same law = law
 
 -- choosing what is needed
 pub chosen : (latches : List Latch) (clause : List StateLit) (core : List Lit) (part more : List StateLit) (i : ℕ) (d : StateLit) → i < length clause

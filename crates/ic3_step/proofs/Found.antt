@@ -1,6 +1,6 @@
 -- What satisfies a loaded solver's clauses is a time.
-use Rattle.std.proofs.Common.{◌≡◌, ℕ, ◌+◌, ◌%◌, ◌<◌, Some, inl, inr, arith, length, Bool, true, false, not, List, [], ◌∷◌, ◌++◌, map, get_or, All, Contains, ℤ, refl, sym, ◌∙◌, ap, subst}
-use Rattle.std.proofs.lemmas.List.Elements.{All-head, All-tail, All-contains, All-append, Contains-append_left, Contains-append_right}
+use Rattle.std.proofs.Common.{◌≡◌, ℕ, ◌+◌, ◌%◌, ◌<◌, ◌≤◌, inl, inr, arith, length, Bool, true, false, not, List, [], ◌∷◌, ◌++◌, map, get_or, All, Contains, ℤ, refl, sym, ◌∙◌, ap, subst}
+use Rattle.std.proofs.lemmas.List.Elements.{All-head, All-tail, Contains-append_left, Contains-append_right}
 use Rattle.base.specs.Budget.{Steps}
 use Rattle.graph.specs.declared.circuit.Lit.{Lit}
 use Rattle.graph.specs.declared.circuit.Latch.{Latch}
@@ -9,7 +9,7 @@ use Rattle.graph.specs.Valuation.{variable, place, value_of, defined, state_of}
 use Rattle.graph.specs.WellFormed.{IsWellFormed, IsModel as IsCircuit}
 use Rattle.graph.proofs.Evaluation.{held, All-left, All-right, All-unmap, Contains-map, latches_even}
 use Rattle.graph.proofs.Gates.{left, value_of-even}
-use Rattle.lrat.specs.Literals.{is_true, IsSatisfied}
+use Rattle.lrat.specs.Literals.{is_true}
 use Rattle.cnf.specs.Clauses.{literal}
 use Rattle.cnf.specs.Meaning.{AreSatisfied}
 use Rattle.cnf.proofs.Formed.{IsKnown}
@@ -17,15 +17,18 @@ use Rattle.cones.specs.Marks.{IsMarked, IsCone, AreSameAt}
 use Rattle.cones.specs.Partial.{HasGates, IsCompleted}
 use Rattle.cones.proofs.Assigned.{answer_law, model_law, evaluated_alike}
 use Rattle.cones.proofs.Lifted.{same_at_cone, agrees_on}
-use Rattle.solver.specs.Answers.{values, IsModel}
+use Rattle.solver.specs.Answers.{values}
 use Rattle.ic3_step.specs.declared.reply.Reply.TheVariants.{Found}
-use Rattle.ic3_step.specs.declared.cone.Cone.{Cone}
 use Rattle.ic3_step.specs.States.{Guarded}
+use Rattle.ic3_step.specs.Questions.{IsPartFor}
+use Rattle.solver.specs.declared.part.Part.{Part}
+use Rattle.solver.specs.Parts.{IsPartModel}
+use Rattle.ic3_step.proofs.Parted.{part_clauses, part_satisfied, part_gates, part_constraints}
 use Rattle.ic3_step.specs.Replies.{IsReply}
-use Rattle.ic3_step.specs.Contents.{Contents, guard_literal, latch_literal, guarded_clause, IsLoaded}
+use Rattle.ic3_step.specs.Contents.{guard_literal, latch_literal}
 use Rattle.ic3_step.specs.Readings.{assumptions_of, value_at, time_at}
-use Rattle.ic3_step.proofs.Valued.{valuation_of, valuation_is, place_defined, literal_valued, denial_valued, truth_on}
-use Rattle.ic3_step.proofs.Latched.{latch_literal_known, value_latch, HasState, guard_true, clause_holds, to_map}
+use Rattle.ic3_step.proofs.Valued.{valuation_of, valuation_is, place_defined, literal_valued, denial_valued}
+use Rattle.ic3_step.proofs.Latched.{latch_literal_known, value_latch, HasState}
 
 -- the literals that are read off
 value_same : (m : Parts) (b : List Bool) (a : Lit) → IsWellFormed m → a.0 % 2 ≡ 0 → Contains (defined m) (variable a) → value_of (valuation_of m (values b)) a ≡ value_at b a
@@ -65,26 +68,27 @@ has_state m v well on =
       off = λ i. denial_valued m v (latch_literal m i) well on (latch_literal_known m i) ∙ ap not (value_latch m (valuation_of m v) i constant);
     }
 
--- a model of the clauses and the assumptions is a time that was asked for
-pub found : (m : Parts) (order : List ℕ) (room : ℕ) (gs : List Guarded) (t : Contents) (guards : List ℕ) (lits : List Lit) (b : List Bool) (after : Steps) → IsCircuit m order →
-    IsLoaded m room gs t → ((c : Cone) → t.cone ≡ Some c → All (λ a. IsMarked c.marks.items (variable a)) lits) → All (IsKnown m) lits → IsModel t.vars t.clauses (assumptions_of m guards lits) b →
+-- a model of a part and the assumptions is a time that was asked for
+pub found : (m : Parts) (order : List ℕ) (n : ℕ) (gs : List Guarded) (part : Part) (guards : List ℕ) (lits : List Lit) (b : List Bool) (after : Steps) → IsCircuit m order →
+    m.max_var + 1 ≤ n → IsPartFor m lits part → All (IsKnown m) lits → IsPartModel n part (assumptions_of m guards lits) b →
     IsReply m gs guards lits after (Found (time_at m b))
-found m order room gs t guards lits b after circuit loaded asked known model =
+found m order n gs part guards lits b after circuit fits own known model =
     let well = circuit.well_formed in
     let v : ℕ → Bool = values b in
-    let marks : List Bool = loaded.cone.marks.items in
-    let marked : All (λ (a : Lit). IsMarked marks (variable a)) lits = asked loaded.cone loaded.is in
-    let sat : AreSatisfied v t.clauses = model.satisfied in
+    let marks : List Bool = own.cone in
+    let cs : List (List ℤ) = part_clauses m own.listed in
+    let P : Lit → Type 0 = λ a. IsMarked marks (variable a) in
+    let marked : All P lits = All-left P lits m.constraints own.asked in
+    let sat : AreSatisfied v cs = part_satisfied m n lits part (assumptions_of m guards lits) b own model in
+    let has : HasGates m (IsMarked marks) cs = part_gates m lits part own in
     let first : List ℤ = map (guard_literal m) guards in
     let last : List ℤ = map (literal m.max_var 0) lits in
     let set : All (λ (a : Lit). is_true v (literal m.max_var 0 a) ≡ true) lits = All-unmap (λ l. is_true v l ≡ true) (literal m.max_var 0) lits (All-right (λ l. is_true v l ≡ true) first last model.assumed) in
-    let h = answer_law m order circuit marks v t.clauses lits loaded.grown.closed loaded.grown.gates loaded.constraints sat (λ k d k_in. (known k d k_in, marked k d k_in)) set in
+    let h = answer_law m order circuit marks v cs lits own.closed has (part_constraints m lits part own) sat (λ k d k_in. (known k d k_in, marked k d k_in)) set in
     let w : List Bool = h.0 in
     let done : IsCompleted m (IsMarked marks) v w = h.1 in
     let none : get_or b 0 false ≡ false = first_false b model.none in
-    let long : m.max_var < length b = (let places : length b ≡ t.vars + 1 = model.places in let vars : t.vars ≡ m.max_var + 1 + room = loaded.vars in omega (arith, places, vars)) in
-    let on = truth_on m v t.clauses loaded.grown.gates.truth sat in
-    let state : HasState m v (state_of m w) = subst (HasState m v) (state_same m b well ∙ sym done.state) (has_state m v well on) in (
+    let long : m.max_var < length b = (let places : length b ≡ n + 1 = model.places in omega (arith, places, fits)) in (
       w,
       record {
         is_time = record { agrees = done.agrees; keeps = done.keeps };
@@ -92,19 +96,14 @@ found m order room gs t guards lits b after circuit loaded asked known model =
         inputs = done.inputs;
         values = record {
           cone = marks;
-          closed = loaded.grown.closed;
-          asked = All-append (λ (a : Lit). IsMarked marks (variable a)) lits m.constraints marked (λ k d k_in. (loaded.constraints k d k_in).0);
+          closed = own.closed;
+          asked = own.asked;
           places = long;
           same = λ k seen. elim seen [
-            | inl constant ↦ subst (λ n. place b n ≡ place w n) (sym constant) (none ∙ sym done.agrees.valuation.constant)
-            | inr inside ↦ cone_values m order marks b t.clauses w circuit loaded.grown.closed loaded.grown.gates sat none long done k inside.0 inside.1
+            | inl constant ↦ subst (λ i. place b i ≡ place w i) (sym constant) (none ∙ sym done.agrees.valuation.constant)
+            | inr inside ↦ cone_values m order marks b cs w circuit own.closed has sat none long done k inside.0 inside.1
           ];
         };
       },
       h.2,
-      λ k d k_in guard. clause_holds m v (state_of m w) (get_or gs k d) state
-          (sym (guard_true m v (get_or gs k d).guard)
-          ∙ All-contains (λ l. is_true v l ≡ true) first (guard_literal m (get_or gs k d).guard) (All-left (λ l. is_true v l ≡ true) first last model.assumed)
-          (to_map (guard_literal m) guards (get_or gs k d).guard guard))
-          (All-contains (IsSatisfied v) t.clauses (guarded_clause m (get_or gs k d)) sat (loaded.guarded k d k_in)),
     )

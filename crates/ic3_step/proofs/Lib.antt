@@ -2,6 +2,7 @@ pub mod Valued
 pub mod Latched
 pub mod Cores
 pub mod Loaded
+pub mod Parted
 pub mod Found
 pub mod Refused
 pub mod Denied

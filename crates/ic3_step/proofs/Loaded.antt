@@ -1,5 +1,5 @@
 -- What loading, growing and adding leave in a solver.
-use Rattle.std.proofs.Common.{◌≡◌, ◌≢◌, ℕ, zero, suc, ◌+◌, ◌<◌, ◌≤◌, Bool, true, false, not, if◌then◌else◌, Some, Result, Ok, Err, OnOk, inl, inr, List, [], ◌∷◌, ◌++◌, append_assoc, length, map, get_or, All, Contains, ℤ, pos, neg_ℤ, refl, sym, ◌∙◌, ap, subst, arith}
+use Rattle.std.proofs.Common.{◌≡◌, ◌≢◌, ℕ, zero, suc, ◌+◌, ◌<◌, ◌≤◌, Bool, true, false, not, if◌then◌else◌, Some, Result, Ok, Err, OnOk, IfOk, inl, inr, List, [], ◌∷◌, ◌++◌, append_assoc, length, map, get_or, All, Contains, ℤ, pos, neg_ℤ, refl, sym, ◌∙◌, ap, subst, arith}
 use Rattle.std.specs.Prelude.{flat_map}
 use Rattle.std.proofs.lemmas.Bool.{cases_eq, eq-eqb, ne_eqb, false≢true}
 use Rattle.std.proofs.lemmas.List.{map-append}
@@ -24,6 +24,7 @@ use Rattle.cones.proofs.Assigned.{contains_flat}
 use Rattle.ic3_step.specs.declared.state.StateLit.{StateLit}
 use Rattle.ic3_step.specs.declared.cone.Cone.{Cone}
 use Rattle.ic3_step.specs.States.{Guarded}
+use Rattle.ic3_step.specs.Questions.{IsUnasked}
 use Rattle.ic3_step.specs.Contents.{Contents, guard_literal, latch_literal, state_literal, guarded_clause, IsGrown, IsMoreOf, IsLoaded, HasGuards}
 use Rattle.ic3_step.specs.Readings.{assumptions_of}
 use Rattle.ic3_step.proofs.Valued.{known_in_range}
@@ -156,11 +157,10 @@ guarded_more m gs cs more has k d k_in = Contains-append_left cs more (guarded_c
 some_same : (x y : Cone) → Some x ≡ Some y → x ≡ y
 some_same x y e = cc
 
--- it is the same cone
-pub same_marked : (x y : Cone) (lits : List Lit) → Some x ≡ Some y → All (λ a. IsMarked x.marks.items (variable a)) lits → All (λ a. IsMarked y.marks.items (variable a)) lits
-same_marked x y lits e all = subst (λ (c : Cone). All (λ (a : Lit). IsMarked c.marks.items (variable a)) lits) (some_same x y e) all
+-- the marks stay where the cone is asked about
+pub kept_marks : (x y z : Cone) → z.marks ≡ y.marks → ((v : ℕ) → IsMarked x.marks.items v → IsMarked y.marks.items v) → (v : ℕ) → IsMarked x.marks.items v → IsMarked z.marks.items v
+kept_marks x y z same kept v on = subst (λ t. IsMarked t.items v) (sym same) (kept v on)
 
--- a solver whose cone has grown is as loaded
 pub loaded_grown : (m : Parts) (room : ℕ) (gs : List Guarded) (t : Contents) (cone grown : Cone) (vars : ℕ) (cs : List (List ℤ)) → IsLoaded m room gs t → t.cone ≡ Some cone → vars ≡ t.vars →
     IsGrown m grown cs → ((v : ℕ) → IsMarked cone.marks.items v → IsMarked grown.marks.items v) → IsMoreOf (frame_at m 0) t.clauses cs →
     IsLoaded m room gs (record { vars = vars; clauses = cs; cone = Some grown })
@@ -188,12 +188,13 @@ grown_of m room gs t cone loaded is = subst (λ (c : Cone). IsGrown m c t.clause
 
 -- nothing is marked yet
 pub none_grown : (m : Parts) (cone : Cone) (cs : List (List ℤ)) → IsGateTable m cone.table → length cone.marks.items ≡ m.max_var + 1 → ((v : ℕ) → place cone.marks.items v ≡ false) →
-    Contains cs (truth_clause m.max_var 0) → IsGrown m cone cs
-none_grown m cone cs table places clear truth = record {
+    IsUnasked m cone.asked.items → Contains cs (truth_clause m.max_var 0) → IsGrown m cone cs
+none_grown m cone cs table places clear unasked truth = record {
   table = table;
   places = places;
   closed = λ k d k_in on. absurd (false≢true (sym (clear (variable (get_or m.gates k d).lhs)) ∙ on));
   gates = record { truth = truth; gates = λ k d k_in on. absurd (false≢true (sym (clear (variable (get_or m.gates k d).lhs)) ∙ on)) };
+  unasked = unasked;
 }
 
 -- a solver that has what is true, the constraints, and what these are made of, is loaded
@@ -245,6 +246,7 @@ loaded_more m room gs g t u loaded same_vars same_cone are =
         places = loaded.grown.places;
         closed = loaded.grown.closed;
         gates = subst (HasGates m marked) (sym are) (gates_more m marked t.clauses one loaded.grown.gates);
+        unasked = loaded.grown.unasked;
       };
       constraints = subst (HasConstraints m marked) (sym are) (constraints_more m marked marked t.clauses one (λ v on. on) loaded.constraints);
       guarded = subst (λ (ds : List (List ℤ)). All (λ (x : Guarded). Contains ds (guarded_clause m x)) (gs ++ g ∷ [])) (sym are)
@@ -257,3 +259,7 @@ loaded_more m room gs g t u loaded same_vars same_cone are =
 pub on_ok : {T E : Type 0} (P Q : Type 0) (r : Result T E) → (P → Q) → OnOk r P → OnOk r Q
 on_ok P Q (Ok x) f p = f p
 on_ok P Q (Err e) f p = tt
+
+pub if_ok : {T E : Type 0} (P Q : T → Type 0) (r : Result T E) → ((x : T) → P x → Q x) → IfOk r P → IfOk r Q
+if_ok P Q (Ok x) f h = f x h
+if_ok P Q (Err e) f h = h

@@ -10,6 +10,7 @@ use Rattle.cones.specs.Reach.{IsGateTable}
 use Rattle.cones.specs.Partial.{HasGates, HasConstraints}
 use Rattle.ic3_step.specs.declared.cone.Cone.{Cone}
 use Rattle.ic3_step.specs.declared.state.StateLit.{StateLit}
+use Rattle.ic3_step.specs.Questions.{IsUnasked}
 use Rattle.ic3_step.specs.States.{Guarded}
 
 -- a solver's greatest variable, its clauses, and the cone that it was asked about
@@ -40,6 +41,7 @@ pub record IsGrown (m : Parts) (c : Cone) (cs : List (List ℤ)) : Type 0 where
   pub places : length c.marks.items ≡ m.max_var + 1
   pub closed : IsCone m (IsMarked c.marks.items)
   pub gates : HasGates m (IsMarked c.marks.items) cs
+  pub unasked : IsUnasked m c.asked.items
 
 -- each of the clauses after is one before, or one of these
 pub record IsMoreOf (all before after : List (List ℤ)) : Type 0 where

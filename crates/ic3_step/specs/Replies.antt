@@ -12,10 +12,10 @@ use Rattle.ic3_step.specs.States.{Guarded, HoldsGuarded, IsTime, IsAt, AllSet}
 abbrev pub IsUsable : Parts → Lit → Type 0
 IsUsable m a = (variable a ≡ 0) ⊎ Contains (defined m) (variable a)
 
--- what is answered of the times in whose state the clauses of these guards hold: one at which the literals are true,
--- some of the literals that are true at none, or that the budget is exhausted
+-- what is answered: a time at which the literals are true, in any state; some of the literals that are true at none in whose
+-- state the clauses of these guards hold; or that the budget is exhausted
 abbrev pub IsReply : Parts → List Guarded → List ℕ → List Lit → Steps → Reply → Type 0
-IsReply m gs guards lits after (Found t) = (w : Valuation) × IsAt m lits w t × AllSet w lits × HoldsGuarded gs guards (state_of m w)
+IsReply m gs guards lits after (Found t) = (w : Valuation) × IsAt m lits w t × AllSet w lits
 IsReply m gs guards lits after (Core core) =
     All (Contains lits) core × ((w : Valuation) → IsTime m w → HoldsGuarded gs guards (state_of m w) → AllSet w core → ⊥)
 IsReply m gs guards lits after Spent = after.left ≡ 0

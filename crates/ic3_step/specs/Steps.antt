@@ -24,12 +24,12 @@ denial latches a = along a.value (next_literal latches a.latch)
 abbrev pub denials_of : List Latch → List StateLit → List Lit
 denials_of latches c = map (denial latches) c
 
--- what is known of the steps from times in whose state the clauses of these guards hold: a part of the clause holds after
--- each, the clause doesn't hold after one, or the budget is exhausted
+-- what is known of steps: a part of the clause holds after each from a time in whose state the clauses of these guards hold,
+-- the clause doesn't hold after one from any state, or the budget is exhausted
 abbrev pub IsConsecution : Parts → List Guarded → List ℕ → List StateLit → Steps → Consecution → Type 0
 IsConsecution m gs guards c after (Held part) =
     IsPartOf part c × ((w : Valuation) → IsTime m w → HoldsGuarded gs guards (state_of m w) → Holds (next_state m w) part)
-IsConsecution m gs guards c after (Broken t) = (w : Valuation) × IsAt m (denials_of m.latches c) w t × HoldsGuarded gs guards (state_of m w) × Denies (next_state m w) c
+IsConsecution m gs guards c after (Broken t) = (w : Valuation) × IsAt m (denials_of m.latches c) w t × Denies (next_state m w) c
 IsConsecution m gs guards c after Spent = after.left ≡ 0
 
 -- the part has each literal whose denial is in the core

@@ -16,7 +16,7 @@ use crate::reply::Reply;
 use base::{Refused, push};
 use engine::EngineError;
 use graph::{Budget, Lit, Model};
-use solver::{Answer, Sat};
+use solver::{Answer, PartSat};
 use std::alloc::Global;
 
 /// Adds the literal of each guard.
@@ -31,7 +31,11 @@ fn push_guards(literals: &mut Vec<i32>, circuit: &Model, guards: &[u32]) -> Resu
 }
 
 /// Adds the literal of clauses for each literal of the circuit.
-fn push_lits(literals: &mut Vec<i32>, circuit: &Model, lits: &[Lit]) -> Result<(), Refused>
+pub(crate) fn push_lits(
+    literals: &mut Vec<i32>,
+    circuit: &Model,
+    lits: &[Lit],
+) -> Result<(), Refused>
     requires { All (IsInRange circuit.now.max_var) lits.now }
     ensures { OnOk result (literals.new.items ≡ literals.old.items ++ map (literal circuit.now.max_var 0) lits.now) }
 {
@@ -61,8 +65,9 @@ fn assumptions(
 }
 
 /// Asks for a time at which the literals are true, in a state where the clauses of these guards
-/// hold. First the solver gets what it lacks of the literals' cone.
-pub(crate) fn ask<S: Sat>(
+/// hold. First the solver gets what it lacks of the literals' cone. It answers by that cone alone, so the clauses may
+/// be false in a state that it finds, by latches outside of the cone; no core rests on that.
+pub(crate) fn ask<S: PartSat>(
     solver: &mut S,
     alloc: Global,
     circuit: &Model,
@@ -83,8 +88,9 @@ pub(crate) fn ask<S: Sat>(
     circuit.order();
     solver.vars();
     grow(solver, alloc, circuit, cone, lits)?;
+    let part = cone.part_for(alloc, circuit, lits)?;
     let assumed = assumptions(alloc, circuit, guards, lits)?;
-    match solver.solve(alloc, assumed.as_slice(), budget)? {
+    match solver.solve_part(alloc, &part, assumed.as_slice(), budget)? {
         Answer::Model(values) => Ok(Reply::Found(time_in(alloc, circuit, values)?)),
         Answer::Core(core) => Ok(Reply::Core(core_lits(alloc, circuit, core.as_slice())?)),
         Answer::Spent => Ok(Reply::Spent),

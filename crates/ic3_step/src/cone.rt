@@ -1,6 +1,6 @@
 //! The cone of a circuit whose gates' clauses a solver has, and how it grows.
 
-ghost use Rattle.std.specs.Prelude.{◌≡◌, ◌+◌, ◌<◌, ◌≤◌, ◌^◌, ◌++◌, ◌∷◌, ℕ, false, length, map, flat_map, All, IfOk, OnOk};
+ghost use Rattle.std.specs.Prelude.{◌≡◌, ℤ, List, ◌+◌, ◌<◌, ◌≤◌, ◌^◌, ◌++◌, ◌∷◌, ℕ, false, length, map, flat_map, All, IfOk, OnOk};
 ghost use Rattle.lrat.specs.Shared.{unit_clauses};
 ghost use Rattle.graph.specs.Valuation.{variable, place};
 ghost use Rattle.cnf.specs.Clauses.{literal, truth_clause, gate_clauses, frame_at};
@@ -9,13 +9,15 @@ ghost use Rattle.cones.specs.Marks.{IsMarked};
 ghost use Rattle.cones.specs.Reach.{IsGateTable};
 ghost use Rattle.ic3_step.specs.Replies.{IsUsable};
 ghost use Rattle.ic3_step.specs.Contents.{IsGrown, IsMoreOf};
+ghost use Rattle.ic3_step.specs.Questions.{IsUnasked, IsPartFor};
 
+use crate::question::part_of;
 use base::{Refused, filled};
 use cnf::TimeFrame;
 use cones::{GateTable, grow_cone};
 use engine::EngineError;
 use graph::{Gate, Lit, Model};
-use solver::Sat;
+use solver::{Part, Sat};
 use std::alloc::Global;
 
 /// The gates of a circuit, and a mark for each variable of the cone whose gates' clauses a solver has.
@@ -23,6 +25,8 @@ use std::alloc::Global;
 pub(crate) struct Cone {
     pub table: GateTable,
     pub marks: Vec<bool>,
+    /// a mark for each variable, of which none is set between two questions
+    pub asked: Vec<bool>,
 }
 
 impl Cone {
@@ -31,11 +35,35 @@ impl Cone {
         ensures table { IfOk result (λ c. IsGateTable circuit.now c.table) }
         ensures places { IfOk result (λ c. length c.marks.items ≡ circuit.now.max_var + 1) }
         ensures clear { IfOk result (λ c. (v : ℕ) → place c.marks.items v ≡ false) }
+        ensures unasked { IfOk result (λ c. IsUnasked circuit.now c.asked.items) }
     {
         circuit.well_formed();
         let table = GateTable::new(alloc, circuit)?;
         let marks = filled(alloc, false, circuit.max_var() as usize + 1)?;
-        Ok(Cone { table, marks })
+        let asked = filled(alloc, false, circuit.max_var() as usize + 1)?;
+        Ok(Cone {
+            table,
+            marks,
+            asked,
+        })
+    }
+
+    /// The part of the circuit that the literals and the constraints are made of. It costs that part. After an `Err` the
+    /// marks are worth nothing.
+    pub(crate) fn part_for(
+        &mut self,
+        alloc: Global,
+        circuit: &Model,
+        lits: &[Lit],
+    ) -> Result<Part, Refused>
+        requires table { IsGateTable circuit.now self.old.table }
+        requires unasked { IsUnasked circuit.now self.old.asked.items }
+        requires lits { All (IsUsable circuit.now) lits.now }
+        ensures marks { self.new.marks ≡ self.old.marks }
+        ensures grown { (cs : List (List ℤ)) → IsGrown circuit.now self.old cs → OnOk result (IsGrown circuit.now self.new cs) }
+        ensures part { IfOk result (IsPartFor circuit.now lits.now) }
+    {
+        part_of(alloc, circuit, &self.table, &mut self.asked, lits)
     }
 }
 

@@ -18,6 +18,8 @@ mod asking;
 mod cone;
 mod encoding;
 mod lookup;
+mod order;
+mod question;
 mod reading;
 mod reply;
 mod state;

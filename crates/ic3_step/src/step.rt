@@ -8,13 +8,14 @@ ghost use Rattle.ic3_step.specs.Contents.{IsLoaded, HasGuards};
 ghost use Rattle.ic3_step.specs.Steps.{IsConsecution, HasNeeded, denial, denials_of};
 
 use crate::lookup::{contains, in_order};
+use crate::order::by_activity;
 use crate::reply::Reply;
 use crate::state::{Assignment, StateLit};
 use crate::transition::Transition;
 use base::Refused;
 use engine::EngineError;
 use graph::{Budget, Latch, Lit, Model, Seq};
-use solver::Sat;
+use solver::PartSat;
 use std::alloc::Global;
 
 /// What is known of a clause after each step.
@@ -88,10 +89,8 @@ fn needed(
     Ok(part)
 }
 
-/// Asks whether the clause holds after each step from a time that keeps the constraints and in
-/// whose state the clauses of these guards hold. Where it does, so does the part that is answered:
-/// what the solver needed of it (Bradley 2011).
-pub fn holds_after<S: Sat>(
+/// Asks for a time after which the clause does not hold, by its literals in their order.
+fn ask_after<S: PartSat>(
     alloc: Global,
     transition: &mut Transition<S>,
     circuit: &Model,
@@ -115,4 +114,27 @@ pub fn holds_after<S: Sat>(
         }
         Reply::Spent => Ok(Consecution::Spent),
     }
+}
+
+/// Asks whether the clause holds after each step from a time that keeps the constraints and in
+/// whose state the clauses of these guards hold. Where it does, so does the part that is answered:
+/// what the solver needed of it (Bradley 2011). Where it does not, they may be false in the state that is answered, by
+/// latches that the step does not depend on. The literals of the most active latches, by their positions, are assumed first.
+pub fn holds_after<S: PartSat>(
+    alloc: Global,
+    transition: &mut Transition<S>,
+    circuit: &Model,
+    guards: &[u32],
+    clause: &[StateLit],
+    activities: &[u64],
+    budget: &mut Budget,
+) -> Result<Consecution, EngineError>
+    requires loaded { HasGuards circuit.now guards.now transition.old }
+    requires latches { All (λ a. a.latch < length circuit.now.latches) clause.now }
+    ensures spends { Spends budget.old budget.new }
+    ensures loaded { (n : ℕ) (gs : List Guarded) → IsLoaded circuit.now n gs transition.old → OnOk result (IsLoaded circuit.now n gs transition.new) }
+    ensures lawful { (n : ℕ) (gs : List Guarded) → IsLoaded circuit.now n gs transition.old → IfOk result (IsConsecution circuit.now gs guards.now clause.now budget.new) }
+{
+    let ordered = by_activity(alloc, clause, activities)?;
+    ask_after(alloc, transition, circuit, guards, &ordered, budget)
 }

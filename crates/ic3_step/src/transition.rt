@@ -16,7 +16,7 @@ use crate::{asking, encoding};
 use engine::EngineError;
 use graph::{Budget, Lit, Model, Seq};
 use inductive_subset::safe_inductive_subset;
-use solver::Sat;
+use solver::{PartSat, Sat};
 use std::alloc::Global;
 
 /// One time of a circuit in an incremental solver, with clauses over its state, each under a
@@ -73,30 +73,6 @@ impl<S: Sat> Transition<S> {
         encoding::add(&mut self.solver, alloc, circuit, guard, clause)
     }
 
-    /// Asks for a time that keeps the constraints and at which the literals are true, in a state
-    /// where the clauses of these guards hold. It costs the guards and the literals, what they are
-    /// made of that was not asked about before, the state and the inputs of what it finds, and what
-    /// the solver does. After a refusal it is to be loaded again.
-    pub fn ask(
-        &mut self,
-        alloc: Global,
-        circuit: &Model,
-        guards: &[u32],
-        lits: &[Lit],
-        budget: &mut Budget,
-    ) -> Result<Reply, EngineError>
-        requires loaded { HasGuards circuit.now guards.now self.old }
-        requires lits { All (IsUsable circuit.now) lits.now }
-        ensures spends { Spends budget.old budget.new }
-        ensures loaded { (n : ℕ) (gs : List Guarded) → IsLoaded circuit.now n gs self.old → OnOk result (IsLoaded circuit.now n gs self.new) }
-        ensures lawful { (n : ℕ) (gs : List Guarded) → IsLoaded circuit.now n gs self.old → IfOk result (IsReply circuit.now gs guards.now lits.now budget.new) }
-    {
-        match &mut self.cone {
-            Some(cone) => asking::ask(&mut self.solver, alloc, circuit, cone, guards, lits, budget),
-            None => unreachable!(),
-        }
-    }
-
     /// Clauses of an invariant, in their order, that are one by themselves (`safe_inductive_subset`), by this solver. It
     /// is to be loaded again after that.
     pub fn safe_subset(
@@ -115,5 +91,31 @@ impl<S: Sat> Transition<S> {
     {
         let solver = &mut self.solver;
         Ok(safe_inductive_subset(solver, alloc, circuit, invariant, bad, budget)?)
+    }
+}
+
+impl<S: PartSat> Transition<S> {
+    /// Asks for a time that keeps the constraints and at which the literals are true, in a state
+    /// where the clauses of these guards hold. In a state that it finds they may be false by latches that
+    /// the literals and the constraints do not depend on. It costs the guards, what the literals and the constraints are
+    /// made of, the state and the inputs of what it finds, and what the solver does. After a refusal it is to be loaded again.
+    pub fn ask(
+        &mut self,
+        alloc: Global,
+        circuit: &Model,
+        guards: &[u32],
+        lits: &[Lit],
+        budget: &mut Budget,
+    ) -> Result<Reply, EngineError>
+        requires loaded { HasGuards circuit.now guards.now self.old }
+        requires lits { All (IsUsable circuit.now) lits.now }
+        ensures spends { Spends budget.old budget.new }
+        ensures loaded { (n : ℕ) (gs : List Guarded) → IsLoaded circuit.now n gs self.old → OnOk result (IsLoaded circuit.now n gs self.new) }
+        ensures lawful { (n : ℕ) (gs : List Guarded) → IsLoaded circuit.now n gs self.old → IfOk result (IsReply circuit.now gs guards.now lits.now budget.new) }
+    {
+        match &mut self.cone {
+            Some(cone) => asking::ask(&mut self.solver, alloc, circuit, cone, guards, lits, budget),
+            None => unreachable!(),
+        }
     }
 }

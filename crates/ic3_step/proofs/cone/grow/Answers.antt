@@ -36,6 +36,7 @@ returns-clause-grown g c =
       closed = subst (λ (t : List Bool). IsCone m (IsMarked t)) (sym whole) c.in_ok-gates.ensures.cone;
       gates = subst (λ (t : List Bool). HasGates m (IsMarked t) (g.S.Sat.clauses c.add_gates.new.solver)) (sym whole)
           (subst (HasGates m (IsMarked new)) (sym is) (c.in_ok-gates.ensures.clauses old before));
+      unasked = c.requires.grown.unasked;
     }
 
 pub returns-clause-added : goal.returns-clause-added

@@ -1,44 +1,23 @@
-use Rattle.std.proofs.Common.{map, ap, ◌∙◌, subst}
-use Rattle.ic3_step.specs.Replies.{IsReply}
-use Rattle.ic3_step.specs.Steps.{denial, HasNeeded}
-use Rattle.ic3_step.proofs.Denied.{denials_known, nexts_small, held, broken}
+use Rattle.std.proofs.Common.{◌<◌, length, All, List, sym, subst}
+use Rattle.std.proofs.lemmas.List.Sorted.{All-permutation}
+use Rattle.ic3_step.specs.declared.state.StateLit.{StateLit}
+use Rattle.ic3_step.specs.Steps.{IsConsecution}
+use Rattle.ic3_step.proofs.Loaded.{if_ok}
+use Rattle.ic3_step.proofs.Denied.{in_any_order}
 use Rattle.ic3_step.proofs.step.holds_after.Goals as goal
 
-pub denials-requires-clause-small : goal.denials-requires-clause-small
-denials-requires-clause-small g c = nexts_small c.args.circuit.now c.latches.result.now c.well_formed-2.ensures c.latches.ensures
-
-pub ask-requires-clause-lits : goal.ask-requires-clause-lits
-ask-requires-clause-lits g c =
-    denials_known c.args.circuit.now c.args.clause.now c.as_slice.result.now c.well_formed-2.ensures c.requires.latches
-    (c.as_slice.ensures ∙ c.in_ok-lits.ensures ∙ ap (λ ls. map (denial ls) c.args.clause.now) c.latches.ensures)
-
-pub returns-in-Found-clause-lawful : goal.returns-in-Found-clause-lawful
-returns-in-Found-clause-lawful g c = λ n gs loaded.
+pub ask_after-requires-clause-latches : goal.ask_after-requires-clause-latches
+ask_after-requires-clause-latches g c =
     let m = c.args.circuit.now in
-    let guards = c.args.guards.now in
-    let clause = c.args.clause.now in
-    let lits = c.as_slice.result.now in
-    let after = c.ask.new.budget in
-    let are = c.as_slice.ensures ∙ c.in_ok-lits.ensures ∙ ap (λ ls. map (denial ls) clause) c.latches.ensures in
-    broken m gs guards clause lits after c.in-Found.time c.requires.latches are (subst (IsReply m gs guards lits after) c.in-Found.is (c.in_ok-time.ensures.lawful n gs loaded))
-
-pub needed-requires-clause-small : goal.needed-requires-clause-small
-needed-requires-clause-small g c = nexts_small c.args.circuit.now c.latches-in-Core.result.now c.well_formed-2.ensures c.latches-in-Core.ensures
-
-pub returns-in-Core-clause-lawful : goal.returns-in-Core-clause-lawful
-returns-in-Core-clause-lawful g c = λ n gs loaded.
-    let m = c.args.circuit.now in
-    let guards = c.args.guards.now in
-    let clause = c.args.clause.now in
-    let lits = c.as_slice.result.now in
-    let after = c.ask.new.budget in
-    let part = c.in_ok-part-in-Core.part in
-    let are = c.as_slice.ensures ∙ c.in_ok-lits.ensures ∙ ap (λ ls. map (denial ls) clause) c.latches.ensures in
-    held m gs guards clause part lits c.in-Core.core after c.requires.latches are
-    (subst (IsReply m gs guards lits after) c.in-Core.is (c.in_ok-time.ensures.lawful n gs loaded)) c.in_ok-part-in-Core.ensures.part
-    (subst (λ ls. HasNeeded ls clause c.in-Core.core part) c.latches-in-Core.ensures
-    (subst (λ k. HasNeeded c.latches-in-Core.result.now clause k part) c.as_slice-in-Core.ensures c.in_ok-part-in-Core.ensures.all))
+    subst (All (λ (a : StateLit). a.latch < length m.latches)) (sym c.deref.ensures.value)
+    (All-permutation (λ (a : StateLit). a.latch < length m.latches) c.args.clause.now c.in_ok-ordered.ordered.items c.in_ok-ordered.ensures c.requires.latches)
 
 pub returns-clause-lawful : goal.returns-clause-lawful
 returns-clause-lawful g c = λ n gs loaded.
-    subst (IsReply c.args.circuit.now gs c.args.guards.now c.as_slice.result.now c.ask.new.budget) c.in-Spent.is (c.in_ok-time.ensures.lawful n gs loaded)
+    let m = c.args.circuit.now in
+    let guards = c.args.guards.now in
+    let after = c.ask_after.new.budget in
+    if_ok (IsConsecution m gs guards c.deref.result.now after) (IsConsecution m gs guards c.args.clause.now after) c.ask_after.result
+    (λ r law. in_any_order m gs guards c.args.clause.now c.in_ok-ordered.ordered.items after r c.in_ok-ordered.ensures
+    (subst (λ (ls : List StateLit). IsConsecution m gs guards ls after r) c.deref.ensures.value law))
+    (c.ask_after.ensures.lawful n gs loaded)

@@ -1,0 +1,22 @@
+use Rattle.std.proofs.Common.{rules, ◌∙◌, [], SFits, w32, get_or}
+use Rattle.graph.specs.declared.circuit.Gate.{Gate}
+use Rattle.graph.specs.declared.circuit.Lit.{Lit}
+use Rattle.lrat.proofs.Fit.{read32}
+use Rattle.cnf.proofs.Made.{map_more}
+use Rattle.ic3_step.specs.Questions.{and_gate}
+use Rattle.ic3_step.proofs.Parted.{gate_made}
+use Rattle.ic3_step.proofs.question.and_gates.Goals as goal
+
+pub loop-gate-preserved : goal.loop-gate-preserved
+loop-gate-preserved c =
+    let n = c.args.time.max_var in
+    let none : Lit = record { 0 = 0 } in
+    let d : Gate = record { lhs = none; rhs0 = none; rhs1 = none } in
+    let f1 : SFits w32 c.literal.result = search rules in
+    let f2 : SFits w32 c.literal-in-loop-gate.result = search rules in
+    let f3 : SFits w32 c.literal-in-loop-gate-2.result = search rules in
+    let e1 = read32 c.literal.result f1 ∙ c.literal.ensures in
+    let e2 = read32 c.literal-in-loop-gate.result f2 ∙ c.literal-in-loop-gate.ensures in
+    let e3 = read32 c.literal-in-loop-gate-2.result f3 ∙ c.literal-in-loop-gate-2.ensures in
+    map_more (and_gate n) c.args.gates.now c.loop-gate.gate-index d [] c.loop-gate.found.items c.push.new.to.items _
+    c.loop-gate-test.true c.loop-gate.invariant c.in_ok-push.ensures.items (gate_made (get_or c.args.gates.now c.loop-gate.gate-index d) n c.args.time.offset _ _ _ c.requires.first e1 e2 e3)

@@ -1,0 +1,29 @@
+-- The part of a circuit that a question is about.
+use Rattle.std.specs.Prelude.{◌≡◌, ℕ, ◌+◌, Bool, false, List, ◌++◌, length, map, All, Contains}
+use Rattle.graph.specs.declared.circuit.Lit.{Lit}
+use Rattle.graph.specs.declared.circuit.Gate.{Gate}
+use Rattle.graph.specs.declared.parts.Parts.{Parts}
+use Rattle.graph.specs.Valuation.{variable, place}
+use Rattle.cnf.specs.Clauses.{literal, truth_clause}
+use Rattle.cones.specs.Marks.{IsMarked, IsCone}
+use Rattle.solver.specs.declared.part.AndGate.{AndGate}
+use Rattle.solver.specs.declared.part.Part.{Part}
+
+-- a mark for each variable, of which none is set
+pub record IsUnasked (m : Parts) (marks : List Bool) : Type 0 where
+  pub places : length marks ≡ m.max_var + 1
+  pub clear : (v : ℕ) → place marks v ≡ false
+
+-- the gate by literals of clauses
+abbrev pub and_gate : ℕ → Gate → AndGate
+and_gate n g = record { lhs = literal n 0 g.lhs; rhs0 = literal n 0 g.rhs0; rhs1 = literal n 0 g.rhs1 }
+
+-- the part has the gates of a cone in which the literals and the constraints are; and what is true, and the constraints
+pub record IsPartFor (m : Parts) (lits : List Lit) (part : Part) : Type 0 where
+  pub cone : List Bool
+  pub closed : IsCone m (IsMarked cone)
+  pub asked : All (λ a. IsMarked cone (variable a)) (lits ++ m.constraints)
+  pub listed : List Gate
+  pub marked : All (λ g. IsMarked cone (variable g.lhs) → Contains listed g) m.gates
+  pub gates : part.gates.items ≡ map (and_gate m.max_var) listed
+  pub wanted : part.literals.items ≡ truth_clause m.max_var 0 ++ map (literal m.max_var 0) m.constraints
