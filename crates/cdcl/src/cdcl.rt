@@ -13,7 +13,7 @@ use std::marker::Model;
 /// A conflict-driven solver, to which clauses are added between the calls. What it learns follows
 /// from the clauses alone and serves the later calls; a call that ends in a core costs what it
 /// propagates, whatever the number of clauses and variables. The first assumptions cost nothing that the
-/// call before began with too.
+/// call before began with too, but where one of both is about a part.
 #[derive(Drop)]
 pub struct Cdcl {
     kernel: LoggedKernel,

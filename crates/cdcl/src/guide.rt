@@ -110,7 +110,7 @@ impl Guide {
     }
 
     /// Makes room for the variables of a clause that was added, which are to be decided from now on. A
-    /// variable of no clause is never decided but where it is assumed.
+    /// variable of no clause is not decided but where it is assumed, or where questions about a part went before.
     pub fn take_in(&mut self, clause: &[i32]) -> Result<(), Refused> {
         self.grow_to(clause)?;
         for literal in clause {
@@ -142,7 +142,7 @@ impl Guide {
         }
     }
 
-    /// All variables are decided from now on.
+    /// All variables are decided from now on. After a question about a part it costs them.
     fn begin_whole(&mut self) -> Result<(), Refused> {
         if !self.is_part {
             return Ok(());

@@ -19,7 +19,8 @@ use std::alloc::Global;
 pub trait PartSat: Sat {
     /// As `solve`, but that the values it finds are wanted of this part alone: each gate of it has its value by its
     /// right sides, and each literal of it is true. A variable of the part is decided, and no other; what stands at the
-    /// places of others means nothing, and their clauses may be false. A core is one of all clauses.
+    /// places of others means nothing, and their clauses may be false. A core is one of all clauses. Where the clauses do not
+    /// settle the part, since those of its gates are not among them, it may go on until the budget is exhausted.
     fn solve_part(
         &mut self,
         alloc: Global,
