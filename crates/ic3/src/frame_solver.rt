@@ -53,8 +53,7 @@ fn queries(circuit: &Model) -> u32
     more.saturating_add(FEWEST).min(MOST)
 }
 
-/// The guards of the levels from `first` on, and below `end`, the greatest first: so those of two
-/// queries begin alike, and a solver need not assume them anew (`Cdcl` doesn't).
+/// The guards of the levels from `first` on, and below `end`, the greatest first.
 pub(crate) fn guards_from(alloc: Global, first: u32, end: u32) -> Result<Seq<u32>, Refused>
     ensures { IfOk result (λ guards. All (λ g. (first ≤ g) × (g < end)) guards) }
 {
