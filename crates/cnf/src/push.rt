@@ -11,7 +11,8 @@ use graph::{Gate, Latch, Lit, Seq};
 use lrat::AddClause;
 use std::alloc::Global;
 
-/// Adds a clause.
+/// Adds a clause. By itself where it is called, a clause of two or three literals is copied without a call.
+#[inline(always)]
 pub fn push<C: AddClause>(alloc: Global, clauses: &mut C, clause: &[i32]) -> Result<(), Refused>
     ensures { OnOk result (C.clauses clauses.new ≡ C.clauses clauses.old ++ clause.now ∷ []) }
 {
