@@ -1,6 +1,8 @@
 //! Circuits as plain lists.
 
-ghost use Rattle.std.specs.Prelude.{◌≡◌, ◌↔◌, IfOk, IsTrue};
+ghost use Rattle.std.specs.Mem.{type_size};
+ghost use Rattle.std.specs.Prelude.{◌≡◌, ◌↔◌, [], IfOk, OnOk, IsTrue};
+ghost use Rattle.base.specs.Sizes.{IsItemSize};
 ghost use Rattle.graph.specs.Properties.{AreOutputsBad, HasProperty};
 ghost use Rattle.graph.specs.WellFormed.{only_bad as only_bad_of};
 
@@ -39,22 +41,62 @@ fn copy_lists(alloc: Global, lists: &[Seq<Lit>]) -> Result<Seq<Seq<Lit>>, Refuse
     Ok(copies)
 }
 
+/// Puts the items of one list into another.
+fn copy_to<T: Copy>(alloc: Global, from: &Seq<T>, to: &mut Seq<T>) -> Result<(), Refused>
+    requires { IsItemSize (type_size T.row) }
+    ensures { OnOk result (to.new ≡ from.now) }
+{
+    *to = from.copy(alloc)?;
+    Ok(())
+}
+
 impl Parts {
+    /// Parts that are empty but for the greatest variable.
+    fn empty(alloc: Global, max_var: u32) -> Parts
+        ensures { result ≡ record { max_var = max_var; inputs = []; latches = []; outputs = []; bad = []; constraints = []; justice = []; fairness = []; gates = [] } }
+    {
+        Parts {
+            max_var,
+            inputs: Seq::new(alloc),
+            latches: Seq::new(alloc),
+            outputs: Seq::new(alloc),
+            bad: Seq::new(alloc),
+            constraints: Seq::new(alloc),
+            justice: Seq::new(alloc),
+            fairness: Seq::new(alloc),
+            gates: Seq::new(alloc),
+        }
+    }
+
+    /// Takes over what decides the runs: inputs, latches, constraints and gates.
+    fn copy_runs(&mut self, alloc: Global, from: &Parts) -> Result<(), Refused>
+        ensures { OnOk result (self.new ≡ record self.old { inputs = from.now.inputs; latches = from.now.latches; constraints = from.now.constraints; gates = from.now.gates }) }
+    {
+        copy_to(alloc, &from.inputs, &mut self.inputs)?;
+        copy_to(alloc, &from.latches, &mut self.latches)?;
+        copy_to(alloc, &from.constraints, &mut self.constraints)?;
+        copy_to(alloc, &from.gates, &mut self.gates)
+    }
+
+    /// Takes over what is to be shown: outputs, bad literals, justice properties and fairness.
+    fn copy_properties(&mut self, alloc: Global, from: &Parts) -> Result<(), Refused>
+        ensures { OnOk result (self.new ≡ record self.old { outputs = from.now.outputs; bad = from.now.bad; justice = from.now.justice; fairness = from.now.fairness }) }
+    {
+        copy_to(alloc, &from.outputs, &mut self.outputs)?;
+        copy_to(alloc, &from.bad, &mut self.bad)?;
+        copy_to(alloc, &from.fairness, &mut self.fairness)?;
+        self.justice = copy_lists(alloc, from.justice.as_slice())?;
+        Ok(())
+    }
+
     /// The same parts in memory of their own.
     pub fn copy(&self, alloc: Global) -> Result<Parts, Refused>
         ensures { IfOk result (λ m. m ≡ self.now) }
     {
-        Ok(Parts {
-            max_var: self.max_var,
-            inputs: self.inputs.copy(alloc)?,
-            latches: self.latches.copy(alloc)?,
-            outputs: self.outputs.copy(alloc)?,
-            bad: self.bad.copy(alloc)?,
-            constraints: self.constraints.copy(alloc)?,
-            justice: copy_lists(alloc, self.justice.as_slice())?,
-            fairness: self.fairness.copy(alloc)?,
-            gates: self.gates.copy(alloc)?,
-        })
+        let mut parts = Parts::empty(alloc, self.max_var);
+        parts.copy_runs(alloc, self)?;
+        parts.copy_properties(alloc, self)?;
+        Ok(parts)
     }
 
     /// Whether the outputs are taken as bad literals: there is no bad literal, constraint, justice
@@ -84,16 +126,9 @@ impl Parts {
     pub(crate) fn only_bad(&self, alloc: Global, bad: Lit) -> Result<Parts, Refused>
         ensures { IfOk result (λ m. m ≡ only_bad_of self.now bad) }
     {
-        Ok(Parts {
-            max_var: self.max_var,
-            inputs: self.inputs.copy(alloc)?,
-            latches: self.latches.copy(alloc)?,
-            outputs: Seq::new(alloc),
-            bad: Seq::from_slice(alloc, &[bad])?,
-            constraints: self.constraints.copy(alloc)?,
-            justice: Seq::new(alloc),
-            fairness: Seq::new(alloc),
-            gates: self.gates.copy(alloc)?,
-        })
+        let mut parts = Parts::empty(alloc, self.max_var);
+        parts.copy_runs(alloc, self)?;
+        parts.bad.push(bad)?;
+        Ok(parts)
     }
 }
