@@ -4,52 +4,36 @@ ghost use Rattle.std.specs.Prelude.{◌≡◌};
 ghost use Rattle.graph.specs.Refusals.{number_of, place_of};
 
 use base::Refused;
+use std::fmt;
 use thiserror::Error;
 
 /// Why parts, or a text, make no circuit. Each refusal has a number and a place. In a text the
 /// place is a byte; where parts are built it is what the variant says.
 #[derive(Clone, Copy, Debug, PartialEq, Eq, Error)]
 pub enum ReadError {
-    #[error("the text is longer than 67108864 bytes")]
     TooLong,
-    #[error("no header at byte {0}")]
     Header(u64),
-    #[error("no number at byte {0}")]
     Number(u64),
     /// In parts: the count's position in the header, 9 for the justice literals in all.
-    #[error("over a limit at {0}")]
     Limit(u64),
-    #[error("another byte is needed at {0}")]
     Byte(u64),
-    #[error("the text ends at byte {0}")]
     Truncated(u64),
     /// In parts: how many literals come before it.
-    #[error("a literal of no variable at {0}")]
     LiteralRange(u64),
     /// In parts: how many literals come before it.
-    #[error("a literal that defines nothing at {0}")]
     Defining(u64),
     /// The smallest such variable.
-    #[error("variable {0} is defined twice")]
     DefinedTwice(u32),
     /// The smallest such variable.
-    #[error("variable {0} is used and not defined")]
     Undefined(u32),
     /// The smallest variable from which right sides lead into a cycle.
-    #[error("variable {0} leads into a cycle")]
     Cyclic(u32),
     /// In parts: how many literals come before it.
-    #[error("a reset that is neither 0, 1 nor the latch's literal at {0}")]
     Reset(u64),
-    #[error("no difference of literals at byte {0}")]
     Delta(u64),
-    #[error("no symbol at {0}")]
     Symbol(u64),
-    #[error("the counts don't fit each other at byte {0}")]
     Counts(u64),
-    #[error("there is no property {0}")]
     NoProperty(u32),
-    #[error("{0}")]
     OutOfMemory(Refused),
 }
 
@@ -62,6 +46,15 @@ impl From<Refused> for ReadError {
 
     fn from(refused: Refused) -> ReadError {
         ReadError::OutOfMemory(refused)
+    }
+}
+
+impl fmt::Display for ReadError {
+    fn fmt<W: fmt::Write>(&self, f: &mut fmt::Formatter<W>) -> fmt::Result {
+        match self {
+            ReadError::OutOfMemory(refused) => write!(f, "{refused}"),
+            _ => write!(f, "{}{}{}", self.before(), self.place(), self.after()),
+        }
     }
 }
 
@@ -113,6 +106,39 @@ impl ReadError {
             | ReadError::Cyclic(variable) => u64::from(*variable),
             ReadError::NoProperty(number) => u64::from(*number),
             ReadError::OutOfMemory(_) => 0,
+        }
+    }
+
+    /// The words before the place.
+    fn before(&self) -> &'static str {
+        match self {
+            ReadError::TooLong => "the text is longer than ",
+            ReadError::Header(_) => "no header at byte ",
+            ReadError::Number(_) => "no number at byte ",
+            ReadError::Limit(_) => "over a limit at ",
+            ReadError::Byte(_) => "another byte is needed at ",
+            ReadError::Truncated(_) => "the text ends at byte ",
+            ReadError::LiteralRange(_) => "a literal of no variable at ",
+            ReadError::Defining(_) => "a literal that defines nothing at ",
+            ReadError::DefinedTwice(_) | ReadError::Undefined(_) | ReadError::Cyclic(_) =>
+                "variable ",
+            ReadError::Reset(_) => "a reset that is neither 0, 1 nor the latch's literal at ",
+            ReadError::Delta(_) => "no difference of literals at byte ",
+            ReadError::Symbol(_) => "no symbol at ",
+            ReadError::Counts(_) => "the counts don't fit each other at byte ",
+            ReadError::NoProperty(_) => "there is no property ",
+            ReadError::OutOfMemory(_) => "",
+        }
+    }
+
+    /// The words after the place.
+    fn after(&self) -> &'static str {
+        match self {
+            ReadError::TooLong => " bytes",
+            ReadError::DefinedTwice(_) => " is defined twice",
+            ReadError::Undefined(_) => " is used and not defined",
+            ReadError::Cyclic(_) => " leads into a cycle",
+            _ => "",
         }
     }
 }
