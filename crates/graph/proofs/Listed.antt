@@ -1,14 +1,12 @@
 -- The looks at all literals, list by list.
-use Rattle.std.proofs.Common.{◌≡◌, ℕ, ◌+◌, ◌^◌, ◌<◌, ◌≤◌, List, ◌++◌, length, map, Err, arith, length-append}
+use Rattle.std.proofs.Common.{◌≡◌, ℕ, ◌+◌, ◌^◌, ◌<◌, ◌≤◌, List, ◌++◌, length, map, arith, length-append}
 use Rattle.std.specs.List.{flat_map}
 use Rattle.graph.specs.declared.circuit.Use.{Use}
 use Rattle.graph.specs.declared.circuit.Use.TheVariants.{Defines, Mentions}
 use Rattle.graph.specs.declared.parts.Parts.{Parts}
-use Rattle.graph.specs.declared.error.ReadError.{ReadError}
 use Rattle.graph.specs.WellFormed.{IsInLimits, justice_literals}
 use Rattle.graph.specs.Uses.{uses_of, latch_uses, gate_uses}
-use Rattle.graph.specs.Faults.{GoesOn}
-use Rattle.graph.proofs.Going.{GoesOn-fault, uses-few}
+use Rattle.graph.proofs.Going.{uses-few}
 
 -- the literals of one list, and those up to it
 abbrev pub inputs_part : Parts → List Use
@@ -58,28 +56,6 @@ to_fairness m = to_justice m ++ fairness_part m
 
 abbrev pub to_gates : Parts → List Use
 to_gates m = to_fairness m ++ gates_part m
-
--- a fault within a beginning is the first of all
-pub fault_to_fairness : (m : Parts) (e : ReadError) → GoesOn m.max_var 0 (to_fairness m) (Err e) → GoesOn m.max_var 0 (uses_of m) (Err e)
-fault_to_fairness m e h = GoesOn-fault m.max_var 0 (to_fairness m) (gates_part m) e h
-
-pub fault_to_justice : (m : Parts) (e : ReadError) → GoesOn m.max_var 0 (to_justice m) (Err e) → GoesOn m.max_var 0 (uses_of m) (Err e)
-fault_to_justice m e h = fault_to_fairness m e (GoesOn-fault m.max_var 0 (to_justice m) (fairness_part m) e h)
-
-pub fault_to_constraints : (m : Parts) (e : ReadError) → GoesOn m.max_var 0 (to_constraints m) (Err e) → GoesOn m.max_var 0 (uses_of m) (Err e)
-fault_to_constraints m e h = fault_to_justice m e (GoesOn-fault m.max_var 0 (to_constraints m) (justice_part m) e h)
-
-pub fault_to_bad : (m : Parts) (e : ReadError) → GoesOn m.max_var 0 (to_bad m) (Err e) → GoesOn m.max_var 0 (uses_of m) (Err e)
-fault_to_bad m e h = fault_to_constraints m e (GoesOn-fault m.max_var 0 (to_bad m) (constraints_part m) e h)
-
-pub fault_to_outputs : (m : Parts) (e : ReadError) → GoesOn m.max_var 0 (to_outputs m) (Err e) → GoesOn m.max_var 0 (uses_of m) (Err e)
-fault_to_outputs m e h = fault_to_bad m e (GoesOn-fault m.max_var 0 (to_outputs m) (bad_part m) e h)
-
-pub fault_to_latches : (m : Parts) (e : ReadError) → GoesOn m.max_var 0 (to_latches m) (Err e) → GoesOn m.max_var 0 (uses_of m) (Err e)
-fault_to_latches m e h = fault_to_outputs m e (GoesOn-fault m.max_var 0 (to_latches m) (outputs_part m) e h)
-
-pub fault_to_inputs : (m : Parts) (e : ReadError) → GoesOn m.max_var 0 (to_inputs m) (Err e) → GoesOn m.max_var 0 (uses_of m) (Err e)
-fault_to_inputs m e h = fault_to_latches m e (GoesOn-fault m.max_var 0 (to_inputs m) (latches_part m) e h)
 
 -- a beginning is no longer than the whole
 pub within_gates : (m : Parts) → length (to_gates m) ≤ length (uses_of m)

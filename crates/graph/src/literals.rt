@@ -1,6 +1,6 @@
 //! The tests of single literals, in the order of the lists.
 
-ghost use Rattle.std.specs.Prelude.{◌≡◌, ◌+◌, ◌^◌, ◌∷◌, [], ◌<◌, ◌≤◌, length, map, flat_map};
+ghost use Rattle.std.specs.Prelude.{◌≡◌, ◌+◌, ◌^◌, ◌++◌, ◌∷◌, [], ◌<◌, ◌≤◌, length, map, flat_map};
 ghost use Rattle.graph.specs.WellFormed.{justice_literals, IsInLimits};
 ghost use Rattle.graph.specs.Uses.{latch_uses, gate_uses, uses_of};
 ghost use Rattle.graph.specs.Faults.{GoesOn};
@@ -111,18 +111,36 @@ fn check_gates(gates: &[Gate], max_var: u32, before: u64) -> Result<u64, ReadErr
     Ok(count)
 }
 
+/// Looks at the literals of inputs, latches and outputs.
+fn check_first(parts: &Parts) -> Result<u64, ReadError>
+    requires { IsInLimits parts.now }
+    ensures { GoesOn parts.now.max_var 0 (map Defines parts.now.inputs ++ flat_map latch_uses parts.now.latches ++ map Mentions parts.now.outputs) result }
+{
+    let max_var = parts.max_var;
+    let count = check_inputs(parts.inputs.as_slice(), max_var, 0)?;
+    let count = check_latches(parts.latches.as_slice(), max_var, count)?;
+    check_mentions(parts.outputs.as_slice(), max_var, count)
+}
+
+/// Looks at these, and at the bad literals, the constraints and the justice literals.
+fn check_up_to_justice(parts: &Parts) -> Result<u64, ReadError>
+    requires { IsInLimits parts.now }
+    ensures { GoesOn parts.now.max_var 0 (map Defines parts.now.inputs ++ flat_map latch_uses parts.now.latches ++ map Mentions parts.now.outputs ++ map Mentions parts.now.bad ++ map Mentions parts.now.constraints ++ map Mentions (justice_literals parts.now.justice)) result }
+{
+    let max_var = parts.max_var;
+    let count = check_first(parts)?;
+    let count = check_mentions(parts.bad.as_slice(), max_var, count)?;
+    let count = check_mentions(parts.constraints.as_slice(), max_var, count)?;
+    check_justice(parts.justice.as_slice(), max_var, count)
+}
+
 /// Looks at all literals, in the order of the lists, and answers how many there are.
 pub fn check_literals(parts: &Parts) -> Result<u64, ReadError>
     requires { IsInLimits parts.now }
     ensures { GoesOn parts.now.max_var 0 (uses_of parts.now) result }
 {
     let max_var = parts.max_var;
-    let count = check_inputs(parts.inputs.as_slice(), max_var, 0)?;
-    let count = check_latches(parts.latches.as_slice(), max_var, count)?;
-    let count = check_mentions(parts.outputs.as_slice(), max_var, count)?;
-    let count = check_mentions(parts.bad.as_slice(), max_var, count)?;
-    let count = check_mentions(parts.constraints.as_slice(), max_var, count)?;
-    let count = check_justice(parts.justice.as_slice(), max_var, count)?;
+    let count = check_up_to_justice(parts)?;
     let count = check_mentions(parts.fairness.as_slice(), max_var, count)?;
     check_gates(parts.gates.as_slice(), max_var, count)
 }
