@@ -6,55 +6,41 @@ ghost use Rattle.lrat.specs.Numbers.{number_of};
 ghost use Rattle.lrat.specs.declared.fault.Fault.TheVariants.{OutOfMemory};
 
 use base::Refused;
+use std::fmt;
 use thiserror::Error;
 
 /// Why a line of a proof, or a whole proof, is refused.
 #[derive(Clone, Copy, Debug, PartialEq, Eq, Error)]
 pub enum Fault {
     /// out of memory
-    #[error("{0}")]
     OutOfMemory(Refused),
     /// a hint or a deletion names no clause that is present
-    #[error("no clause has this id")]
     UnknownId,
     /// the id of an addition is not above all ids so far
-    #[error("the id is not above all ids so far")]
     IdOrder,
     /// a hint before the last leaves two or more distinct literals
-    #[error("a hint leaves several literals")]
     SeveralLeft,
     /// the one literal that a hint leaves is true already
-    #[error("the literal that a hint leaves is true already")]
     TrueAlready,
     /// the last hint's clause is not false
-    #[error("the last hint's clause is not false")]
     NotFalse,
     /// the clause of a hint before the last is false
-    #[error("a hint before the last is false already")]
     EarlyConflict,
     /// an addition has no hints
-    #[error("there are no hints")]
     NoHints,
     /// an addition has a negative hint
-    #[error("a hint is negative")]
     NegativeHint,
     /// a clause repeats a literal, or has its negation
-    #[error("a literal is repeated or opposed")]
     RepeatedLiteral,
     /// no line adds the empty clause
-    #[error("no line adds the empty clause")]
     NoEmptyClause,
     /// a line follows the empty clause
-    #[error("a line follows the empty clause")]
     AfterEmpty,
     /// a clause has a variable that the formula lacks
-    #[error("a variable is out of range")]
     VariableRange,
     /// a line that several refutations are to share adds the empty clause
-    #[error("the empty clause is a lemma")]
     EmptyLemma,
     /// the last unit's id would pass 4,294,967,295
-    #[error("the units' ids would pass 4,294,967,295")]
     NoIds,
 }
 
@@ -63,6 +49,12 @@ impl From<Refused> for Fault {
 
     fn from(refused: Refused) -> Fault {
         Fault::OutOfMemory(refused)
+    }
+}
+
+impl fmt::Display for Fault {
+    fn fmt<W: fmt::Write>(&self, f: &mut fmt::Formatter<W>) -> fmt::Result {
+        f.write_str(self.words())
     }
 }
 
@@ -87,6 +79,27 @@ impl Fault {
             Fault::VariableRange => 51,
             Fault::EmptyLemma => 52,
             Fault::NoIds => 53,
+        }
+    }
+
+    /// What the refusal says.
+    fn words(self) -> &'static str {
+        match self {
+            Fault::OutOfMemory(_) => "out of memory",
+            Fault::UnknownId => "no clause has this id",
+            Fault::IdOrder => "the id is not above all ids so far",
+            Fault::SeveralLeft => "a hint leaves several literals",
+            Fault::TrueAlready => "the literal that a hint leaves is true already",
+            Fault::NotFalse => "the last hint's clause is not false",
+            Fault::EarlyConflict => "a hint before the last is false already",
+            Fault::NoHints => "there are no hints",
+            Fault::NegativeHint => "a hint is negative",
+            Fault::RepeatedLiteral => "a literal is repeated or opposed",
+            Fault::NoEmptyClause => "no line adds the empty clause",
+            Fault::AfterEmpty => "a line follows the empty clause",
+            Fault::VariableRange => "a variable is out of range",
+            Fault::EmptyLemma => "the empty clause is a lemma",
+            Fault::NoIds => "the units' ids would pass 4,294,967,295",
         }
     }
 }
