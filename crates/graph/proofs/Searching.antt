@@ -2,6 +2,8 @@
 use Rattle.std.proofs.Common.{◌≡◌, ℕ, zero, suc, ◌+◌, ◌-◌, ◌<◌, ◌≤◌, ◌≢◌, ◌⊎◌, List, [], ◌∷◌, ◌++◌, length, set, take, get_or, refl, inl, inr, arith, All, AllPairs, Contains, ◌∙◌, sym, ap, subst, get_or-set_same, get_or-set_other}
 use Rattle.std.proofs.lemmas.Bool.{cases_lt, cases_eq}
 use Rattle.std.proofs.lemmas.List.{take_all, take_more, length-map, get_or_past, get_or_default, get_or_push, get_or_append_left, length_push}
+use Rattle.std.specs.List.{sum_by}
+use Rattle.std.proofs.lemmas.List.Sums.{sum_by-set}
 use Rattle.std.proofs.lemmas.List.Elements.{Contains-append_left, Contains-push, Contains-push_cases, All-push, All-map}
 use Rattle.std.proofs.lemmas.List.Quantifiers.{all_pairs_push}
 use Rattle.graph.specs.declared.circuit.Gate.{Gate}
@@ -11,7 +13,7 @@ use Rattle.graph.specs.declared.ordering.Mark.{Mark}
 use Rattle.graph.specs.declared.ordering.Mark.TheVariants.{Waiting, Open, Ordered, Stuck}
 use Rattle.graph.specs.declared.ordering.Step.TheVariants.{Enter, Finish, Stick}
 use Rattle.graph.specs.Faults.{LeadsIntoCycle}
-use Rattle.graph.specs.Search.{lefts, left_in, mark_of, IsOrderedBefore, Says, IsSearch, ArePlaces, StepIs}
+use Rattle.graph.specs.Search.{lefts, left_in, mark_of, weight, IsOrderedBefore, Says, IsSearch, ArePlaces, StepIs}
 use Rattle.graph.proofs.Cycles.{IsOnce, IsBeginning, left_at}
 
 pub mark_same : (marks : List Mark) (v : ℕ) (m : Mark) → v < length marks → mark_of (set marks v m) v ≡ m
@@ -289,4 +291,24 @@ pub waits_less : (marks : List Mark) (v u : ℕ) → v < length marks → mark_o
 waits_less marks v u v_in waits = elim (cases_eq u v) [
   | inl same ↦ absurd (open_waiting (sym (mark_same marks v Open v_in) ∙ ap (mark_of (set marks v Open)) (sym same) ∙ waits))
   | inr apart ↦ (sym (mark_other marks u v Open apart) ∙ waits, apart)
+]
+
+-- ---- what a new mark leaves
+
+pub marked_less : (marks : List Mark) (v : ℕ) (m : Mark) → v < length marks → weight m < weight (mark_of marks v) → sum_by weight (set marks v m) < sum_by weight marks
+marked_less marks v m v_in less = let e = sum_by-set weight marks v m Ordered v_in in omega (arith, e, less)
+
+pub entered_less : (marks : List Mark) (v : ℕ) → mark_of marks v ≡ Waiting → sum_by weight (set marks v Open) < sum_by weight marks
+entered_less marks v waiting = marked_less marks v Open (waiting_in marks v waiting) (subst (λ m. 1 < weight m) (sym waiting) (omega arith))
+
+pub left_less : (gates : List Gate) (marks : List Mark) (order places stack : List ℕ) (u : ℕ) (m : Mark) → IsSearch gates marks order stack → IsTop gates marks places stack u → 0 < length stack →
+    u ≡ get_or stack (length stack - 1) 0 → weight m ≡ 0 → sum_by weight (set marks u m) < sum_by weight marks
+left_less gates marks order places stack u m h top some is_u light =
+    let opened : mark_of marks u ≡ Open = subst (λ q. mark_of marks q ≡ Open) (sym is_u) (h.opened (length stack - 1) (omega (arith, some))) in
+    marked_less marks u m top.variable_in (subst (λ q. weight m < weight q) (sym opened) (omega (arith, light)))
+
+pub marked_waits : (marks : List Mark) (v u : ℕ) (m : Mark) → v < length marks → (m ≡ Waiting → ⊥) → mark_of (set marks v m) u ≡ Waiting → mark_of marks u ≡ Waiting
+marked_waits marks v u m v_in other waits = elim (cases_eq u v) [
+  | inl same ↦ absurd (other (sym (mark_same marks v m v_in) ∙ ap (mark_of (set marks v m)) (sym same) ∙ waits))
+  | inr apart ↦ sym (mark_other marks u v m apart) ∙ waits
 ]
