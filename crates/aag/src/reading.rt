@@ -21,9 +21,24 @@ use std::alloc::Global;
 /// How many bytes a text may have, in either layout.
 pub const LONGEST: usize = 67_108_864;
 
+/// The symbols and the comment that follow the parts. The symbols are those of the parts, of which
+/// nothing else is asked yet.
+#[tactic(auto, unfolding(crate::specs::Whole::file_at))]
+fn tail<L: Copy>(
+    alloc: Global,
+    parts: &Parts,
+    text: &[u8],
+) -> Result<(Symbols, Option<Seq<u8>>), Fault<Refusal<L>>>
+    ensures value { GivesOnly (λ f. AreSymbols (symbol_counts f.model) f.symbols) (λ x. file_of parts.now x.0.symbols x.1) result (file_at parts.now text.now) }
+    ensures counts { IfOk result (λ x. x.0.counts ≡ symbol_counts parts.now) }
+{
+    let (symbols, rest) = symbols::<L>(alloc, parts, text)?;
+    let comment = comment(alloc, rest)?;
+    Ok((symbols, comment))
+}
+
 /// The parts, with the symbols and the comment that follow them. The symbols are those of the parts,
 /// of which nothing else is asked yet.
-#[tactic(auto, unfolding(crate::specs::Whole::file_at))]
 pub fn with_tail<L: Copy>(
     alloc: Global,
     parts: Parts,
@@ -32,8 +47,7 @@ pub fn with_tail<L: Copy>(
     ensures value { GivesOnly (λ f. AreSymbols (symbol_counts f.model) f.symbols) (λ x. file_of x.0 x.1.symbols x.2) result (file_at parts text.now) }
     ensures counts { IfOk result (λ x. x.1.counts ≡ symbol_counts x.0) }
 {
-    let (symbols, rest) = symbols::<L>(alloc, &parts, text)?;
-    let comment = comment(alloc, rest)?;
+    let (symbols, comment) = tail(alloc, &parts, text)?;
     Ok((parts, symbols, comment))
 }
 
