@@ -5,38 +5,30 @@ ghost use Rattle.stimulus.specs.Numbers.{judge_number_of, judge_place_of};
 
 use base::Refused;
 use simulate::ReplayError;
+use std::fmt;
 use thiserror::Error;
 
 /// Why a stimulus does not show that its property is violated.
 #[derive(Clone, Copy, Debug, PartialEq, Eq, Error)]
 pub enum JudgeError {
     /// it does not tell of a violation
-    #[error("the stimulus reports no violation")]
     NotViolated,
     /// the circuit has no property of this position
-    #[error("there is no property {0}")]
     NoProperty(u32),
     /// a line has not one value for each latch or each input: 0 for the latch line, the time and
     /// one more for an input line
-    #[error("line {line} has another length")]
     LineLength { line: u64 },
     /// no time passes
-    #[error("there is no input line")]
     NoInputLine,
     /// the first latch whose initial value is not that of its reset, by its position
-    #[error("latch {latch} is against its reset")]
     InitialReset { latch: u32 },
     /// the first time at which a constraint is false
-    #[error("a constraint is broken at time {time}")]
     ConstraintBroken { time: u64 },
     /// the bad literal is not set at the last input line
-    #[error("the bad literal is not set at the last line")]
     BadNotSet,
     /// no time has the state after the last line and then each wanted literal
-    #[error("there is no lasso")]
     NoLasso,
     /// out of memory
-    #[error("{0}")]
     OutOfMemory(Refused),
 }
 
@@ -62,6 +54,15 @@ impl From<ReplayError> for JudgeError {
         match e {
             ReplayError::InitialReset { latch } => JudgeError::InitialReset { latch },
             ReplayError::OutOfMemory(refused) => JudgeError::OutOfMemory(refused),
+        }
+    }
+}
+
+impl fmt::Display for JudgeError {
+    fn fmt<W: fmt::Write>(&self, f: &mut fmt::Formatter<W>) -> fmt::Result {
+        match self.after() {
+            Some(after) => write!(f, "{}{}{after}", self.before(), self.place()),
+            None => f.write_str(self.before()),
         }
     }
 }
@@ -98,6 +99,31 @@ impl JudgeError {
             | JudgeError::BadNotSet
             | JudgeError::NoLasso
             | JudgeError::OutOfMemory(_) => 0,
+        }
+    }
+
+    /// The words before the place, or all words where none is told.
+    fn before(self) -> &'static str {
+        match self {
+            JudgeError::NotViolated => "the stimulus reports no violation",
+            JudgeError::NoProperty(_) => "there is no property ",
+            JudgeError::LineLength { .. } => "line ",
+            JudgeError::NoInputLine => "there is no input line",
+            JudgeError::InitialReset { .. } => "latch ",
+            JudgeError::ConstraintBroken { .. } => "a constraint is broken at time ",
+            JudgeError::BadNotSet => "the bad literal is not set at the last line",
+            JudgeError::NoLasso => "there is no lasso",
+            JudgeError::OutOfMemory(_) => "out of memory",
+        }
+    }
+
+    /// The words after the place, where it is told.
+    fn after(self) -> Option<&'static str> {
+        match self {
+            JudgeError::LineLength { .. } => Some(" has another length"),
+            JudgeError::InitialReset { .. } => Some(" is against its reset"),
+            JudgeError::NoProperty(_) | JudgeError::ConstraintBroken { .. } => Some(""),
+            _ => None,
         }
     }
 }
