@@ -1,6 +1,6 @@
 //! The bits of a file: its literals, each with its name.
 
-ghost use Rattle.std.specs.Prelude.{◌≡◌, ◌<◌, ◌++◌, ℕ, All, IfOk, OnOk, length, map, slice_index_or};
+ghost use Rattle.std.specs.Prelude.{◌≡◌, ◌<◌, ◌++◌, [], ℕ, All, IfOk, OnOk, length, map, slice_index_or};
 ghost use Rattle.trace.specs.Bits.{AreAllBits, AreBits, AreShown, IsNameOf, is_hidden_name, shown_of};
 
 use crate::names::split_name;
@@ -90,38 +90,40 @@ fn latch_literals(alloc: Global, latches: &[Latch]) -> Result<Vec<Lit>, Refused>
     Ok(lits)
 }
 
-/// The bits of a file, in the order of its kinds.
-fn all_bits(alloc: Global, file: &AigerFile) -> Result<Vec<Bit<'_>>, Refused>
-    ensures { IfOk result (λ v. AreAllBits file.now v.items) }
+/// Adds the bits of a file to a list that is empty, in the order of its kinds.
+fn push_all<'a>(
+    alloc: Global,
+    bits: &mut Vec<Bit<'a>>,
+    file: &'a AigerFile,
+    latches: &[Lit],
+) -> Result<(), Refused>
+    requires empty { bits.old.items ≡ [] }
+    requires latches { latches.now ≡ map (λ l. l.lit) file.now.model.latches }
+    ensures { OnOk result (AreAllBits file.now bits.new.items) }
 {
     let model = file.model();
     let symbols = file.symbols();
-    let latches = latch_literals(alloc, model.latches())?;
-    let mut bits = Vec::new(alloc);
-    push_bits(alloc, &mut bits, SymbolKind::Input, model.inputs(), symbols)?;
-    push_bits(alloc, &mut bits, SymbolKind::Latch, &latches, symbols)?;
+    push_bits(alloc, bits, SymbolKind::Input, model.inputs(), symbols)?;
+    push_bits(alloc, bits, SymbolKind::Latch, latches, symbols)?;
+    push_bits(alloc, bits, SymbolKind::Output, model.outputs(), symbols)?;
+    push_bits(alloc, bits, SymbolKind::Bad, model.bad(), symbols)?;
     push_bits(
         alloc,
-        &mut bits,
-        SymbolKind::Output,
-        model.outputs(),
-        symbols,
-    )?;
-    push_bits(alloc, &mut bits, SymbolKind::Bad, model.bad(), symbols)?;
-    push_bits(
-        alloc,
-        &mut bits,
+        bits,
         SymbolKind::Constraint,
         model.constraints(),
         symbols,
     )?;
-    push_bits(
-        alloc,
-        &mut bits,
-        SymbolKind::Fairness,
-        model.fairness(),
-        symbols,
-    )?;
+    push_bits(alloc, bits, SymbolKind::Fairness, model.fairness(), symbols)
+}
+
+/// The bits of a file, in the order of its kinds.
+fn all_bits(alloc: Global, file: &AigerFile) -> Result<Vec<Bit<'_>>, Refused>
+    ensures { IfOk result (λ v. AreAllBits file.now v.items) }
+{
+    let latches = latch_literals(alloc, file.model().latches())?;
+    let mut bits = Vec::new(alloc);
+    push_all(alloc, &mut bits, file, &latches)?;
     Ok(bits)
 }
 
