@@ -127,6 +127,30 @@ fn chained_literals(
     Ok(lits)
 }
 
+/// Adds the new gates, and gives the chain's end.
+fn push_gates(
+    alloc: Global,
+    all: &mut Vec<Gate>,
+    latches: &[Latch],
+    wanted: &[Lit],
+    n: Numbers,
+) -> Result<Lit, Refused>
+    requires spaced { AreSpaced (length latches.now) (length wanted.now) n }
+    requires literals { All (λ l. l.lit.0 + 1 < 2 ^ 32) latches.now }
+    requires wanted_literals { All (λ a. a.0 + 1 < 2 ^ 32) wanted.now }
+    ensures gates { OnOk result (all.new.items ≡ all.old.items ++ joins_of n.start (positive_of n.save) (negative_of n.saved) ∷ joins_of n.idle (negative_of n.save) (negative_of n.saved)
+        ∷ (copy_gates n.start latches.now n.shadow n.copies ++ (watch_gates n.idle wanted.now n.seen n.watches
+        ++ chain_gates (equal_literals latches.now n.copies ++ seen_literals wanted.now n.seen) (positive_of n.saved) n.chain))) }
+    ensures bad { IfOk result (λ a. a ≡ chain_end (equal_literals latches.now n.copies ++ seen_literals wanted.now n.seen) (positive_of n.saved) n.chain) }
+{
+    push(all, joins(n.start, positive(n.save), negative(n.saved)))?;
+    push(all, joins(n.idle, negative(n.save), negative(n.saved)))?;
+    push_copies(all, n.start, latches, n.shadow, n.copies)?;
+    push_watches(all, n.idle, wanted, n.seen, n.watches)?;
+    let rest = chained_literals(alloc, latches.len(), n.copies, wanted.len(), n.seen)?;
+    push_chain(all, &rest, positive(n.saved), n.chain)
+}
+
 /// The old gates, then the new ones, and the chain's end.
 pub fn all_gates(
     alloc: Global,
@@ -144,14 +168,6 @@ pub fn all_gates(
     ensures bad { IfOk result (λ p. p.1 ≡ chain_end (equal_literals latches.now n.copies ++ seen_literals wanted.now n.seen) (positive_of n.saved) n.chain) }
 {
     let mut all = copied(alloc, gates)?;
-    push(
-        &mut all,
-        joins(n.start, positive(n.save), negative(n.saved)),
-    )?;
-    push(&mut all, joins(n.idle, negative(n.save), negative(n.saved)))?;
-    push_copies(&mut all, n.start, latches, n.shadow, n.copies)?;
-    push_watches(&mut all, n.idle, wanted, n.seen, n.watches)?;
-    let rest = chained_literals(alloc, latches.len(), n.copies, wanted.len(), n.seen)?;
-    let bad = push_chain(&mut all, &rest, positive(n.saved), n.chain)?;
+    let bad = push_gates(alloc, &mut all, latches, wanted, n)?;
     Ok((all, bad))
 }

@@ -1,7 +1,7 @@
 use Rattle.std.proofs.Common.{arith, refl, ap, ◌∙◌, length, length-append, ◌≤◌, ◌+◌}
 use Rattle.live_safe.specs.Shadow.{equal_literals, seen_literals}
 use Rattle.live_safe.proofs.Extended.{length-equal, length-seen}
-use Rattle.live_safe.proofs.gates.all_gates.Goals as goal
+use Rattle.live_safe.proofs.gates.push_gates.Goals as goal
 
 pub push_chain-requires : goal.push_chain-requires
 push_chain-requires c =
