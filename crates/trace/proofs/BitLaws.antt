@@ -1,9 +1,10 @@
 -- The bits of a file.
-use Rattle.std.proofs.Common.{◌≡◌, ℕ, ◌+◌, ◌*◌, ◌<◌, ◌≤◌, Bool, List, [], ◌∷◌, ◌++◌, length, get_or, map, refl, sym, ap, ◌∙◌, arith, All, subst, below_more, append_assoc}
+use Rattle.std.proofs.Common.{◌≡◌, ℕ, ◌+◌, ◌*◌, ◌<◌, ◌≤◌, Bool, List, [], ◌∷◌, ◌++◌, length, get_or, map, take, refl, sym, ap, ◌∙◌, arith, All, subst, below_more, append_assoc}
 use Rattle.std.specs.Prelude.{slice_index}
-use Rattle.std.proofs.lemmas.List.{get_or_default, get_or_append_left, get_or_push, length_push, append-nil}
+use Rattle.std.proofs.lemmas.List.{get_or_default, get_or_append_left, get_or_push, length_push, append-nil, take_more, map-append}
 use Rattle.std.proofs.lemmas.List.Elements.{All-append, All-filter}
 use Rattle.std.proofs.lemmas.List.Sorted.{All-permutation}
+use Rattle.graph.specs.declared.circuit.Latch.{Latch}
 use Rattle.graph.specs.declared.circuit.Lit.{Lit}
 use Rattle.graph.specs.declared.parts.Parts.{Parts}
 use Rattle.graph.specs.declared.symbol.Symbol.{Symbol}
@@ -16,6 +17,11 @@ use Rattle.graph.proofs.Evaluation.{All-left, All-right}
 use Rattle.stimulus.proofs.Ranges.{bad_in_range, constraints_in_range, outputs_in_range}
 use Rattle.trace.specs.declared.bits.Bit.{Bit}
 use Rattle.trace.specs.Bits.{AreAllBits, AreBits, AreShown, IsBit}
+
+-- the literals of the latches, by one more
+pub latch_more : (xs : List Latch) (i : ℕ) (d : Latch) (us vs : List Lit) → i < length xs → us ≡ map (λ l. l.lit) (take i xs) → vs ≡ us ++ (get_or xs i d).lit ∷ [] → vs ≡ map (λ l. l.lit) (take (i + 1) xs)
+latch_more xs i d us vs i_in before more =
+    more ∙ rw before (sym (ap (map (λ l. l.lit)) (take_more xs i d i_in) ∙ map-append (λ l. l.lit) (take i xs) (get_or xs i d ∷ [])))
 
 -- ---- a kind's bits, one after the other
 
