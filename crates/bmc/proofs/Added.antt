@@ -26,3 +26,7 @@ then_pair P Q (Err e) p q = tt
 
 pub four_more : {X : Type 0} (old a b c d : List X) (x y z w : X) → a ≡ old ++ x ∷ [] → b ≡ a ++ y ∷ [] → c ≡ b ++ z ∷ [] → d ≡ c ++ w ∷ [] → d ≡ old ++ x ∷ y ∷ z ∷ w ∷ []
 four_more old a b c d x y z w p q r s = s ∙ ap (λ u. u ++ w ∷ []) (three_more old a b c x y z p q r) ∙ simp append_assoc
+
+-- a part of what is added, and then the last of it
+pub part_more : {X : Type 0} (old part a b : List X) (x y : X) → a ≡ old ++ part → b ≡ a ++ y ∷ [] → y ≡ x → b ≡ old ++ (part ++ x ∷ [])
+part_more old part a b x y p q e = q ∙ ap (λ u. u ++ y ∷ []) p ∙ ap (λ u. (old ++ part) ++ u ∷ []) e ∙ simp append_assoc

@@ -1,9 +1,9 @@
 -- Clauses that are given on demand, one variable after the other.
-use Rattle.std.proofs.Common.{◌≡◌, ◌≢◌, ℕ, zero, suc, ◌+◌, ◌<◌, ◌≤◌, ◌⊎◌, ◌&&◌, Bool, true, false, List, [], ◌∷◌, ◌++◌, map, set, length, get_or, All, Contains, replicate, ℤ, pos, negsuc, neg_ℤ, unsigned_abs, inl, inr, refl, sym, ◌∙◌, ap, subst, arith, below_more, length-append, length-set, get_or-set_same, get_or-set_other, take}
+use Rattle.std.proofs.Common.{◌≡◌, ◌≢◌, ℕ, zero, suc, ◌+◌, ◌<◌, ◌≤◌, ◌⊎◌, Bool, true, false, List, [], ◌∷◌, ◌++◌, map, set, length, get_or, All, Contains, replicate, ℤ, pos, negsuc, neg_ℤ, unsigned_abs, inl, inr, refl, sym, ◌∙◌, ap, subst, arith, below_more, length-append, length-set, get_or-set_same, get_or-set_other, take}
 use Rattle.std.proofs.lemmas.Bool.{cases_eq, false≢true}
 use Rattle.std.proofs.lemmas.List.{get_or_append_left, get_or_default, length-replicate, take_more, map-append}
 use Rattle.std.proofs.lemmas.List.Elements.{All-nil, All-cons, All-head, All-append, All-weaker, All-map, All-contains, Contains-append_left, Contains-append_right}
-use Rattle.graph.proofs.Evaluation.{All-left, All-right}
+use Rattle.graph.proofs.Evaluation.{All-left}
 use Rattle.graph.specs.declared.circuit.Lit.{Lit}
 use Rattle.graph.specs.Valuation.{place, variable}
 use Rattle.lrat.specs.Shared.{unit_clauses}
@@ -16,10 +16,8 @@ use Rattle.cones.specs.Marks.{IsMarked}
 use Rattle.cones.specs.Reach.{Grows, IsFrom}
 use Rattle.cones.proofs.Growing.{grows_then, from_then}
 use Rattle.bmc.specs.declared.encoder.Encoder.{Encoder}
-use Rattle.bmc.specs.Encodings.{conjunction_clauses, rights_at, IsGate, IsDefined, IsEncoding, IsExtended}
+use Rattle.bmc.specs.Encodings.{rights_at, IsGate, IsExtended}
 use Rattle.bmc.specs.Demands.{IsDecided, AreOver, AreUpTo, AreGiven, IsMore, IsGivenOne}
-use Rattle.bmc.proofs.Encoded.{Has, conjunction_meant, same_true}
-use Rattle.bmc.proofs.Satisfied.{conjunction_satisfied}
 use Rattle.bmc.proofs.Negated.{negation_literal, literal_up}
 
 -- a variable's own literal
@@ -42,18 +40,6 @@ IsOver n marks l = IsLiteral n l × IsMarked marks (unsigned_abs l)
 
 pub over_negated : (n : ℕ) (marks : List Bool) (l : ℤ) → IsOver n marks l → IsOver n marks (neg_ℤ l)
 over_negated n marks l is = (negation_literal n l is.0, subst (IsMarked marks) (sym (abs_negated l)) is.1)
-
-conjunction_over : (n : ℕ) (marks : List Bool) (l a b : ℤ) → IsOver n marks l → IsOver n marks a → IsOver n marks b → AreOver n marks (conjunction_clauses l a b)
-conjunction_over n marks l a b l_in a_in b_in =
-    let Q : ℤ → Type 0 = IsOver n marks in
-    let P : List ℤ → Type 0 = All Q in
-    let not_l = over_negated n marks l l_in in
-    let c1 : List ℤ = neg_ℤ l ∷ a ∷ [] in
-    let c2 : List ℤ = neg_ℤ l ∷ b ∷ [] in
-    let c3 : List ℤ = l ∷ neg_ℤ a ∷ neg_ℤ b ∷ [] in
-    All-cons P c1 (c2 ∷ c3 ∷ []) (All-cons Q (neg_ℤ l) (a ∷ []) not_l (All-cons Q a [] a_in (All-nil Q)))
-    (All-cons P c2 (c3 ∷ []) (All-cons Q (neg_ℤ l) (b ∷ []) not_l (All-cons Q b [] b_in (All-nil Q)))
-    (All-cons P c3 [] (All-cons Q l (neg_ℤ a ∷ neg_ℤ b ∷ []) l_in (All-cons Q (neg_ℤ a) (neg_ℤ b ∷ []) (over_negated n marks a a_in) (All-cons Q (neg_ℤ b) [] (over_negated n marks b b_in) (All-nil Q)))) (All-nil P)))
 
 pub over_later : (n k : ℕ) (t u : List Bool) (cs : List (List ℤ)) → n ≤ k → ((x : ℕ) → IsMarked t x → IsMarked u x) → AreOver n t cs → AreOver k u cs
 over_later n k t u cs le kept over = All-weaker (All (IsOver n t)) (All (IsOver k u))
@@ -79,40 +65,6 @@ one_small n v le = All-cons (λ x. x ≤ n) v [] le (All-nil (λ x. x ≤ n))
 pub decided_later : (rs : List (ℤ × ℤ)) (cs ds : List (List ℤ)) (t u : List Bool) (x : ℕ) → ((v : ℕ → Bool) → AreSatisfied v ds → AreSatisfied v cs) → ((y : ℕ) → IsMarked t y → IsMarked u y) →
     IsDecided rs cs t x → IsDecided rs ds u x
 decided_later rs cs ds t u x weaker kept is gate w z satisfied defined agree = is gate w z (weaker w satisfied) defined (λ y y_in on. agree y y_in (kept y on))
-
--- a conjunction
-pub given_conjunction : (e : Encoder) (t s u : List Bool) (cs ds : List (List ℤ)) (x : ℕ) (a b : ℤ) → IsEncoding e → IsMarked t x → rights_at e.rights.items x ≡ (a, b) → a ≢ pos 0 →
-    ds ≡ cs ++ conjunction_clauses (pos x) a b → ((y : ℕ) → IsMarked t y → IsMarked u y) → IsMarked u (unsigned_abs a) → IsMarked u (unsigned_abs b) →
-    IsFrom (unsigned_abs a ∷ []) t s → IsFrom (unsigned_abs b ∷ []) s u → IsGivenOne e t u cs ds x
-given_conjunction e t s u cs ds x a b encoding on at a_nz ds_is kept a_on b_on from_a from_b =
-    let n : ℕ = e.variables in
-    let rs : List (ℤ × ℤ) = e.rights.items in
-    let gate : IsGate rs x = subst (λ (q : ℤ × ℤ). q.0 ≢ pos 0) (sym at) a_nz in
-    let x_in : x ≤ n = encoding.used x gate in
-    let sides = encoding.below x gate in
-    let a_lt : unsigned_abs a < x = subst (λ (q : ℤ × ℤ). unsigned_abs q.0 < x) at sides.0.1 in
-    let b_lt : unsigned_abs b < x = subst (λ (q : ℤ × ℤ). unsigned_abs q.1 < x) at sides.1.1 in
-    let b_nz : b ≢ pos 0 = subst (λ (q : ℤ × ℤ). q.1 ≢ pos 0) at sides.1.0 in
-    let some : 0 < x = omega (arith, a_lt) in
-    let x_nz : pos x ≢ pos 0 = own_nonzero x some in
-    let new : List (List ℤ) = conjunction_clauses (pos x) a b in
-    let to_cs : (v : ℕ → Bool) → AreSatisfied v ds → AreSatisfied v cs = λ v all. All-left (IsSatisfied v) cs new (subst (AreSatisfied v) ds_is all) in
-    let to_new : (v : ℕ → Bool) → AreSatisfied v ds → AreSatisfied v new = λ v all. All-right (IsSatisfied v) cs new (subst (AreSatisfied v) ds_is all) in
-    let value : (v : ℕ → Bool) → IsDefined rs v → Has v x (a, b) = λ v defined. subst (Has v x) at (defined.gates x gate) in
-    record {
-      range = λ up. up_from n (unsigned_abs b ∷ []) s u from_b (one_small n (unsigned_abs b) (omega (arith, b_lt, x_in))) (up_from n (unsigned_abs a ∷ []) t s from_a (one_small n (unsigned_abs a) (omega (arith, a_lt, x_in))) up);
-      over = λ over. subst (AreOver n u) (sym ds_is) (All-append (All (IsOver n u)) cs new (over_later n n t u cs (omega arith) kept over)
-          (conjunction_over n u (pos x) a b ((x_nz, x_in), kept x on) ((a_nz, omega (arith, a_lt, x_in)), a_on) ((b_nz, omega (arith, b_lt, x_in)), b_on)));
-      more = record {
-        weaker = to_cs;
-        stronger = λ v defined all. subst (AreSatisfied v) (sym ds_is) (All-append (IsSatisfied v) cs new all (conjunction_satisfied v (pos x) a b x_nz a_nz b_nz (own_true v x some ∙ value v defined)));
-      };
-      decided = λ here w z satisfied defined agree.
-          let one : is_true z a ≡ is_true w a = same_true z w a (agree (unsigned_abs a) a_lt a_on) in
-          let two : is_true z b ≡ is_true w b = same_true z w b (agree (unsigned_abs b) b_lt b_on) in
-          let meant : is_true w (pos x) ≡ (is_true w a && is_true w b) = conjunction_meant w (pos x) a b x_nz a_nz b_nz (to_new w satisfied) in
-          value z defined ∙ rw (one, two) refl ∙ sym meant ∙ own_true w x some;
-    }
 
 -- the first n of the list were given, and all that is marked was given or is listed
 pub record IsGiving (e : Encoder) (u : List Bool) (cs ds : List (List ℤ)) (list : List ℕ) (n : ℕ) : Type 0 where
@@ -197,13 +149,13 @@ take_past n [] le = take_none n
 take_past zero (x ∷ xs) le = absurd (omega (arith, le))
 take_past (suc n) (x ∷ xs) le = ap (λ q. x ∷ q) (take_past n xs (omega (arith, le)))
 
-pub grows_on : (f : Lit → ℕ) (lits : List Lit) (n : ℕ) (d : Lit) (t u x : List Bool) (list longer longest : List ℕ) → n < length lits → Grows (map f (take n lits)) t list u longer →
+pub grows_on : {X : Type 0} (f : X → ℕ) (lits : List X) (n : ℕ) (d : X) (t u x : List Bool) (list longer longest : List ℕ) → n < length lits → Grows (map f (take n lits)) t list u longer →
     Grows (f (get_or lits n d) ∷ []) u longer x longest → Grows (map f (take (n + 1) lits)) t list x longest
 grows_on f lits n d t u x list longer longest n_in h k =
     let e : map f (take (n + 1) lits) ≡ map f (take n lits) ++ f (get_or lits n d) ∷ [] = ap (map f) (take_more lits n d n_in) ∙ map-append f (take n lits) (get_or lits n d ∷ []) in
     subst (λ q. Grows q t list x longest) (sym e) (grows_then (map f (take n lits)) (f (get_or lits n d) ∷ []) t u x list longer longest h k)
 
-pub from_on : (f : Lit → ℕ) (lits : List Lit) (n : ℕ) (d : Lit) (t u x : List Bool) → n < length lits → IsFrom (map f (take n lits)) t u → IsFrom (f (get_or lits n d) ∷ []) u x →
+pub from_on : {X : Type 0} (f : X → ℕ) (lits : List X) (n : ℕ) (d : X) (t u x : List Bool) → n < length lits → IsFrom (map f (take n lits)) t u → IsFrom (f (get_or lits n d) ∷ []) u x →
     IsFrom (map f (take (n + 1) lits)) t x
 from_on f lits n d t u x n_in h k =
     let e : map f (take (n + 1) lits) ≡ map f (take n lits) ++ f (get_or lits n d) ∷ [] = ap (map f) (take_more lits n d n_in) ∙ map-append f (take n lits) (get_or lits n d ∷ []) in

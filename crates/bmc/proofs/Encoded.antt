@@ -1,18 +1,17 @@
 -- Variables that become conjunctions, and the table of literals that were made.
-use Rattle.std.proofs.Common.{◌≡◌, ◌≢◌, ℕ, zero, suc, ◌+◌, ◌≤◌, ◌⊎◌, ◌&&◌, ◌||◌, ◌==◌, if◌then◌else◌, Bool, true, false, not, List, [], ◌∷◌, ◌++◌, length, get_or, All, ℤ, pos, negsuc, neg_ℤ, unsigned_abs, Some, inl, inr, refl, sym, ◌∙◌, ap, subst, arith}
+use Rattle.std.proofs.Common.{◌≡◌, ◌≢◌, ℕ, zero, suc, ◌+◌, ◌≤◌, ◌⊎◌, ◌&&◌, ◌==◌, if◌then◌else◌, Bool, true, false, not, List, [], ◌∷◌, ◌++◌, length, get_or, All, ℤ, pos, negsuc, unsigned_abs, Some, inl, inr, refl, sym, ◌∙◌, ap, subst, arith}
 use Rattle.std.specs.HashMap.{get}
 use Rattle.std.specs.Ordering.{int_eq}
 use Rattle.std.proofs.lemmas.Bool.{cases_Bool, cases_eq, eq-eqb, ne_eqb, and_parts}
 use Rattle.std.proofs.lemmas.Bool.Decides.{Decides-int_eq}
 use Rattle.std.proofs.lemmas.List.{get_or_at}
-use Rattle.std.proofs.lemmas.List.Elements.{All-head, All-tail, All-weaker, All-contains}
+use Rattle.std.proofs.lemmas.List.Elements.{All-weaker, All-contains}
 use Rattle.std.proofs.lemmas.Option.{same_Some}
 use Rattle.lrat.specs.Literals.{is_true, IsSatisfied, IsLiteral}
 use Rattle.cnf.specs.Meaning.{AreSatisfied}
-use Rattle.cnf.proofs.Listed.{satisfied-any}
 use Rattle.bmc.specs.declared.encoder.Encoder.{Encoder}
-use Rattle.bmc.specs.Encodings.{conjunction_clauses, rights_at, IsGate, IsDefined, IsConjunctionIn, IsBelow, IsEncoding, IsExtended, IsGrown, same_pair}
-use Rattle.bmc.proofs.Negated.{negation_true, literal_up}
+use Rattle.bmc.specs.Encodings.{rights_at, IsGate, IsDefined, IsConjunctionIn, IsBelow, IsEncoding, IsExtended, IsGrown, same_pair}
+use Rattle.bmc.proofs.Negated.{literal_up}
 
 -- a literal is as true where its variable has the same value
 pub same_true : (u v : ℕ → Bool) (l : ℤ) → u (unsigned_abs l) ≡ v (unsigned_abs l) → is_true u l ≡ is_true v l
@@ -41,27 +40,6 @@ changed_agrees n v b x x_in = rw (ne_eqb x (suc n) (λ e. omega (arith, e, x_in)
 
 pub changed_here : (v : ℕ → Bool) (k : ℕ) (b : Bool) → changed v k b k ≡ b
 changed_here v k b = rw (eq-eqb k k refl) refl
-
-conjunction_back : (x a b : Bool) → (not x || (a || false)) ≡ true → (not x || (b || false)) ≡ true → (x || (not a || (not b || false))) ≡ true → x ≡ (a && b)
-conjunction_back true true true p q r = refl
-conjunction_back true true false p q r = cc
-conjunction_back true false b p q r = cc
-conjunction_back false true true p q r = cc
-conjunction_back false true false p q r = refl
-conjunction_back false false b p q r = refl
-
--- what satisfies a conjunction's clauses makes it one
-pub conjunction_meant : (v : ℕ → Bool) (l a b : ℤ) → l ≢ pos 0 → a ≢ pos 0 → b ≢ pos 0 → AreSatisfied v (conjunction_clauses l a b) → is_true v l ≡ (is_true v a && is_true v b)
-conjunction_meant v l a b l_in a_in b_in all =
-    let P : List ℤ → Type 0 = IsSatisfied v in
-    let c1 : List ℤ = neg_ℤ l ∷ a ∷ [] in
-    let c2 : List ℤ = neg_ℤ l ∷ b ∷ [] in
-    let c3 : List ℤ = l ∷ neg_ℤ a ∷ neg_ℤ b ∷ [] in
-    let rest : All P (c2 ∷ c3 ∷ []) = All-tail P c1 (c2 ∷ c3 ∷ []) all in
-    let p1 = satisfied-any v c1 (All-head P c1 (c2 ∷ c3 ∷ []) all) in
-    let p2 = satisfied-any v c2 (All-head P c2 (c3 ∷ []) rest) in
-    let p3 = satisfied-any v c3 (All-head P c3 [] (All-tail P c2 (c3 ∷ []) rest)) in
-    conjunction_back (is_true v l) (is_true v a) (is_true v b) (rw (negation_true v l l_in) at p1) (rw (negation_true v l l_in) at p2) (rw (negation_true v a a_in, negation_true v b b_in) at p3)
 
 -- later conjunctions
 pub extended_same : (n : ℕ) (rs : List (ℤ × ℤ)) → IsExtended n rs n rs

@@ -1,6 +1,6 @@
 pub mod Depths
 pub mod Negated
-pub mod Satisfied
+pub mod Sides
 pub mod Added
 pub mod Encoded
 pub mod Completed

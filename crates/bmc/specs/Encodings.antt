@@ -1,14 +1,19 @@
 -- Literals that are made of others (Tseitin 1968): each variable has a value of its own, or is the conjunction of two literals.
-use Rattle.std.specs.Prelude.{◌≡◌, ◌≢◌, ℕ, suc, ◌+◌, ◌<◌, ◌≤◌, ◌&&◌, ◌⊎◌, not, if◌then◌else◌, Bool, true, List, [], ◌∷◌, length, slice_index_or, ℤ, pos, neg_ℤ, unsigned_abs, Some}
+use Rattle.std.specs.Prelude.{◌≡◌, ◌≢◌, ℕ, suc, ◌+◌, ◌<◌, ◌≤◌, ◌&&◌, ◌⊎◌, not, if◌then◌else◌, Bool, true, List, [], ◌∷◌, ◌++◌, map, All, length, slice_index_or, ℤ, pos, neg_ℤ, unsigned_abs, Some}
 use Rattle.std.specs.HashMap.{get}
 use Rattle.std.specs.Ordering.{int_eq}
 use Rattle.lrat.specs.Literals.{is_true, IsLiteral}
 use Rattle.cnf.specs.Meaning.{AreSatisfied}
 use Rattle.bmc.specs.declared.encoder.Encoder.{Encoder}
 
--- the clauses by which the literal is the conjunction of two
-abbrev pub conjunction_clauses : ℤ → ℤ → ℤ → List (List ℤ)
-conjunction_clauses l one other = (neg_ℤ l ∷ one ∷ []) ∷ (neg_ℤ l ∷ other ∷ []) ∷ (l ∷ neg_ℤ one ∷ neg_ℤ other ∷ []) ∷ []
+-- whether each of the literals is true
+unfoldable pub all_true : (ℕ → Bool) → List ℤ → Bool
+all_true v [] = true
+all_true v (l ∷ ls) = is_true v l && all_true v ls
+
+-- the clauses by which the literal is the conjunction of these
+abbrev pub conjunction_clauses : ℤ → List ℤ → List (List ℤ)
+conjunction_clauses l sides = map (λ s. neg_ℤ l ∷ s ∷ []) sides ++ (l ∷ map neg_ℤ sides) ∷ []
 
 -- the clauses by which the literal is the negation of the second where the first is true, and else of the third
 abbrev pub selection_clauses : ℤ → ℤ → ℤ → ℤ → List (List ℤ)
@@ -37,16 +42,27 @@ pub record IsDefined (rs : List (ℤ × ℤ)) (v : ℕ → Bool) : Type 0 where
   pub truth : v 1 ≡ true
   pub gates : (x : ℕ) → IsGate rs x → v x ≡ (is_true v (rights_at rs x).0 && is_true v (rights_at rs x).1)
 
+-- a literal of a variable before this one
+abbrev pub IsBelow : ℕ → ℤ → Type 0
+IsBelow x l = (l ≢ pos 0) × (unsigned_abs l < x)
+
+-- the variable is the conjunction of these literals, which come before it
+pub record AreSides (rs : List (ℤ × ℤ)) (x : ℕ) (sides : List ℤ) : Type 0 where
+  pub below : All (IsBelow x) sides
+  pub value : (v : ℕ → Bool) → IsDefined rs v → v x ≡ all_true v sides
+
+-- the literal is true where its variable is, which is the conjunction of the pair
+pub record IsInner (rs : List (ℤ × ℤ)) (l : ℤ) (p : ℤ × ℤ) : Type 0 where
+  pub positive : l ≡ pos (unsigned_abs l)
+  pub gate : IsGate rs (unsigned_abs l)
+  pub sides : rights_at rs (unsigned_abs l) ≡ p
+
 -- in each assignment in which the conjunctions have their values the literal is that of two
 abbrev pub IsConjunctionIn : List (ℤ × ℤ) → ℤ → ℤ → ℤ → Type 0
 IsConjunctionIn rs a b l = (v : ℕ → Bool) → IsDefined rs v → is_true v l ≡ (is_true v a && is_true v b)
 
 abbrev pub same_pair : ℤ × ℤ → ℤ × ℤ → Bool
 same_pair p q = int_eq p.0 q.0 && int_eq p.1 q.1
-
--- a literal of a variable before this one
-abbrev pub IsBelow : ℕ → ℤ → Type 0
-IsBelow x l = (l ≢ pos 0) × (unsigned_abs l < x)
 
 -- each conjunction is of literals before it
 abbrev pub AreBelow : List (ℤ × ℤ) → Type 0

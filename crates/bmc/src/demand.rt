@@ -5,7 +5,7 @@ ghost use Rattle.lrat.specs.Literals.{IsLiteral};
 ghost use Rattle.graph.specs.Valuation.{variable};
 ghost use Rattle.cones.specs.Marks.{IsMarked};
 ghost use Rattle.cones.specs.Reach.{Grows, IsFrom};
-ghost use Rattle.bmc.specs.Encodings.{IsEncoding};
+ghost use Rattle.bmc.specs.Encodings.{IsEncoding, IsGate};
 ghost use Rattle.bmc.specs.Demands.{AreGiven, IsGivenOne, IsMore};
 ghost use Rattle.bmc.specs.Unrollings.{literal_of};
 ghost use Rattle.engine.specs.declared.engine_error.EngineError.TheVariants.{Limit};
@@ -54,6 +54,60 @@ fn want_all(
     Ok(())
 }
 
+/// Marks the literals' variables, and adds those to the list that were not marked.
+fn want_each(marks: &mut [bool], list: &mut Vec<u32>, literals: &[i32]) -> Result<(), Refused>
+    requires { All (λ l. unsigned_abs l < length marks.old) literals.now }
+    ensures grows { OnOk result (Grows (map unsigned_abs literals.now) marks.old list.old.items marks.new list.new.items) }
+    ensures from { OnOk result (IsFrom (map unsigned_abs literals.now) marks.old marks.new) }
+{
+    for literal in literals {
+        want(marks, list, *literal)?;
+    }
+    Ok(())
+}
+
+/// The literals of a conjunction, and a clause of them: buffers that one conjunction leaves to the next.
+#[derive(Drop)]
+struct Buffers {
+    sides: Vec<i32>,
+    clause: Vec<i32>,
+}
+
+/// Gives the solver the clauses of the variable, which is the conjunction of two literals, and marks what it depends on.
+fn give_conjunction<S: Sat>(
+    solver: &mut S,
+    alloc: Global,
+    encoder: &Encoder,
+    marks: &mut [bool],
+    list: &mut Vec<u32>,
+    buffers: &mut Buffers,
+    variable: u32,
+) -> Result<(), EngineError>
+    requires encoding { IsEncoding encoder.now }
+    requires places { length marks.old ≡ S.vars solver.old + 1 }
+    requires small { S.vars solver.old ≤ 2147483647 }
+    requires range { encoder.now.variables < length marks.old }
+    requires gate { IsGate encoder.now.rights.items variable }
+    requires marked { IsMarked marks.old variable }
+    ensures vars { S.vars solver.new ≡ S.vars solver.old }
+    ensures grows { OnOk result (Grows [] marks.old list.old.items marks.new list.new.items) }
+    ensures given { OnOk result (IsGivenOne encoder.now marks.old marks.new (S.clauses solver.old) (S.clauses solver.new) variable) }
+    ensures limit { IfErr result (λ e. e ≡ Limit full → S.is_full solver.new) }
+{
+    let (one, other) = encoder.rights_of(variable);
+    encoder.sides_of(marks, one, other, &mut buffers.sides)?;
+    let sides = buffers.sides.as_slice();
+    add_conjunction(
+        solver,
+        alloc,
+        positive(variable),
+        sides,
+        &mut buffers.clause,
+    )?;
+    want_each(marks, list, sides)?;
+    Ok(())
+}
+
 /// Gives the solver the clauses of the listed variable, and marks what it depends on.
 fn give_one<S: Sat>(
     solver: &mut S,
@@ -61,6 +115,7 @@ fn give_one<S: Sat>(
     encoder: &Encoder,
     marks: &mut [bool],
     list: &mut Vec<u32>,
+    buffers: &mut Buffers,
     place: usize,
 ) -> Result<(), EngineError>
     requires encoding { IsEncoding encoder.now }
@@ -86,10 +141,7 @@ fn give_one<S: Sat>(
         want(marks, list, second)?;
         return Ok(());
     }
-    add_conjunction(solver, alloc, positive(variable), one, other)?;
-    want(marks, list, one)?;
-    want(marks, list, other)?;
-    Ok(())
+    give_conjunction(solver, alloc, encoder, marks, list, buffers, variable)
 }
 
 /// Gives the solver the conjunctions on which the constraints and the bad literals depend, where it
@@ -119,11 +171,15 @@ pub fn give<S: Sat>(
     ensures limit { IfErr result (λ e. e ≡ Limit full → S.is_full solver.new) }
 {
     let mut list = Vec::new(alloc);
+    let mut buffers = Buffers {
+        sides: Vec::new(alloc),
+        clause: Vec::new(alloc),
+    };
     want_all(marks, &mut list, table, constraints)?;
     want_all(marks, &mut list, table, bad)?;
     let mut next: usize = 0;
     'giving: while next < list.len() {
-        give_one(solver, alloc, encoder, marks, &mut list, next)?;
+        give_one(solver, alloc, encoder, marks, &mut list, &mut buffers, next)?;
         next += 1;
     }
     Ok(())

@@ -3,7 +3,7 @@
 ghost use Rattle.std.specs.Prelude.{◌≡◌, ◌≢◌, ◌+◌, ◌<◌, ◌≤◌, ◌^◌, ◌++◌, ◌∷◌, [], ◌&&◌, ℕ, ℤ, Bool, true, None, pos, negsuc, neg_ℤ, unsigned_abs, OnOk, IfOk, IfSome, ◌⊎◌, length};
 ghost use Rattle.std.specs.HashMap.{get};
 ghost use Rattle.lrat.specs.Literals.{IsLiteral, is_true};
-ghost use Rattle.bmc.specs.Encodings.{IsConjunctionIn, IsEncoding, IsGrown, IsMultiplexer, IsSelection, rights_at, same_pair};
+ghost use Rattle.bmc.specs.Encodings.{AreSides, IsConjunctionIn, IsEncoding, IsGate, IsGrown, IsInner, IsMultiplexer, IsSelection, rights_at, same_pair};
 
 use crate::clauses::{negated, positive};
 use base::{Refused, insert_hashed, push};
@@ -49,6 +49,9 @@ fn multiplexer(p: (i32, i32), q: (i32, i32)) -> Option<(i32, i32, i32)>
     }
     None
 }
+
+/// The most literals of which a conjunction is said to be.
+const MOST_SIDES: usize = 8;
 
 /// Adds pairs of zeros up to a length.
 fn fill(rights: &mut Vec<(i32, i32)>, len: usize) -> Result<(), Refused>
@@ -119,6 +122,67 @@ impl Encoder {
             return None;
         }
         multiplexer(p, q)
+    }
+
+    /// The two literals of which this one's variable is the conjunction, where the literal is positive, its variable is
+    /// not marked and selects nothing: so the conjunction needs no variable where it is a side of another.
+    fn inner(&self, marks: &[bool], literal: i32) -> Option<(i32, i32)>
+        requires encoding { IsEncoding self.now }
+        requires small { self.now.variables ≤ 2147483647 }
+        ensures { IfSome result (IsInner self.now.rights.items literal) }
+    {
+        if literal < 0 {
+            return None;
+        }
+        let variable = literal.unsigned_abs();
+        if let Some(true) = marks.get(variable as usize) {
+            return None;
+        }
+        let (one, other) = self.rights_of(variable);
+        if one == 0 {
+            return None;
+        }
+        match self.selection(one, other) {
+            Some(_) => None,
+            None => Some((one, other)),
+        }
+    }
+
+    /// Puts in place of the side at the place that one's own sides, as long as it needs no variable.
+    fn open_side(&self, marks: &[bool], sides: &mut Vec<i32>, place: usize) -> Result<(), Refused>
+        requires encoding { IsEncoding self.now }
+        requires small { self.now.variables ≤ 2147483647 }
+        ensures { (x : ℕ) → AreSides self.now.rights.items x sides.old.items → OnOk result (AreSides self.now.rights.items x sides.new.items) }
+    {
+        'opening: while place < sides.len() && sides.len() < MOST_SIDES {
+            let Some((one, other)) = self.inner(marks, sides[place]) else {
+                return Ok(());
+            };
+            sides[place] = one;
+            push(sides, other)?;
+        }
+        Ok(())
+    }
+
+    /// The literals of which the conjunction of two is: these two, and in place of one that needs no variable its own.
+    pub fn sides_of(
+        &self,
+        marks: &[bool],
+        one: i32,
+        other: i32,
+        sides: &mut Vec<i32>,
+    ) -> Result<(), Refused>
+        requires encoding { IsEncoding self.now }
+        requires small { self.now.variables ≤ 2147483647 }
+        ensures { (x : ℕ) → IsGate self.now.rights.items x → rights_at self.now.rights.items x ≡ (one, other) → OnOk result (AreSides self.now.rights.items x sides.new.items) }
+    {
+        sides.clear();
+        push(sides, one)?;
+        push(sides, other)?;
+        for place in 0..MOST_SIDES {
+            self.open_side(marks, sides, place)?;
+        }
+        Ok(())
     }
 
     /// The conjunction of two literals, which gets a variable where there is none.

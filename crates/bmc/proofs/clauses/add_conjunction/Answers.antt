@@ -1,23 +1,26 @@
-use Rattle.std.proofs.Common.{rules, ◌≡◌, neg_ℤ, SFits, w32}
+use Rattle.std.proofs.Common.{rules, ◌≡◌, ◌∷◌, ℕ, ℤ, List, All, map, neg_ℤ, sym, ◌∙◌, subst, SFits, w32}
+use Rattle.std.proofs.lemmas.List.Elements.{All-cons, All-map, All-weaker}
+use Rattle.lrat.specs.Literals.{IsLiteral}
 use Rattle.lrat.proofs.Fit.{read32}
-use Rattle.bmc.proofs.Added.{then_ok, read_as, three_more}
+use Rattle.bmc.proofs.Added.{part_more}
+use Rattle.bmc.proofs.Negated.{negation_literal}
 use Rattle.bmc.proofs.clauses.add_conjunction.Goals as goal
+
+pub add-requires : goal.add-requires
+add-requires g c =
+    let n : ℕ = g.S.Sat.vars c.args.solver.now in
+    let l : ℤ = c.args.literal in
+    let ss : List ℤ = c.args.sides.now in
+    let fl : SFits w32 l = search rules in
+    let is : c.deref.result.now ≡ l ∷ map neg_ℤ ss = c.deref.ensures.value ∙ (rw (read32 _ fl) at c.in_ok-fill_clause.ensures) in
+    let all : All (IsLiteral n) (l ∷ map neg_ℤ ss) = All-cons (IsLiteral n) l (map neg_ℤ ss) c.requires.literal
+    (All-map (IsLiteral n) neg_ℤ ss (All-weaker (IsLiteral n) (λ s. IsLiteral n (neg_ℤ s)) (negation_literal n) ss c.requires.sides)) in
+    subst (λ (q : List ℤ). All (IsLiteral (g.S.Sat.vars c.add_each.new.solver)) q) (sym is) (subst (λ (k : ℕ). All (IsLiteral k) (l ∷ map neg_ℤ ss)) (sym c.in_ok-add_each.ensures.vars) all)
 
 pub returns-clause-clauses : goal.returns-clause-clauses
 returns-clause-clauses g c =
-    let f1 : SFits w32 c.negated-denial.result = search rules in
-    let e1 : c.negated-denial.result ≡ neg_ℤ c.args.literal = search rules in
-    let f2 : SFits w32 c.negated.result = search rules in
-    let e2 : c.negated.result ≡ neg_ℤ c.args.one = search rules in
-    let f3 : SFits w32 c.negated-2.result = search rules in
-    let e3 : c.negated-2.result ≡ neg_ℤ c.args.other = search rules in
-    let gl : SFits w32 c.args.literal = search rules in
-    let l = read32 _ gl in
-    let ga : SFits w32 c.args.one = search rules in
-    let a = read32 _ ga in
-    let gb : SFits w32 c.args.other = search rules in
-    let b = read32 _ gb in
-    let first = rw (read_as _ _ f1 e1, a) at c.in_ok-add_two.ensures.clauses in
-    let second = rw (read_as _ _ f1 e1, b) at c.in_ok-add_two-2.ensures.clauses in
-    then_ok c.add_three.result c.add_three.ensures.clauses (λ r.
-    three_more _ _ _ _ _ _ _ first second (rw (l, read_as _ _ f2 e2, read_as _ _ f3 e3) at r))
+    let l : ℤ = c.args.literal in
+    let ss : List ℤ = c.args.sides.now in
+    let fl : SFits w32 l = search rules in
+    let is : c.deref.result.now ≡ l ∷ map neg_ℤ ss = c.deref.ensures.value ∙ (rw (read32 _ fl) at c.in_ok-fill_clause.ensures) in
+    part_more _ _ _ _ (l ∷ map neg_ℤ ss) _ (rw (read32 _ fl) at c.in_ok-add_each.ensures.clauses) c.in_ok-add.ensures.ok is
