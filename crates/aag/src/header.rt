@@ -9,7 +9,7 @@ use crate::refusal::Refusal;
 use scan::{Fault, counts, field, tag};
 
 /// What a header states: the greatest variable, and how many there are of each kind.
-#[derive(Clone, Copy, Debug, PartialEq, Eq)]
+#[derive(Clone, Copy, PartialEq, Eq)]
 pub struct Header {
     pub max_var: u32,
     pub inputs: u32,

@@ -15,7 +15,7 @@ use std::alloc::Global;
 pub const GREATEST: u32 = 4_194_303;
 
 /// A literal that defines nothing.
-#[derive(Clone, Copy, Debug, PartialEq, Eq)]
+#[derive(Clone, Copy, PartialEq, Eq)]
 pub struct NotDefining;
 
 impl LayoutRefusal for NotDefining {
@@ -121,7 +121,7 @@ pub struct LiteralLine;
 
 /// How a line of a literal that is only used is read: the greatest variable, and what the reader
 /// calls the faults.
-#[derive(Clone, Copy, Debug, PartialEq, Eq)]
+#[derive(Clone, Copy, PartialEq, Eq)]
 pub struct UseLine<K> {
     pub max_var: u32,
     pub kinds: Kinds<K>,

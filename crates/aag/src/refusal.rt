@@ -8,7 +8,7 @@ use scan::{Fault, Kinds, place};
 
 /// What is wrong in a text, before its place is known as a byte of the whole. `L` is what only the
 /// text's layout refuses.
-#[derive(Clone, Copy, Debug, PartialEq, Eq)]
+#[derive(Clone, Copy, PartialEq, Eq)]
 pub enum Refusal<L> {
     /// Not the word that begins a text, or a byte that may not end a count.
     Header,

@@ -13,7 +13,7 @@ use scan::{Fault, lines};
 use std::alloc::Global;
 
 /// The lists of literals that are only used.
-#[derive(Debug, Drop)]
+#[derive(Drop)]
 pub struct Uses {
     pub outputs: Seq<Lit>,
     pub bad: Seq<Lit>,

@@ -10,7 +10,7 @@ use graph::ReadError;
 use scan::Fault;
 
 /// No difference between a gate's literals.
-#[derive(Clone, Copy, Debug, PartialEq, Eq)]
+#[derive(Clone, Copy, PartialEq, Eq)]
 pub struct NoDelta;
 
 impl LayoutRefusal for NoDelta {

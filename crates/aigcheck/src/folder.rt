@@ -17,7 +17,7 @@ use std::{fs, io};
 const MOST: u64 = 67_108_865;
 
 /// A circuit's text, and the folder with evidence about its properties.
-#[derive(Clone, Copy, Debug)]
+#[derive(Clone, Copy)]
 struct Folder<'a> {
     circuit: &'a [u8],
     name: &'a str,

@@ -9,7 +9,7 @@ use std::process::ExitCode;
 pub const FAULT: u8 = 3;
 
 /// Why there is no answer.
-#[derive(Clone, Copy, Debug)]
+#[derive(Clone, Copy)]
 pub enum NoAnswer {
     /// Both files are the standard input.
     BadArgument,

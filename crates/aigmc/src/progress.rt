@@ -16,7 +16,7 @@ const MILLION: u64 = 1_000_000;
 const TENTH: u64 = 100_000;
 
 /// How a search is shown.
-#[derive(Clone, Copy, Debug, PartialEq, Eq)]
+#[derive(Clone, Copy, PartialEq, Eq)]
 pub enum Shown {
     /// Not at all.
     Nothing,

@@ -22,7 +22,7 @@ const DEVICE: u8 = 21;
 pub const NO_PROPERTY: u8 = 30;
 
 /// What a file is to a command.
-#[derive(Clone, Copy, Debug, PartialEq, Eq)]
+#[derive(Clone, Copy, PartialEq, Eq)]
 pub enum Role {
     /// The circuit that is read.
     Circuit,
@@ -35,7 +35,7 @@ pub enum Role {
 }
 
 /// The properties that a circuit has.
-#[derive(Clone, Copy, Debug)]
+#[derive(Clone, Copy)]
 pub struct Has {
     /// how many bad literals
     pub bad: usize,
@@ -46,7 +46,7 @@ pub struct Has {
 }
 
 /// Why a command was not done.
-#[derive(Clone, Copy, Debug)]
+#[derive(Clone, Copy)]
 pub enum Stop {
     /// A word asks for nothing that there is.
     BadArgument,

@@ -5,7 +5,7 @@ ghost use Rattle.std.specs.Prelude.{◌≡◌, ◌+◌, ◌<◌, true, false};
 use std::marker::Model;
 
 /// A budget of steps. What is spent and what is left are together what it began with.
-#[derive(Debug, Drop)]
+#[derive(Drop)]
 pub struct Budget {
     total: u64,
     spent: u64,

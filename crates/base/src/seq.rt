@@ -10,7 +10,7 @@ use std::alloc::Global;
 use std::marker::Model;
 
 /// A list, kept in a `Vec`. A contract sees the list alone, without the capacity.
-#[derive(Debug, Drop)]
+#[derive(Drop)]
 pub struct Seq<T> {
     items: Vec<T>,
 }

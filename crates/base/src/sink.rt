@@ -31,7 +31,7 @@ pub trait Sink {
 }
 
 /// A `Vec` that grows. Want of memory counts as a failure.
-#[derive(Debug, Drop)]
+#[derive(Drop)]
 pub struct ToVec {
     bytes: Vec<u8>,
     failures: u64,
@@ -96,7 +96,7 @@ impl Sink for ToVec {
 }
 
 /// A writer of std. An interrupted write and a write of 0 bytes count as failures.
-#[derive(Debug, Drop)]
+#[derive(Drop)]
 pub struct ToWrite<W> {
     writer: W,
     failures: u64,

@@ -37,7 +37,7 @@ pub trait Source {
 }
 
 /// The bytes of a slice. A contract sees those that are still to come.
-#[derive(Debug, Drop)]
+#[derive(Drop)]
 pub struct FromBytes<'a> {
     rest: &'a [u8],
 }
@@ -80,7 +80,7 @@ impl Source for FromBytes<'_> {
 
 /// A reader of std. It gives 2^64 - 1 bytes in all at most and fails from then on, so that every
 /// reading ends. An interrupted read counts as a failure.
-#[derive(Debug, Drop)]
+#[derive(Drop)]
 pub struct FromRead<R> {
     reader: R,
     given: u64,

@@ -1,7 +1,7 @@
 //! What a look at a clause finds.
 
 /// What the trail leaves of a clause.
-#[derive(Clone, Copy, Debug, PartialEq, Eq)]
+#[derive(Clone, Copy, PartialEq, Eq)]
 pub enum Found {
     /// no clause has the id
     Missing,

@@ -12,7 +12,7 @@ use std::alloc::Global;
 pub const GREATEST: u32 = 4_194_303;
 
 /// The version of a text.
-#[derive(Clone, Copy, Debug, PartialEq, Eq)]
+#[derive(Clone, Copy, PartialEq, Eq)]
 pub enum Version {
     /// Without lemmas.
     One,

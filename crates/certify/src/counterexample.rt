@@ -9,7 +9,7 @@ use graph::{Lit, Model, Seq};
 use std::alloc::Global;
 
 /// One of the cases of clauses that are to be an inductive invariant. The clauses count from 0.
-#[derive(Clone, Copy, Debug, PartialEq, Eq)]
+#[derive(Clone, Copy, PartialEq, Eq)]
 pub enum Case {
     /// the resets hold, and the clause is false
     Initial(u64),

@@ -336,7 +336,7 @@ fn check_property<S: Source>(
 }
 
 /// What was read and found.
-#[derive(Clone, Copy, Debug, PartialEq, Eq)]
+#[derive(Clone, Copy, PartialEq, Eq)]
 pub struct Outcome {
     /// the property that the certificate names
     pub property: Property,

@@ -12,7 +12,7 @@ use graph::{Lit, Model, Seq};
 use std::alloc::Global;
 
 /// What is wrong with a clause.
-#[derive(Clone, Copy, Debug, PartialEq, Eq)]
+#[derive(Clone, Copy, PartialEq, Eq)]
 pub enum ClauseFault {
     /// A literal is not a latch's.
     NotLatch,

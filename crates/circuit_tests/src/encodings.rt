@@ -11,7 +11,7 @@ use std::test::Fail;
 static MIXED: &[u8] = b"aag 5 1 3 0 1 2 2\n2\n4 11 1\n6 4\n8 1 8\n11\n0\n3\n8\n10 5 6\n";
 
 /// What is made of a circuit.
-#[derive(Clone, Copy, Debug, PartialEq, Eq)]
+#[derive(Clone, Copy, PartialEq, Eq)]
 enum Encoding {
     /// the gates of a time, with the constant
     Frame,

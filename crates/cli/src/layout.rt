@@ -12,7 +12,7 @@ use crate::cli_error::CliError;
 use graph::{AigerFile, Sink};
 
 /// A layout of a circuit's file (AIGER 1.9).
-#[derive(Clone, Copy, Debug, PartialEq, Eq)]
+#[derive(Clone, Copy, PartialEq, Eq)]
 pub enum Layout {
     /// a line for each item
     Ascii,

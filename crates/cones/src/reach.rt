@@ -13,7 +13,7 @@ use graph::{Gate, Lit, Model, literal_value};
 use std::alloc::Global;
 
 /// What a marked gate wants marked.
-#[derive(Clone, Copy, Debug, PartialEq, Eq)]
+#[derive(Clone, Copy, PartialEq, Eq)]
 pub enum Reach {
     /// Both right sides.
     Cone,

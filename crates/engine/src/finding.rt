@@ -3,7 +3,7 @@
 use graph::{Lit, Seq};
 
 /// Why nothing is known.
-#[derive(Clone, Copy, Debug, PartialEq, Eq)]
+#[derive(Clone, Copy, PartialEq, Eq)]
 pub enum Reason {
     /// The budget is exhausted.
     Budget,

@@ -16,7 +16,7 @@ pub trait Progress: Drop {
 }
 
 /// What hears of a search and does nothing.
-#[derive(Debug, Drop)]
+#[derive(Drop)]
 pub struct Silent;
 
 impl Progress for Silent {

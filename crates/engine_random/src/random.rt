@@ -19,7 +19,7 @@ use std::alloc::Global;
 /// its reset leaves open, then at each time for each input, in their order. A time that is played is a
 /// step of the budget, and is counted before its words are drawn. A batch ends at its depth or where no
 /// run is in.
-#[derive(Debug, Drop)]
+#[derive(Drop)]
 pub struct Random {
     seed: u64,
     depth: u32,

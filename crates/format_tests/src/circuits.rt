@@ -92,7 +92,7 @@ fn is_binary_whole(file: &AigerFile) -> bool {
 }
 
 /// Whether the sinks of both lengths answer so, of the ASCII and of the binary text.
-#[derive(Clone, Copy, Debug, PartialEq, Eq)]
+#[derive(Clone, Copy, PartialEq, Eq)]
 enum Sunk {
     Ascii,
     Binary,

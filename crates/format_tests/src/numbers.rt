@@ -6,7 +6,7 @@ use scan::{
 };
 use std::alloc::Global;
 
-#[derive(Clone, Copy, Debug, PartialEq, Eq)]
+#[derive(Clone, Copy, PartialEq, Eq)]
 enum Refusal {
     Truncated,
     Number,

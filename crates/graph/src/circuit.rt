@@ -4,7 +4,7 @@ ghost use Rattle.std.specs.Prelude.{◌≡◌, ◌%◌, ◌↔◌, IsTrue};
 ghost use Rattle.graph.specs.Valuation.{variable as variable_of};
 
 /// A literal (AIGER): variable `v` is `2v` and its negation is `2v + 1`; 0 is false and 1 is true.
-#[derive(Clone, Copy, Debug, PartialEq, Eq)]
+#[derive(Clone, Copy, PartialEq, Eq)]
 pub struct Lit(pub u32);
 
 impl Lit {
@@ -25,7 +25,7 @@ impl Lit {
 
 /// A latch gets the value of `next` at each step. It begins with the value of `reset`: 0, 1,
 /// or its own literal, which leaves it open.
-#[derive(Clone, Copy, Debug, PartialEq, Eq)]
+#[derive(Clone, Copy, PartialEq, Eq)]
 pub struct Latch {
     pub lit: Lit,
     pub next: Lit,
@@ -33,7 +33,7 @@ pub struct Latch {
 }
 
 /// A gate makes `lhs` the conjunction of its two right sides.
-#[derive(Clone, Copy, Debug, PartialEq, Eq)]
+#[derive(Clone, Copy, PartialEq, Eq)]
 pub struct Gate {
     pub lhs: Lit,
     pub rhs0: Lit,
@@ -41,7 +41,7 @@ pub struct Gate {
 }
 
 /// A property, by its position among its kind.
-#[derive(Clone, Copy, Debug, PartialEq, Eq)]
+#[derive(Clone, Copy, PartialEq, Eq)]
 pub enum Property {
     /// A bad literal: violated where a run sets it.
     Bad(u32),
@@ -53,7 +53,7 @@ pub enum Property {
 }
 
 /// How a literal stands in a circuit's lists.
-#[derive(Clone, Copy, Debug, PartialEq, Eq)]
+#[derive(Clone, Copy, PartialEq, Eq)]
 pub(crate) enum Use {
     /// An input, a latch's literal or a gate's left side.
     Defines(Lit),

@@ -12,7 +12,7 @@ use base::{Refused, Seq, filled};
 use std::alloc::Global;
 
 /// How often a variable is defined.
-#[derive(Clone, Copy, Debug, PartialEq, Eq)]
+#[derive(Clone, Copy, PartialEq, Eq)]
 pub enum Times {
     Never,
     Once,

@@ -11,7 +11,7 @@ use base::Seq;
 use std::alloc::Global;
 
 /// What an AIGER file says: a circuit, names of its literals in the file's order, and a comment.
-#[derive(Debug, Drop)]
+#[derive(Drop)]
 pub struct AigerFile {
     model: Model,
     symbols: Seq<Symbol>,

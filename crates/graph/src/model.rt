@@ -19,7 +19,7 @@ use std::alloc::Global;
 
 /// A circuit whose parts are well formed, with an order in which its gates can be evaluated.
 /// Contracts see its `Parts`.
-#[derive(Debug, Drop)]
+#[derive(Drop)]
 pub struct Model {
     parts: Parts,
     // each gate's position once, each after the gates that define its right sides

@@ -16,7 +16,7 @@ use base::{Refused, filled, push};
 use std::alloc::Global;
 
 /// How far the search has come with a variable.
-#[derive(Clone, Copy, Debug, PartialEq, Eq)]
+#[derive(Clone, Copy, PartialEq, Eq)]
 pub enum Mark {
     /// It is a gate's, and not looked at yet.
     Waiting,

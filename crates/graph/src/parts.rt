@@ -12,7 +12,7 @@ use std::alloc::Global;
 
 /// A circuit as its lists, in the order of the file. Nothing is promised of them: `Model` is for
 /// parts that are well formed.
-#[derive(Debug, Drop)]
+#[derive(Drop)]
 pub struct Parts {
     /// The greatest variable, `M`.
     pub max_var: u32,

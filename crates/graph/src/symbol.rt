@@ -13,7 +13,7 @@ use std::alloc::Global;
 use std::marker::Model;
 
 /// What a symbol names: the letters `i l o b c j f` of AIGER 1.9.
-#[derive(Clone, Copy, Debug, PartialEq, Eq)]
+#[derive(Clone, Copy, PartialEq, Eq)]
 pub enum SymbolKind {
     Input,
     Latch,
@@ -42,7 +42,7 @@ impl SymbolKind {
 }
 
 /// A name for what stands at a position among its kind.
-#[derive(Debug, Drop)]
+#[derive(Drop)]
 pub struct Symbol {
     pub kind: SymbolKind,
     pub position: u32,
@@ -58,7 +58,7 @@ pub fn is_name(name: &[u8]) -> bool
 }
 
 /// Symbols of some parts, each of what is there, no two of the same.
-#[derive(Debug, Drop)]
+#[derive(Drop)]
 pub struct Symbols {
     // for each kind, which positions have a symbol
     taken: Vec<Vec<bool>>,

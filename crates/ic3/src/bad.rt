@@ -15,7 +15,7 @@ use solver::PartSat;
 use std::alloc::Global;
 
 /// What is known of the bad literal in a frame.
-#[derive(Debug, Drop)]
+#[derive(Drop)]
 pub(crate) enum AtBad {
     /// It is true at this time.
     Set(Assignment),

@@ -16,7 +16,7 @@ use solver::PartSat;
 use std::alloc::Global;
 
 /// What became of states that were to be blocked.
-#[derive(Debug, Drop)]
+#[derive(Drop)]
 pub(crate) enum Blocking {
     /// The frames exclude them.
     Blocked,

@@ -18,7 +18,7 @@ use ic3_step::{Assignment, StateLit, denials};
 use std::alloc::Global;
 
 /// A cube of states that lead to the bad literal, and the frame in which it is to be blocked.
-#[derive(Debug, Drop)]
+#[derive(Drop)]
 pub(crate) struct Obligation {
     /// one of the states
     pub state: Seq<bool>,

@@ -16,7 +16,7 @@ const SCALE: u64 = 1_000_000_000_000_000;
 
 /// How active latches are: those of the clauses that joined the frames last. Each clause adds a hundredth more
 /// than the one before (Een and Sorensson 2003).
-#[derive(Debug, Drop)]
+#[derive(Drop)]
 pub(crate) struct Activities {
     /// by the latches' positions
     values: Vec<u64>,

@@ -20,14 +20,14 @@ use ic3_step::StateLit;
 use std::alloc::Global;
 
 /// A clause that holds in each frame up to its level.
-#[derive(Debug, Drop)]
+#[derive(Drop)]
 pub struct Entry {
     pub clause: Seq<StateLit>,
     pub level: u32,
 }
 
 /// The frames from 0 to the greatest, which is still open. A contract sees them as `Levels`.
-#[derive(Debug, Drop)]
+#[derive(Drop)]
 pub struct Frames {
     entries: Vec<Entry>,
     top: u32,

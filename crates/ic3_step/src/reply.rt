@@ -4,7 +4,7 @@ use crate::state::Assignment;
 use graph::{Lit, Seq};
 
 /// What is known of the times at which some literals are true.
-#[derive(Debug, Drop)]
+#[derive(Drop)]
 pub enum Reply {
     /// There is one, with this state and these inputs.
     Found(Assignment),

@@ -4,7 +4,7 @@ use graph::Seq;
 
 /// A latch, by its position in the circuit's list, and a value. A literal of clauses over states:
 /// it is set where the latch has the value.
-#[derive(Clone, Copy, PartialEq, Eq, Debug)]
+#[derive(Clone, Copy, PartialEq, Eq)]
 pub struct StateLit {
     pub latch: u32,
     pub value: bool,
@@ -12,7 +12,7 @@ pub struct StateLit {
 
 /// The state and the inputs of a time, in the order of the circuit's latches and inputs, and the
 /// values of what was asked about.
-#[derive(Debug, Drop)]
+#[derive(Drop)]
 pub struct Assignment {
     pub state: Seq<bool>,
     pub inputs: Seq<bool>,

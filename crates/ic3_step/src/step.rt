@@ -19,7 +19,7 @@ use solver::PartSat;
 use std::alloc::Global;
 
 /// What is known of a clause after each step.
-#[derive(Debug, Drop)]
+#[derive(Drop)]
 pub enum Consecution {
     /// This part of the clause holds after each.
     Held(Seq<StateLit>),

@@ -7,7 +7,7 @@ ghost use Rattle.live_safe.specs.Numbers.{AreNumbers, AreSpaced};
 use graph::{Lit, Parts};
 
 /// The new variables, or the first of each row of them.
-#[derive(Clone, Copy, Debug)]
+#[derive(Clone, Copy)]
 pub struct Numbers {
     /// The input.
     pub save: u32,

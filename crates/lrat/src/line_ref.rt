@@ -1,7 +1,7 @@
 //! Lines of proofs whose lists are borrowed.
 
 /// A line of a proof, as `Line`, whose lists belong to something else.
-#[derive(Clone, Copy, Debug)]
+#[derive(Clone, Copy)]
 pub enum LineRef<'a> {
     /// The clause joins the others under the id. The hints are the ids of the clauses that show
     /// it, in the order in which they do.

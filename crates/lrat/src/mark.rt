@@ -4,7 +4,7 @@ ghost use Rattle.std.specs.Prelude.{◌≡◌, ◌<◌, All, length, neg_ℤ, un
 ghost use Rattle.lrat.specs.Marks.{mark_of, IsUnmarked};
 
 /// Which literal of a variable is held true.
-#[derive(Clone, Copy, Debug, PartialEq, Eq)]
+#[derive(Clone, Copy, PartialEq, Eq)]
 pub enum Mark {
     Neither,
     Positive,

@@ -11,7 +11,7 @@ use graph::{Model, Property};
 use std::alloc::Global;
 
 /// A kind of properties.
-#[derive(Clone, Copy, Debug, PartialEq, Eq)]
+#[derive(Clone, Copy, PartialEq, Eq)]
 enum Kind {
     /// bad literals
     Bad,

@@ -8,7 +8,7 @@ use graph::Property;
 use std::alloc::{AllocError, Global};
 
 /// What shows something of a property.
-#[derive(Clone, Copy, Debug, PartialEq, Eq)]
+#[derive(Clone, Copy, PartialEq, Eq)]
 pub enum Evidence {
     /// A certificate that it holds.
     Certificate,

@@ -217,7 +217,7 @@ fn judge_body<S: Source>(
 }
 
 /// What was read and found.
-#[derive(Clone, Copy, Debug, PartialEq, Eq)]
+#[derive(Clone, Copy, PartialEq, Eq)]
 pub struct Outcome {
     /// the property that the stimulus names
     pub property: Property,

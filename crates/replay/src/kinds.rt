@@ -11,7 +11,7 @@ use std::alloc::Global;
 use stimulus::{IN_LINES, IN_STATUS, Refusal, Values, begins_otherwise, property};
 
 /// What the first line of a stimulus says.
-#[derive(Clone, Copy, Debug, PartialEq, Eq)]
+#[derive(Clone, Copy, PartialEq, Eq)]
 pub enum Status {
     /// The property holds.
     Holds,

@@ -15,7 +15,7 @@ use graph::Seq;
 use std::alloc::Global;
 
 /// What the lengths of lines are.
-#[derive(Clone, Copy, Debug, PartialEq, Eq)]
+#[derive(Clone, Copy, PartialEq, Eq)]
 pub enum Lengths {
     /// There is a line, and each has the wanted length.
     Fit,

@@ -15,7 +15,7 @@ use std::alloc::Global;
 
 /// A circuit at one time after another. Contracts see the circuit, the state of the next time to be
 /// stepped, and the valuation of the time that was stepped last.
-#[derive(Debug, Drop)]
+#[derive(Drop)]
 pub struct Replay<'a> {
     circuit: &'a Model,
     // the state of the next time to be stepped

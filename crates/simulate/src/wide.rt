@@ -17,7 +17,7 @@ use std::simd::u64x4;
 
 /// A circuit in 256 runs, at one time after another. Run `r` is bit `r mod 64` of lane `r / 64`. Contracts see
 /// the circuit, the states of the next time to be stepped, and the values at the time that was stepped last.
-#[derive(Debug, Drop)]
+#[derive(Drop)]
 pub struct Wide<'a> {
     circuit: &'a Model,
     // the circuit's gates, each after those that it reads

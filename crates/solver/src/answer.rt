@@ -1,7 +1,7 @@
 //! What a solver answers.
 
 /// What a solver answers.
-#[derive(Debug, Drop)]
+#[derive(Drop)]
 pub enum Answer {
     /// Values that satisfy the clauses and the assumptions: place `v` is the variable `v`, and
     /// place 0 is false.

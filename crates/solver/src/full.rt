@@ -23,7 +23,7 @@ impl fmt::Display for Full {
 }
 
 /// How many ids are taken: one by each entry of a list, and those of a room that is left out.
-#[derive(Clone, Copy, Debug, PartialEq, Eq)]
+#[derive(Clone, Copy, PartialEq, Eq)]
 pub struct Taken {
     ids: u64,
 }

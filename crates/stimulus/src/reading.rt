@@ -14,7 +14,7 @@ use scan::{Fault, ItemKind, Kinds, byte, field, items, place, tag};
 use std::alloc::Global;
 
 /// What is wrong in a text, before its place is known as a byte of the whole.
-#[derive(Clone, Copy, Debug, PartialEq, Eq)]
+#[derive(Clone, Copy, PartialEq, Eq)]
 pub enum Refusal {
     /// The first line is not 0, 1 or 2.
     Status,

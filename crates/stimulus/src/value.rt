@@ -8,7 +8,7 @@ use graph::{Property, Seq};
 use std::alloc::Global;
 
 /// What is said of one property of a circuit.
-#[derive(Debug, Drop)]
+#[derive(Drop)]
 pub enum Stimulus {
     /// The property holds.
     Holds(Property),

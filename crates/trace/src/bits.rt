@@ -13,7 +13,7 @@ use std::cmp::Ordering;
 const NO_NAME: &[u8] = &[];
 
 /// A literal, with its name.
-#[derive(Clone, Copy, Debug)]
+#[derive(Clone, Copy)]
 pub struct Bit<'a> {
     pub kind: SymbolKind,
     /// Its position among its kind.

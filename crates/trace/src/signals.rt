@@ -12,7 +12,7 @@ use itoa::Buffer;
 use std::alloc::Global;
 
 /// A signal: where its bits begin in the list of all, and where they end.
-#[derive(Clone, Copy, Debug)]
+#[derive(Clone, Copy)]
 pub struct Signal {
     pub first: usize,
     pub end: usize,

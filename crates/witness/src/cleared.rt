@@ -3,7 +3,7 @@
 use graph::{Property, Seq};
 
 /// The values of a stimulus on which its violation rests. Each other one is `None`.
-#[derive(Debug, Drop)]
+#[derive(Drop)]
 pub struct Cleared {
     /// The property that is violated.
     pub property: Property,

@@ -7,7 +7,7 @@ use base::{Refused, push};
 use std::alloc::Global;
 
 /// What stands on a line, and the byte of the text where it begins.
-#[derive(Clone, Copy, Debug)]
+#[derive(Clone, Copy)]
 pub struct Line<'a> {
     /// the bytes, without a comment behind them and blanks about them
     pub bytes: &'a [u8],
@@ -16,7 +16,7 @@ pub struct Line<'a> {
 }
 
 /// How long the rows of a circuit are.
-#[derive(Clone, Copy, Debug, PartialEq, Eq)]
+#[derive(Clone, Copy, PartialEq, Eq)]
 pub struct Shape {
     /// how many latches
     pub latches: usize,

@@ -3,7 +3,7 @@
 use graph::{Property, Seq};
 
 /// A counterexample as another tool wrote it. A value that doesn't matter is `None`.
-#[derive(Debug, Drop)]
+#[derive(Drop)]
 pub struct Loose {
     /// The properties that it names, of which one at least is violated; none where it names none.
     pub properties: Seq<Property>,

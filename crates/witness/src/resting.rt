@@ -162,7 +162,7 @@ pub fn latch_literals(alloc: Global, circuit: &Model) -> Result<Vec<Lit>, Refuse
 }
 
 /// What a time rests on.
-#[derive(Debug, Drop)]
+#[derive(Drop)]
 pub struct Left {
     /// of its state
     pub state: Seq<Option<bool>>,
