@@ -1,5 +1,5 @@
 -- Texts that several calls put, one after another.
-use Rattle.std.proofs.Common.{◌≡◌, ◌≢◌, ℕ, eqb, List, [], ◌∷◌, ◌++◌, length, Option, Result, IsErr, refl, sym, ap, ◌∙◌, append_assoc, inl, inr}
+use Rattle.std.proofs.Common.{◌≡◌, ◌≢◌, ℕ, eqb, List, [], ◌∷◌, ◌++◌, length, Option, Result, IsErr, refl, sym, ap, subst, ◌∙◌, append_assoc, inl, inr}
 use Rattle.std.specs.Prelude.{flat_map, decimal, codes, ◌==◌, if◌then◌else◌}
 use Rattle.std.proofs.lemmas.Bool.{cases_Bool, eqb-true}
 use Rattle.std.proofs.lemmas.List.{append-nil}
@@ -10,7 +10,9 @@ use Rattle.graph.specs.declared.circuit.Latch.{Latch}
 use Rattle.graph.specs.declared.circuit.Gate.{Gate}
 use Rattle.graph.specs.declared.symbol.Symbol.{Symbol}
 use Rattle.base.specs.Devices.{Puts, PutsBeginning}
-use Rattle.base.proofs.Putting.{begins_more, puts_err}
+use Rattle.std.specs.Io.KnownBytes.{Appends}
+use Rattle.std.proofs.KnownBytes.{Appends-trans}
+use Rattle.base.proofs.Putting.{begins_behind, begins_more, puts_err}
 use Rattle.aag.specs.Tail.{letter_of, symbol_line}
 use Rattle.graph.specs.declared.parts.Parts.{Parts}
 use Rattle.graph.specs.WellFormed.{justice_literals}
@@ -100,3 +102,21 @@ circuit_is m =
 
 pub file_is : (text : List ℕ) (symbols : List Symbol) (comment : Option (List ℕ)) → text ++ (flat_map symbol_line symbols ++ comment_lines comment) ≡ text ++ flat_map symbol_line symbols ++ comment_lines comment
 file_is text symbols comment = sym (append_assoc text (flat_map symbol_line symbols) (comment_lines comment))
+
+-- ---- blocks of pieces
+
+-- one more block was put
+pub block_next : {A : Type 0} (f : A → List ℕ) (done some later rest items : List A) (a b c : Option (List ℕ)) → done ++ rest ≡ items → some ++ later ≡ rest
+    → Appends a b (flat_map f done) → Appends b c (flat_map f some) → ((done ++ some) ++ later ≡ items) × Appends a c (flat_map f (done ++ some))
+block_next f done some later rest items a b c whole split p q = (
+  append_assoc done some later ∙ ap (λ w. done ++ w) split ∙ whole,
+  subst (Appends a c) (sym (flat_map-append f done some)) (Appends-trans a b c (flat_map f done) (flat_map f some) p q),
+)
+
+-- a beginning of a block was put behind others
+pub block_fails : {A : Type 0} (f : A → List ℕ) (done some later rest items : List A) (a b c : Option (List ℕ)) → done ++ rest ≡ items → some ++ later ≡ rest
+    → Appends a b (flat_map f done) → PutsBeginning b c (flat_map f some) → PutsBeginning a c (flat_map f items)
+block_fails f done some later rest items a b c whole split p q =
+    let is : flat_map f done ++ (flat_map f some ++ flat_map f later) ≡ flat_map f items =
+    ap (λ w. flat_map f done ++ w) (sym (flat_map-append f some later)) ∙ sym (flat_map-append f done (some ++ later)) ∙ ap (λ w. flat_map f (done ++ w)) split ∙ ap (flat_map f) whole in
+    subst (PutsBeginning a c) is (begins_behind a b c (flat_map f done) (flat_map f some ++ flat_map f later) p (begins_more b c (flat_map f some) (flat_map f later) q))

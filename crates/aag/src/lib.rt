@@ -39,7 +39,7 @@ mod writing;
 pub use aag_write_error::AagWriteError;
 pub use header::{Header, read_header};
 pub use lines::{LiteralLine, next, reset};
-pub use pieces::{Piece, put_each, put_number};
+pub use pieces::{Piece, ShortPiece, put_blocks, put_each, put_number};
 pub use reading::{LONGEST, read, with_tail};
 pub use refusal::{LayoutRefusal, Refusal, told};
 pub use uses::{Uses, read_uses};

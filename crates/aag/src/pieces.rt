@@ -1,15 +1,14 @@
 //! What is written item by item.
 
-ghost use Rattle.std.specs.Prelude.{◌≡◌, ◌^◌, ◌+◌, ◌<◌, ◌≤◌, ◌-◌, ◌++◌, ◌∷◌, [], decimal, flat_map, length};
+ghost use Rattle.std.specs.Prelude.{◌≡◌, ◌^◌, ◌+◌, ◌*◌, ◌<◌, ◌≤◌, ◌-◌, ◌++◌, ◌∷◌, decimal, drop, flat_map, length};
 ghost use Rattle.base.specs.Devices.{CountsFailure, Puts};
 ghost use Rattle.scan.specs.Counts.{spaced};
 ghost use Rattle.aag.specs.Tail.{letter_of, symbol_line};
 ghost use Rattle.aag.specs.Writing.{gate_line, latch_line, literal_line, size_line};
 
 use crate::lines::{GateLine, LatchLine, LiteralLine};
-use arrayvec::ArrayVec;
 use graph::{Failed, Gate, Latch, Lit, Seq, Sink, Symbol, SymbolKind, put_all};
-use itoa::{Buffer, Integer};
+use itoa::{Buffer, Integer, write_digits};
 
 /// Puts a number and the bytes behind it.
 pub fn put_number<I: Integer, W: Sink>(out: &mut W, number: I, behind: &[u8]) -> Result<(), Failed>
@@ -90,31 +89,85 @@ impl Piece for LatchLine {
     }
 }
 
-/// Adds a number, and the byte behind it, to a line that is put at once.
-fn add_number(line: &mut ArrayVec<u8, 33>, number: u32, behind: u8)
-    requires room { length line.old.items ≤ 22 }
-    ensures text { line.new.items ≡ line.old.items ++ decimal number ++ behind ∷ [] }
-    ensures short { length line.new.items ≤ length line.old.items + 11 }
-{
-    let mut buffer = Buffer::new();
-    let digits = buffer.format(number).as_bytes();
-    if line.try_extend_from_slice(digits).is_err() {
-        unreachable!()
-    }
-    line.push(behind);
+/// One kind of what is written in blocks: what it holds, and its text, of at most 33 bytes.
+pub trait ShortPiece {
+    ghost use Rattle.std.specs.Prelude.{ℕ, List, ◌++◌, drop};
+
+    /// What a piece holds.
+    type Item;
+
+    /// The text of a piece.
+    ghost text: { Self.Item → List ℕ };
+
+    /// Writes the text of a piece into a block, so that it ends at `end`, and answers where it
+    /// begins.
+    fn write(block: &mut [u8], end: usize, item: &Self::Item) -> usize
+        requires room { 33 ≤ end }
+        requires inside { end ≤ length block.old }
+        ensures ends { result ≤ end }
+        ensures short { end ≤ result + 33 }
+        ensures written { drop result block.new ≡ text item.now ++ drop end block.old };
 }
 
-impl Piece for GateLine {
+/// How many bytes a block has, and how many pieces go into one.
+const BLOCK: usize = 3_960;
+
+const PIECES: usize = 120;
+
+/// Writes pieces one after another, so that they end where the block ends, and answers where they
+/// begin. It begins with the last, so that no byte is moved.
+fn write_block<P: ShortPiece>(block: &mut [u8], items: &[P::Item]) -> usize
+    requires room { 33 * length items.now ≤ length block.old }
+    ensures inside { result ≤ length block.old }
+    ensures written { drop result block.new ≡ flat_map P.text items.now }
+{
+    let mut start = block.len();
+    let mut left = items.len();
+    'writing: while left > 0 {
+        left -= 1;
+        start = P::write(block, start, &items[left]);
+    }
+    start
+}
+
+/// Puts short pieces of one kind one after another, many at once.
+pub fn put_blocks<P: ShortPiece, W: Sink>(out: &mut W, items: &[P::Item]) -> Result<(), Failed>
+    requires { W.failed out.old < 2 ^ 64 - 1 }
+    ensures puts { Puts result (W.contents out.old) (W.contents out.new) (flat_map P.text items.now) }
+    ensures counts { CountsFailure (W.failed out.old) (W.failed out.new) result }
+{
+    let mut block = [0u8; BLOCK];
+    let mut rest = items;
+    'putting: while !rest.is_empty() {
+        let (some, later) = rest.split_at(rest.len().min(PIECES));
+        let start = write_block::<P>(&mut block, some);
+        put_all(out, &block[start..])?;
+        rest = later;
+    }
+    Ok(())
+}
+
+/// Writes a number and the byte behind it, so that they end at `end`, and answers where they begin.
+fn write_number(block: &mut [u8], end: usize, number: u32, behind: u8) -> usize
+    requires room { 11 ≤ end }
+    requires inside { end ≤ length block.old }
+    ensures ends { result ≤ end }
+    ensures short { end ≤ result + 11 }
+    ensures written { drop result block.new ≡ decimal number ++ behind ∷ drop end block.old }
+{
+    block[end - 1] = behind;
+    write_digits(u64::from(number), block, end - 1)
+}
+
+impl ShortPiece for GateLine {
     type Item = Gate;
 
     ghost text = { gate_line };
 
-    fn put<W: Sink>(out: &mut W, item: &Gate) -> Result<(), Failed> {
-        let mut line = ArrayVec::new();
-        add_number(&mut line, item.lhs.0, b' ');
-        add_number(&mut line, item.rhs0.0, b' ');
-        add_number(&mut line, item.rhs1.0, b'\n');
-        put_all(out, line.as_slice())
+    fn write(block: &mut [u8], end: usize, item: &Gate) -> usize {
+        let start = write_number(block, end, item.rhs1.0, b'\n');
+        let start = write_number(block, start, item.rhs0.0, b' ');
+        write_number(block, start, item.lhs.0, b' ')
     }
 }
 

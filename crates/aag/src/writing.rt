@@ -9,7 +9,9 @@ ghost use Rattle.aag.specs.Writing.{circuit_text, comment_lines, header_line, tr
 
 use crate::aag_write_error::AagWriteError;
 use crate::lines::{GateLine, LatchLine, LiteralLine};
-use crate::pieces::{Count, JusticeLines, Piece, SizeLine, SymbolLine, put_each, put_number};
+use crate::pieces::{
+    Count, JusticeLines, Piece, SizeLine, SymbolLine, put_blocks, put_each, put_number,
+};
 use graph::{AigerFile, Failed, Parts, Sink, Symbol, put_all};
 
 /// The counts up to the last that is not 0.
@@ -77,7 +79,7 @@ fn put_circuit<W: Sink>(out: &mut W, parts: &Parts) -> Result<(), Failed>
     put_each::<LiteralLine, W>(out, parts.inputs.as_slice())?;
     put_each::<LatchLine, W>(out, parts.latches.as_slice())?;
     put_uses(out, parts)?;
-    put_each::<GateLine, W>(out, parts.gates.as_slice())
+    put_blocks::<GateLine, W>(out, parts.gates.as_slice())
 }
 
 /// The header and the lines of a circuit.
@@ -126,7 +128,7 @@ pub fn put_file<C: Piece<Item = Parts>, W: Sink>(
 /// last that is needed, no reset that is 0, the symbols in their order, and the comment behind a
 /// `c` and a line end. `read` gives the file again where the text has at most 67108864 bytes. After
 /// a failure of the sink a beginning of the text was put. It takes no memory, and hands the sink
-/// each gate's line, each other number and each name by itself.
+/// many gates' lines at once, each other number and each name by itself.
 pub fn write<W: Sink>(file: &AigerFile, out: &mut W) -> Result<(), AagWriteError>
     requires { W.failed out.old < 2 ^ 64 - 1 }
     ensures written { OnOk result (Appends (W.contents out.old) (W.contents out.new) (written_text file.now)) }

@@ -1,51 +1,65 @@
 //! What is written item by item.
 
-ghost use Rattle.std.specs.Prelude.{◌≡◌, ◌^◌, ◌+◌, ◌<◌, ◌≤◌, ◌-◌, ◌++◌, length};
+ghost use Rattle.std.specs.Prelude.{◌≡◌, ◌^◌, ◌+◌, ◌<◌, ◌≤◌, ◌-◌, ◌++◌, ◌∷◌, drop, length};
 ghost use Rattle.base.specs.Devices.{CountsFailure, Puts};
 ghost use Rattle.aig.specs.Delta.{delta_text};
 ghost use Rattle.aig.specs.Writing.{gate_text, latch_line};
 
 use crate::lines::{GateDeltas, LatchLine};
-use aag::{Piece, put_number};
-use arrayvec::ArrayVec;
+use aag::{Piece, ShortPiece, put_number};
 use graph::{Failed, Gate, Latch, Sink, put_all};
 
-/// Adds groups of seven bits to the bytes of a gate.
-fn add_groups(bytes: &mut ArrayVec<u8, 10>, groups: &[u8])
-    requires room { length bytes.old.items + length groups.now ≤ 10 }
-    ensures { bytes.new.items ≡ bytes.old.items ++ groups.now }
+/// Writes a byte before `end`, and answers where that is.
+#[inline(always)]
+fn write_byte(block: &mut [u8], end: usize, byte: u8) -> usize
+    requires room { 0 < end }
+    requires inside { end ≤ length block.old }
+    ensures start { result + 1 ≡ end }
+    ensures written { drop result block.new ≡ byte ∷ drop end block.old }
 {
-    if bytes.try_extend_from_slice(groups).is_err() {
-        unreachable!()
-    }
+    block[end - 1] = byte;
+    end - 1
 }
 
-/// Adds a number in groups of seven bits, the lowest first, to the bytes of a gate.
-fn add_delta(bytes: &mut ArrayVec<u8, 10>, number: u32)
-    requires room { length bytes.old.items ≤ 5 }
-    ensures text { bytes.new.items ≡ bytes.old.items ++ delta_text number }
-    ensures short { length bytes.new.items ≤ length bytes.old.items + 5 }
+/// Writes a number in groups of seven bits, the lowest first, so that they end at `end`, and answers
+/// where they begin.
+fn write_delta(block: &mut [u8], end: usize, number: u32) -> usize
+    requires room { 5 ≤ end }
+    requires inside { end ≤ length block.old }
+    ensures ends { result ≤ end }
+    ensures short { end ≤ result + 5 }
+    ensures written { drop result block.new ≡ delta_text number ++ drop end block.old }
 {
     if number < 128 {
-        return bytes.push(number as u8);
+        return write_byte(block, end, number as u8);
     }
     let first = 128 + (number % 128) as u8;
     let rest = number / 128;
     if rest < 128 {
-        return add_groups(bytes, &[first, rest as u8]);
+        let start = write_byte(block, end, rest as u8);
+        return write_byte(block, start, first);
     }
     let second = 128 + (rest % 128) as u8;
     let rest = rest / 128;
     if rest < 128 {
-        return add_groups(bytes, &[first, second, rest as u8]);
+        let start = write_byte(block, end, rest as u8);
+        let start = write_byte(block, start, second);
+        return write_byte(block, start, first);
     }
     let third = 128 + (rest % 128) as u8;
     let rest = rest / 128;
     if rest < 128 {
-        return add_groups(bytes, &[first, second, third, rest as u8]);
+        let start = write_byte(block, end, rest as u8);
+        let start = write_byte(block, start, third);
+        let start = write_byte(block, start, second);
+        return write_byte(block, start, first);
     }
     let fourth = 128 + (rest % 128) as u8;
-    add_groups(bytes, &[first, second, third, fourth, (rest / 128) as u8])
+    let start = write_byte(block, end, (rest / 128) as u8);
+    let start = write_byte(block, start, fourth);
+    let start = write_byte(block, start, third);
+    let start = write_byte(block, start, second);
+    write_byte(block, start, first)
 }
 
 impl Piece for LatchLine {
@@ -62,15 +76,13 @@ impl Piece for LatchLine {
     }
 }
 
-impl Piece for GateDeltas {
+impl ShortPiece for GateDeltas {
     type Item = Gate;
 
     ghost text = { gate_text };
 
-    fn put<W: Sink>(out: &mut W, item: &Gate) -> Result<(), Failed> {
-        let mut bytes = ArrayVec::new();
-        add_delta(&mut bytes, item.lhs.0.saturating_sub(item.rhs0.0));
-        add_delta(&mut bytes, item.rhs0.0.saturating_sub(item.rhs1.0));
-        put_all(out, bytes.as_slice())
+    fn write(block: &mut [u8], end: usize, item: &Gate) -> usize {
+        let start = write_delta(block, end, item.rhs0.0.saturating_sub(item.rhs1.0));
+        write_delta(block, start, item.lhs.0.saturating_sub(item.rhs0.0))
     }
 }

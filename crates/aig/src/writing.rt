@@ -10,7 +10,7 @@ ghost use Rattle.aig.specs.Writing.{circuit_text, written_text};
 
 use crate::aig_write_error::AigWriteError;
 use crate::lines::{GateDeltas, LatchLine};
-use aag::{Piece, put_each, put_file, put_header, put_uses};
+use aag::{Piece, put_blocks, put_each, put_file, put_header, put_uses};
 use graph::{AigerFile, Failed, Parts, Sink};
 
 /// Puts the header, the lines and the gates of a circuit.
@@ -22,7 +22,7 @@ fn put_circuit<W: Sink>(out: &mut W, parts: &Parts) -> Result<(), Failed>
     put_header(out, b"aig ", parts)?;
     put_each::<LatchLine, W>(out, parts.latches.as_slice())?;
     put_uses(out, parts)?;
-    put_each::<GateDeltas, W>(out, parts.gates.as_slice())
+    put_blocks::<GateDeltas, W>(out, parts.gates.as_slice())
 }
 
 /// The header, the lines and the gates of a circuit.
@@ -42,8 +42,8 @@ impl Piece for Circuit {
 /// last that is needed, no reset that is 0, the symbols in their order, and the comment behind a
 /// `c` and a line end. `read` gives the file again where the text has at most 67108864 bytes. A
 /// circuit that is not ordered has no such text, and nothing is put of it. After a failure of the
-/// sink a beginning of the text was put. It takes no memory, and hands the sink each number, each
-/// gate's two differences and each name by itself.
+/// sink a beginning of the text was put. It takes no memory, and hands the sink each number and
+/// each name by itself, and many gates' differences at once.
 pub fn write<W: Sink>(file: &AigerFile, out: &mut W) -> Result<(), AigWriteError>
     requires { W.failed out.old < 2 ^ 64 - 1 }
     ensures written { OnOk result (Appends (W.contents out.old) (W.contents out.new) (written_text file.now)) }

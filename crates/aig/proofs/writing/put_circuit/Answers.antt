@@ -35,7 +35,7 @@ returns-in_err-put_uses-clause-puts g c =
 pub returns-clause-puts : goal.returns-clause-puts
 returns-clause-puts g c =
     let m = c.args.parts.now in
-    let r = c.put_each-2 in
+    let r = c.put_blocks in
     subst (Puts r.result _ _) (circuit_is m)
     (puts_then r.result _ (g.W.Sink.contents c.put_header.new.out) _ (header_line (codes "aig ") m) _ c.in_ok-put_header.ensures.puts
     (puts_then r.result _ (g.W.Sink.contents c.put_each.new.out) _ (flat_map latch_line m.latches) _ (rw c.as_slice.ensures at c.in_ok-put_each.ensures.puts)
