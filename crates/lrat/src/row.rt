@@ -1,12 +1,12 @@
 //! Clauses in one flat list, by rising ids.
 
-ghost use Rattle.std.specs.Prelude.{◌≡◌, ◌≤◌, ◌<◌, ◌++◌, ◌∷◌, [], true, false, All, Contains, MatchOption, OnOk, OnErr, get_or, length, set, take};
+ghost use Rattle.std.specs.Prelude.{◌≡◌, ◌≤◌, ◌<◌, ◌++◌, ◌∷◌, [], true, false, All, Contains, MatchOption, OnOk, OnErr, get_or, if◌then◌else◌, is_ok, length, set, take};
 ghost use Rattle.lrat.specs.Literals.{IsLiteral};
 ghost use Rattle.lrat.specs.Places.{kept_at, AreInside};
 ghost use Rattle.lrat.specs.Slots.{Slot, IsRising, IsTidied, blank, ids_in, live_slots, live_slots_from};
 
 use crate::place::{Place, close_up, keep_live, position};
-use base::{Refused, extend, push};
+use base::{Refused, push};
 use std::alloc::Global;
 use std::marker::Model;
 
@@ -36,6 +36,22 @@ impl Model for Row {
     ghost view = { λ r. record { vars = r.vars; slots = kept_at r.literals.items r.places.items } };
 
     ghost invariant = { λ r. AreInside r.vars r.literals.items r.places.items };
+}
+
+/// Adds the literals of a clause at the end. Without memory the list stays. It adds them one by one:
+/// most clauses have a few, and a copy of a few costs a call.
+#[inline(always)]
+fn add_literals(to: &mut Vec<i32>, clause: &[i32]) -> Result<(), Refused>
+    ensures items { to.new.items ≡ (if is_ok result then to.old.items ++ clause.now else to.old.items) }
+{
+    let start = to.len();
+    for literal in clause {
+        if let Err(refused) = push(to, *literal) {
+            to.truncate(start);
+            return Err(refused);
+        }
+    }
+    Ok(())
 }
 
 impl Row {
@@ -87,7 +103,7 @@ impl Row {
         ensures err { OnErr result (self.new ≡ self.old) }
     {
         let start = self.literals.len();
-        extend(&mut self.literals, clause)?;
+        add_literals(&mut self.literals, clause)?;
         push(
             &mut self.places,
             Place {

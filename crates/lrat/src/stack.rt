@@ -97,6 +97,7 @@ impl Stack {
     }
 
     /// Adds a clause of the refutation's own. Without memory nothing changes.
+    #[inline(always)]
     pub fn add(&mut self, id: u32, clause: &[i32]) -> Result<(), Refused>
         requires above { self.old.top < id }
         requires in_range { All (IsLiteral self.old.base.vars) clause.now }
