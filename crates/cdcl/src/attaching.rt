@@ -67,7 +67,7 @@ fn watch(kernel: &Kernel, guide: &mut Guide, id: u32) -> Result<bool, SatError>
     let Some((first, second)) = two_open(kernel, id) else {
         return Ok(false);
     };
-    guide.watches.attach(id, first, second, clause.len())?;
+    guide.watches.attach(id, first, second, clause)?;
     Ok(true)
 }
 

@@ -2,10 +2,13 @@
 
 use crate::heap::Heap;
 use crate::levels::Levels;
+use crate::reduction::Reductions;
 use crate::restarts::Restarts;
 use crate::table::Table;
+use crate::values::Values;
 use crate::watches::Watches;
 use base::{Refused, push};
+use cdcl_kernel::Kernel;
 use solver::Part;
 use std::alloc::Global;
 
@@ -25,6 +28,7 @@ pub struct Guide {
     pub heap: Heap,
     pub levels: Levels,
     pub restarts: Restarts,
+    pub values: Values,
     /// the last value of each variable
     pub phases: Table<bool>,
     /// of each variable the id of the clause that is its literal alone, or 0
@@ -49,14 +53,15 @@ pub struct Guide {
     pub hints: Vec<u32>,
     /// the ids of the learned clauses of more than two literals
     pub learned: Vec<u32>,
-    /// how many conflicts were met
-    pub conflicts: u64,
+    pub reductions: Reductions,
     /// of each variable the last question of whose part it is
     pub parts: Table<u32>,
     /// the number of the last question about a part
     pub question: u32,
     /// whether only variables of its part are decided
     pub is_part: bool,
+    /// whether the heap has the open variables: those of a part come in before the first decision
+    pub is_filled: bool,
 }
 
 impl Guide {
@@ -68,6 +73,7 @@ impl Guide {
             heap: Heap::new(alloc),
             levels: Levels::new(alloc),
             restarts: Restarts::new(),
+            values: Values::new(alloc),
             phases: Table::new(alloc),
             units: Table::new(alloc),
             seen: Table::new(alloc),
@@ -80,10 +86,11 @@ impl Guide {
             steps: Vec::new(alloc),
             hints: Vec::new(alloc),
             learned: Vec::new(alloc),
-            conflicts: 0,
+            reductions: Reductions::new(),
             parts: Table::new(alloc),
             question: 0,
             is_part: false,
+            is_filled: true,
         }
     }
 
@@ -103,6 +110,7 @@ impl Guide {
         self.watches.grow()?;
         self.heap.grow()?;
         self.levels.grow()?;
+        self.values.grow()?;
         self.phases.push(false)?;
         self.units.push(0)?;
         self.parts.push(0)?;
@@ -121,33 +129,59 @@ impl Guide {
 
     /// Whether the literal's variable may be decided: any, or one of the part in question.
     #[inline]
-    pub fn is_inside(&self, literal: i32) -> bool {
+    fn is_inside(&self, literal: i32) -> bool {
         !self.is_part || self.parts.at(literal.unsigned_abs() as usize, 0) == self.question
+    }
+
+    /// Whether the literal with this code need not come on the trail, above level 0: it is not of the part in question.
+    #[inline]
+    pub fn is_left_out(&self, code: u32) -> bool {
+        self.is_part
+            && self.levels.current() > 0
+            && self.parts.at(code as usize / 2, 0) != self.question
+    }
+
+    /// The literal came on the trail at this place.
+    #[inline]
+    pub fn note(&mut self, literal: i32, place: usize) {
+        self.levels.note(literal, place);
+        self.values.set(literal);
     }
 
     /// The literal's variable has no value any more, and is to be decided.
     #[inline]
     pub fn open(&mut self, literal: i32) -> Result<(), Refused> {
-        if self.is_inside(literal) {
+        if self.is_filled && self.is_inside(literal) {
             self.heap.insert(literal)?;
         }
         Ok(())
     }
 
+    /// Takes all variables out of the heap. They come back with the next part's first decision, or with a question
+    /// about no part.
+    pub fn empty_heap(&mut self) {
+        self.heap.clear();
+        self.is_filled = false;
+    }
+
     /// Only the variables of the part are decided from now on, or all where there is none.
     pub fn begin(&mut self, part: Option<&Part>) -> Result<(), Refused> {
         match part {
-            Some(part) => self.begin_part(part),
+            Some(part) => {
+                self.begin_part(part);
+                Ok(())
+            }
             None => self.begin_whole(),
         }
     }
 
     /// All variables are decided from now on. After a question about a part it costs them.
     fn begin_whole(&mut self) -> Result<(), Refused> {
-        if !self.is_part {
+        self.is_part = false;
+        if self.is_filled {
             return Ok(());
         }
-        self.is_part = false;
+        self.is_filled = true;
         for variable in 1..self.seen.len() {
             if let Ok(variable) = i32::try_from(variable) {
                 self.heap.insert(variable)?;
@@ -157,29 +191,46 @@ impl Guide {
     }
 
     /// Only the variables of the part are decided from now on.
-    fn begin_part(&mut self, part: &Part) -> Result<(), Refused> {
+    fn begin_part(&mut self, part: &Part) {
         self.is_part = true;
         self.question = self.question.wrapping_add(1);
-        self.heap.clear();
         for gate in part.gates.iter() {
-            self.enter(gate.lhs)?;
-            self.enter(gate.rhs0)?;
-            self.enter(gate.rhs1)?;
+            self.enter(gate.lhs);
+            self.enter(gate.rhs0);
+            self.enter(gate.rhs1);
         }
         for literal in part.literals.iter() {
-            self.enter(*literal)?;
+            self.enter(*literal);
         }
-        Ok(())
     }
 
     /// The literal's variable is one of the part.
     #[inline]
-    fn enter(&mut self, literal: i32) -> Result<(), Refused> {
-        let index = literal.unsigned_abs() as usize;
-        if self.parts.at(index, self.question) == self.question {
+    fn enter(&mut self, literal: i32) {
+        self.parts
+            .put(literal.unsigned_abs() as usize, self.question);
+    }
+
+    /// Puts the open variables of the part into the heap.
+    pub fn fill(&mut self, kernel: &Kernel, part: &Part) -> Result<(), Refused> {
+        self.is_filled = true;
+        for gate in part.gates.iter() {
+            self.insert_open(kernel, gate.lhs)?;
+            self.insert_open(kernel, gate.rhs0)?;
+            self.insert_open(kernel, gate.rhs1)?;
+        }
+        for literal in part.literals.iter() {
+            self.insert_open(kernel, *literal)?;
+        }
+        Ok(())
+    }
+
+    /// Puts the literal's variable into the heap, where it has no value.
+    #[inline]
+    fn insert_open(&mut self, kernel: &Kernel, literal: i32) -> Result<(), Refused> {
+        if kernel.is_true(literal) || kernel.is_false(literal) {
             return Ok(());
         }
-        self.parts.put(index, self.question);
         self.heap.insert(literal)
     }
 

@@ -91,7 +91,9 @@ fn attach(guide: &mut Guide, id: u32) -> Result<(), Refused> {
     let len = guide.clause.len();
     guide.watches.place(id as usize)?;
     if let [first, second, ..] = guide.clause.as_slice() {
-        guide.watches.attach(id, *first, *second, len)?;
+        guide
+            .watches
+            .attach(id, *first, *second, guide.clause.as_slice())?;
     }
     if len > 2 {
         push(&mut guide.learned, id)?;

@@ -135,6 +135,7 @@ fn give_up(
         if let Some(literal) = kernel.known().literal(place) {
             let phase = phases == Phases::Kept && literal > 0;
             guide.phases.put(literal.unsigned_abs() as usize, phase);
+            guide.values.unset(literal);
             guide.open(literal)?;
         }
     }
@@ -156,7 +157,7 @@ pub fn open_level(
     let place = kernel.known().len();
     push(&mut guide.levels.starts, place)?;
     if kernel.decide(literal)? {
-        guide.levels.note(literal, place);
+        guide.note(literal, place);
     }
     Ok(())
 }

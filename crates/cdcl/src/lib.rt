@@ -44,6 +44,7 @@ mod shown;
 mod table;
 mod trail_reuse;
 mod units;
+mod values;
 mod watches;
 
 pub use cdcl::Cdcl;

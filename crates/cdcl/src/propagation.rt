@@ -2,8 +2,8 @@
 //!
 //! For each literal that came on the trail the clauses that watch its negation are looked at. One
 //! with another literal to watch is watched there; of one with a single literal left, that
-//! literal comes on the trail; one that is false is a conflict. Clauses of two literals come
-//! first, since they are looked at without being fetched. Each clause looked at is a step of the
+//! literal comes on the trail; one that is false is a conflict. Clauses of two or three literals come
+//! first, since their watches tell which of them need not be looked at. Each clause looked at is a step of the
 //! budget; a clause whose blocker is true is not looked at.
 
 ghost use Rattle.std.specs.Prelude.{◌≡◌, IfErr};
@@ -16,7 +16,8 @@ ghost use Rattle.cdcl.specs.Logged.{IsFull};
 use crate::guide::Guide;
 use crate::logged_kernel::LoggedKernel;
 use crate::units::imply;
-use crate::watches::Watch;
+use crate::values::{Value, code_of};
+use crate::watches::{Short, Watch};
 use base::Budget;
 use cdcl_kernel::Found;
 use solver::SatError;
@@ -77,11 +78,13 @@ fn propagate_literal(
     ensures spends { Spends budget.old budget.new }
     ensures limit { IfErr result (λ e. e ≡ Limit full → IsFull kernel.new) }
 {
-    match visit_binary(kernel, guide, budget, denied)? {
+    match visit_short(kernel, guide, budget, denied)? {
         Propagated::Quiet => {}
         outcome => return Ok(outcome),
     }
-    let mut list = guide.watches.take(denied);
+    let Some(mut list) = guide.watches.take(denied) else {
+        return Ok(Propagated::Quiet);
+    };
     let outcome = visit_long(kernel, guide, budget, denied, &mut list);
     guide.watches.put(denied, list);
     outcome
@@ -90,15 +93,48 @@ fn propagate_literal(
 /// Whether a clause with this blocker need not be looked at: the blocker is true; or it has no value and is not of the
 /// part in question, above level 0, so that the clause may stay as it is.
 #[inline]
-fn is_passed_over(kernel: &LoggedKernel, guide: &Guide, blocker: i32) -> bool {
-    if kernel.known().is_true(blocker) {
-        return true;
+fn is_passed_over(guide: &Guide, blocker: u32) -> bool {
+    match guide.values.of(blocker) {
+        Value::True => true,
+        Value::False => false,
+        Value::Open => guide.is_left_out(blocker),
     }
-    !guide.is_inside(blocker) && guide.levels.current() > 0 && !kernel.known().is_false(blocker)
 }
 
-/// Looks at the clauses of two literals that have this one.
-fn visit_binary(
+/// Whether a short clause need not be looked at: it has a true literal, or two open ones; or what it leaves is
+/// not of the part in question, above level 0.
+#[inline]
+fn is_idle(guide: &Guide, watch: Short) -> bool {
+    let second = guide.values.of(watch.second);
+    match guide.values.of(watch.first) {
+        Value::True => true,
+        Value::False => match second {
+            Value::True => true,
+            Value::False => false,
+            Value::Open => guide.is_left_out(watch.second),
+        },
+        Value::Open => match second {
+            Value::True => true,
+            Value::False => guide.is_left_out(watch.first),
+            Value::Open => watch.first != watch.second || guide.is_left_out(watch.first),
+        },
+    }
+}
+
+/// The first place from this one on of a short clause that is to be looked at, and its id.
+fn next_due(guide: &Guide, denied: i32, from: usize) -> Option<(usize, u32)> {
+    let list = guide.watches.short(denied);
+    for at in from..list.len() {
+        let watch = list[at];
+        if !is_idle(guide, watch) {
+            return Some((at, watch.id));
+        }
+    }
+    None
+}
+
+/// Looks at the clauses of two or three literals that have this one.
+fn visit_short(
     kernel: &mut LoggedKernel,
     guide: &mut Guide,
     budget: &mut Budget,
@@ -108,19 +144,18 @@ fn visit_binary(
     ensures spends { Spends budget.old budget.new }
     ensures limit { IfErr result (λ e. e ≡ Limit full → IsFull kernel.new) }
 {
-    for at in 0..guide.watches.binary(denied).len() {
-        let Some(watch) = guide.watches.binary(denied).get(at).copied() else {
+    let mut from = 0;
+    for _ in 0..guide.watches.short(denied).len() {
+        let Some((at, id)) = next_due(guide, denied, from) else {
             break;
         };
-        if is_passed_over(kernel, guide, watch.blocker) {
-            continue;
-        }
         if !budget.tick() {
             return Ok(Propagated::Spent);
         }
-        if let Found::Conflict = imply(kernel, guide, watch.id)? {
-            return Ok(Propagated::Conflict(watch.id));
+        if let Found::Conflict = imply(kernel, guide, id)? {
+            return Ok(Propagated::Conflict(id));
         }
+        from = at.saturating_add(1);
     }
     Ok(Propagated::Quiet)
 }
@@ -141,7 +176,7 @@ fn visit_long(
     let mut kept = 0;
     for at in 0..list.len() {
         let watch = list[at];
-        if is_passed_over(kernel, guide, watch.blocker) {
+        if is_passed_over(guide, watch.blocker) {
             list[kept] = watch;
             kept += 1;
             continue;
@@ -155,7 +190,7 @@ fn visit_long(
             Visit::Stays(blocker) => {
                 list[kept] = Watch {
                     id: watch.id,
-                    blocker,
+                    blocker: code_of(blocker),
                 };
                 kept += 1;
             }
@@ -196,11 +231,11 @@ fn look_at(
     ensures limit { IfErr result (λ e. e ≡ Limit full → IsFull kernel.new) }
 {
     let other = guide.watches.other(id, denied);
-    if kernel.known().is_true(other) {
+    if guide.values.is_true(other) {
         return Ok(Visit::Stays(other));
     }
     if let Some(next) = kernel.known().replacement(id, other) {
-        if kernel.known().is_true(next) {
+        if guide.values.is_true(next) {
             return Ok(Visit::Stays(next));
         }
         guide.watches.replace(id, other, next)?;

@@ -14,8 +14,41 @@ use crate::logged_kernel::LoggedKernel;
 use cdcl_kernel::Kernel;
 use solver::SatError;
 
-/// The conflicts from one reduction to the next.
-pub const INTERVAL: u64 = 2000;
+/// The conflicts before the first reduction.
+const FIRST: u64 = 500;
+
+/// By this number of conflicts the interval grows from one reduction to the next.
+const MORE: u64 = 50;
+
+/// When learned clauses are to be taken out.
+#[derive(Drop)]
+pub struct Reductions {
+    /// the conflicts from the last reduction to the next
+    interval: u64,
+    /// how many conflicts are left before the next
+    left: u64,
+}
+
+impl Reductions {
+    /// Before the first conflict.
+    pub fn new() -> Reductions {
+        Reductions {
+            interval: FIRST,
+            left: FIRST,
+        }
+    }
+
+    /// Counts a conflict, and tells whether a reduction is due.
+    pub fn is_due(&mut self) -> bool {
+        self.left = self.left.saturating_sub(1);
+        if self.left > 0 {
+            return false;
+        }
+        self.interval = self.interval.saturating_add(MORE);
+        self.left = self.interval;
+        true
+    }
+}
 
 /// Takes the longer half of the learned clauses out.
 pub fn reduce(kernel: &mut LoggedKernel, guide: &mut Guide) -> Result<(), SatError>

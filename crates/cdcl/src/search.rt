@@ -17,10 +17,10 @@ use crate::learning::learn;
 use crate::levels::{go_back, open_level};
 use crate::logged_kernel::LoggedKernel;
 use crate::propagation::{Propagated, propagate};
-use crate::reduction::{INTERVAL, reduce};
+use crate::reduction::reduce;
 use crate::trail_reuse::reuse_trail;
 use crate::units::imply;
-use base::Budget;
+use base::{Budget, Refused};
 use cdcl_kernel::{Found, Kernel};
 use solver::{Answer, Part, SatError};
 
@@ -101,7 +101,6 @@ fn meet(
     ensures ends { IfOk result (λ r. IfSome r (EndsWith kernel.old kernel.new assume.now)) }
     ensures limit { IfErr result (λ e. e ≡ Limit full → IsFull kernel.new) }
 {
-    guide.conflicts = guide.conflicts.saturating_add(1);
     let level = top_level(kernel.known(), guide, conflict);
     if level == 0 {
         guide.waiting = Some(conflict);
@@ -110,7 +109,7 @@ fn meet(
     }
     guide.waiting = None;
     learn(kernel, guide, conflict, level)?;
-    if guide.conflicts % INTERVAL == 0 {
+    if guide.reductions.is_due() {
         reduce(kernel, guide)?;
     }
     if guide.restarts.is_due() {
@@ -133,7 +132,7 @@ fn advance(
     ensures ends { IfOk result (λ r. IfSome r (EndsWith kernel.old kernel.new assume.now)) }
     ensures limit { IfErr result (λ e. e ≡ Limit full → IsFull kernel.new) }
 {
-    match choose(kernel.known(), guide, assume) {
+    match choose(kernel.known(), guide, part, assume)? {
         Next::Decide(literal) => {
             open_level(kernel, guide, literal)?;
             Ok(None)
@@ -147,13 +146,26 @@ fn advance(
 }
 
 /// Looks for the next assumption that is not true, or else for the most active open variable.
-fn choose(kernel: &Kernel, guide: &mut Guide, assume: &[i32]) -> Next {
+fn choose(
+    kernel: &Kernel,
+    guide: &mut Guide,
+    part: Option<&Part>,
+    assume: &[i32],
+) -> Result<Next, Refused> {
     if let Some(literal) = assume.get(guide.levels.current()) {
         if kernel.is_false(*literal) {
-            return Next::Denied(*literal);
+            return Ok(Next::Denied(*literal));
         }
-        return Next::Decide(*literal);
+        return Ok(Next::Decide(*literal));
     }
+    if let (Some(part), false) = (part, guide.is_filled) {
+        guide.fill(kernel, part)?;
+    }
+    Ok(most_active(kernel, guide))
+}
+
+/// Looks for the most active open variable.
+fn most_active(kernel: &Kernel, guide: &mut Guide) -> Next {
     for _ in 0..kernel.vars() as u64 + 1 {
         let Some(variable) = guide.heap.pop() else {
             return Next::Full;

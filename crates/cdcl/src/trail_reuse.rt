@@ -30,7 +30,11 @@ pub fn reuse_trail(
     ensures keeps { Keeps kernel.old kernel.new }
     ensures refused { IfErr result (λ e. e ≡ OutOfMemory witness) }
 {
-    let level = if is_part || guide.is_part || guide.single.len() > WAITING {
+    let is_new = is_part || guide.is_part;
+    if is_new {
+        guide.empty_heap();
+    }
+    let level = if is_new || guide.single.len() > WAITING {
         0
     } else {
         shared(guide, assume)

@@ -24,7 +24,7 @@ pub fn imply(kernel: &mut LoggedKernel, guide: &mut Guide, id: u32) -> Result<Fo
     let place = kernel.known().len();
     let found = kernel.imply(id)?;
     if let Found::Implied(literal) = found {
-        guide.levels.note(literal, place);
+        guide.note(literal, place);
         if guide.levels.current() == 0 {
             settle(kernel, guide, literal, id)?;
         }

@@ -4,12 +4,14 @@
 //! is looked at (Moskewicz, Madigan, Zhao, Zhang, Malik 2001). Beside the clause's id a watch has
 //! its blocker, another literal of the clause: where that one is true the clause is left alone.
 //! The literals of a clause stay as they were added; which two are watched stands in a table by
-//! ids. Clauses of two literals have lists apart, since the blocker says all of them.
+//! ids. Clauses of two or three literals have lists apart, by each of their literals: a watch of one has all the others,
+//! so that the clause is fetched only where a literal follows or it is false.
 //!
 //! No proof rests on what is watched: a clause that is missed is found when a model is looked
 //! through.
 
 use crate::table::Table;
+use crate::values::code_of;
 use base::{Refused, push};
 use cdcl_kernel::Kernel;
 use std::alloc::Global;
@@ -19,7 +21,8 @@ use std::mem;
 #[derive(Clone, Copy)]
 pub struct Watch {
     pub id: u32,
-    pub blocker: i32,
+    /// its code
+    pub blocker: u32,
 }
 
 /// The two watched literals of a clause.
@@ -35,11 +38,20 @@ const NONE: Pair = Pair {
     second: 0,
 };
 
+/// A clause of two or three literals that has a literal, and its other ones: of two literals the other one twice.
+#[derive(Clone, Copy)]
+pub struct Short {
+    pub id: u32,
+    /// their codes
+    pub first: u32,
+    pub second: u32,
+}
+
 /// The clauses that watch a literal.
 #[derive(Drop)]
 struct Lists {
-    /// those of two literals
-    binary: Vec<Watch>,
+    /// those of two or three literals
+    short: Vec<Short>,
     /// the longer ones
     long: Vec<Watch>,
 }
@@ -57,14 +69,24 @@ pub struct Watches {
 /// The place of a literal's lists.
 #[inline]
 fn index_of(literal: i32) -> usize {
-    literal.unsigned_abs() as usize * 2 + usize::from(literal < 0)
+    code_of(literal) as usize
+}
+
+/// The first literal of the clause besides these two.
+fn third_of(clause: &[i32], first: i32, second: i32) -> Option<i32> {
+    for literal in clause {
+        if *literal != first && *literal != second {
+            return Some(*literal);
+        }
+    }
+    None
 }
 
 impl Lists {
     /// No clauses, which take no memory.
     fn new(alloc: Global) -> Lists {
         Lists {
-            binary: Vec::new(alloc),
+            short: Vec::new(alloc),
             long: Vec::new(alloc),
         }
     }
@@ -92,24 +114,24 @@ impl Watches {
         self.pairs.len()
     }
 
-    /// The clauses of two literals that have this one.
+    /// The clauses of two or three literals that have this one.
     #[inline]
-    pub fn binary(&self, literal: i32) -> &[Watch] {
+    pub fn short(&self, literal: i32) -> &[Short] {
         match self.lists.get(index_of(literal)) {
-            Some(lists) => lists.binary.as_slice(),
+            Some(lists) => lists.short.as_slice(),
             None => &[],
         }
     }
 
-    /// Takes the list of the longer clauses that watch the literal out.
+    /// Takes the list of the longer clauses that watch the literal out, where there are any.
     #[inline]
-    pub fn take(&mut self, literal: i32) -> Vec<Watch> {
+    pub fn take(&mut self, literal: i32) -> Option<Vec<Watch>> {
         let index = index_of(literal);
-        if index < self.lists.len() {
-            mem::replace(&mut self.lists[index].long, Vec::new(self.alloc))
-        } else {
-            Vec::new(self.alloc)
+        if index < self.lists.len() && !self.lists[index].long.is_empty() {
+            let list = mem::replace(&mut self.lists[index].long, Vec::new(self.alloc));
+            return Some(list);
         }
+        None
     }
 
     /// Puts the list of the longer clauses that watch the literal back.
@@ -130,30 +152,72 @@ impl Watches {
         Ok(())
     }
 
-    fn watch_binary(&mut self, literal: i32, watch: Watch) -> Result<(), Refused> {
+    fn watch_short(&mut self, literal: i32, watch: Short) -> Result<(), Refused> {
         let index = index_of(literal);
         if index < self.lists.len() {
-            push(&mut self.lists[index].binary, watch)?;
+            push(&mut self.lists[index].short, watch)?;
         }
         Ok(())
     }
 
-    /// Watches two literals of a clause that has its place, of `len` literals.
-    pub fn attach(&mut self, id: u32, first: i32, second: i32, len: usize) -> Result<(), Refused> {
-        let one = Watch {
-            id,
-            blocker: second,
-        };
-        let other = Watch { id, blocker: first };
-        if len == 2 {
-            self.watch_binary(first, one)?;
-            self.watch_binary(second, other)
-        } else {
-            self.pairs
-                .put((id as usize).wrapping_sub(1), Pair { first, second });
-            self.watch(first, one)?;
-            self.watch(second, other)
+    /// Watches two literals of a clause that has its place, or all three where it has no more.
+    pub fn attach(
+        &mut self,
+        id: u32,
+        first: i32,
+        second: i32,
+        clause: &[i32],
+    ) -> Result<(), Refused> {
+        if clause.len() > 3 {
+            return self.attach_long(id, first, second);
         }
+        match third_of(clause, first, second) {
+            Some(third) => {
+                self.attach_short(id, first, second, third)?;
+                self.attach_short(id, second, first, third)?;
+                self.attach_short(id, third, first, second)
+            }
+            None => {
+                self.attach_short(id, first, second, second)?;
+                self.attach_short(id, second, first, first)
+            }
+        }
+    }
+
+    /// Watches a literal of a short clause, whose other ones these are.
+    fn attach_short(
+        &mut self,
+        id: u32,
+        literal: i32,
+        first: i32,
+        second: i32,
+    ) -> Result<(), Refused> {
+        let watch = Short {
+            id,
+            first: code_of(first),
+            second: code_of(second),
+        };
+        self.watch_short(literal, watch)
+    }
+
+    /// Watches two literals of a long clause.
+    fn attach_long(&mut self, id: u32, first: i32, second: i32) -> Result<(), Refused> {
+        self.pairs
+            .put((id as usize).wrapping_sub(1), Pair { first, second });
+        self.watch(
+            first,
+            Watch {
+                id,
+                blocker: code_of(second),
+            },
+        )?;
+        self.watch(
+            second,
+            Watch {
+                id,
+                blocker: code_of(first),
+            },
+        )
     }
 
     /// Gives the clauses up to this id their places, without watches.
@@ -178,6 +242,9 @@ impl Watches {
     /// Takes the watches of longer clauses out that are gone.
     pub fn sweep(&mut self, kernel: &Kernel) {
         for lists in self.lists.iter_mut() {
+            lists
+                .short
+                .retain(|watch| kernel.clause(watch.id).is_some());
             lists.long.retain(|watch| kernel.clause(watch.id).is_some());
         }
     }
@@ -190,6 +257,12 @@ impl Watches {
             second: next,
         };
         self.pairs.put((id as usize).wrapping_sub(1), pair);
-        self.watch(next, Watch { id, blocker: other })
+        self.watch(
+            next,
+            Watch {
+                id,
+                blocker: code_of(other),
+            },
+        )
     }
 }
