@@ -19,6 +19,14 @@ pub struct Step {
     pub id: u32,
 }
 
+/// A learned clause of more than two literals.
+#[derive(Clone, Copy)]
+pub struct Learned {
+    pub id: u32,
+    /// how many levels its literals were of when it was learned
+    pub block_distance: u32,
+}
+
 /// All that the search keeps beside the clauses and the trail. It grows with the clauses that
 /// are watched, and is right again after any of it is lost, for the price of watching them anew.
 #[derive(Drop)]
@@ -51,8 +59,8 @@ pub struct Guide {
     pub steps: Vec<Step>,
     /// the ids of the clauses that show it, in order
     pub hints: Vec<u32>,
-    /// the ids of the learned clauses of more than two literals
-    pub learned: Vec<u32>,
+    /// the learned clauses of more than two literals
+    pub learned: Vec<Learned>,
     pub reductions: Reductions,
     /// of each variable the last question of whose part it is
     pub parts: Table<u32>,

@@ -11,7 +11,7 @@ ghost use Rattle.solver.specs.Full.{full};
 ghost use Rattle.cdcl.specs.Logged.{IsFull};
 
 use crate::analysis::analyse;
-use crate::guide::Guide;
+use crate::guide::{Guide, Learned};
 use crate::levels::go_back;
 use crate::lines::last_id;
 use crate::logged_kernel::LoggedKernel;
@@ -96,7 +96,8 @@ fn attach(guide: &mut Guide, id: u32) -> Result<(), Refused> {
             .attach(id, *first, *second, guide.clause.as_slice())?;
     }
     if len > 2 {
-        push(&mut guide.learned, id)?;
+        let block_distance = guide.levels.block_distance(guide.clause.as_slice());
+        push(&mut guide.learned, Learned { id, block_distance })?;
     }
     Ok(())
 }

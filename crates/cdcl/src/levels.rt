@@ -33,6 +33,10 @@ pub struct Levels {
     starts: Vec<usize>,
     /// of each variable
     entries: Table<Entry>,
+    /// of each level the last count of levels that met it
+    met: Table<u32>,
+    /// the number of the last count
+    count: u32,
 }
 
 impl Levels {
@@ -41,11 +45,14 @@ impl Levels {
         Levels {
             starts: Vec::new(alloc),
             entries: Table::new(alloc),
+            met: Table::new(alloc),
+            count: 0,
         }
     }
 
     /// Makes room for the next variable, from 0 on.
     pub fn grow(&mut self) -> Result<(), Refused> {
+        self.met.push(0)?;
         self.entries.push(NEVER)
     }
 
@@ -69,6 +76,20 @@ impl Levels {
         self.entries
             .at(literal.unsigned_abs() as usize, NEVER)
             .place as usize
+    }
+
+    /// How many levels the literals are of (literal block distance).
+    pub fn block_distance(&mut self, literals: &[i32]) -> u32 {
+        self.count = self.count.wrapping_add(1);
+        let mut distance = 0u32;
+        for literal in literals {
+            let level = self.level_of(*literal);
+            if self.met.at(level, self.count) != self.count {
+                self.met.put(level, self.count);
+                distance = distance.saturating_add(1);
+            }
+        }
+        distance
     }
 
     /// The literal came on the trail at this place.

@@ -1,18 +1,21 @@
 //! Forgetting learned clauses.
 //!
 //! Each clause costs time in propagation, and most learned ones are of use for a short while. So
-//! after some conflicts the longer half of those with more than two literals goes, but for the
-//! reasons of literals on the trail; of two that are as long the older one goes first.
+//! after some conflicts the worse half of those with more than two literals goes, but for the
+//! reasons of literals on the trail. The worse ones are those whose literals were of more levels when they were
+//! learned (literal block distance, Audemard and Simon 2009); of two alike the longer, and then the older one.
 
 ghost use Rattle.std.specs.Prelude.{◌≡◌, IfErr};
 ghost use Rattle.cdcl.specs.Keeping.{Keeps};
 ghost use Rattle.solver.specs.declared.sat_error.SatError.TheVariants.{OutOfMemory};
 ghost use Rattle.base.specs.Witness.{witness};
 
-use crate::guide::Guide;
+use crate::guide::{Guide, Learned};
 use crate::logged_kernel::LoggedKernel;
+use base::{Refused, push};
 use cdcl_kernel::Kernel;
 use solver::SatError;
+use std::alloc::Global;
 
 /// The conflicts before the first reduction.
 const FIRST: u64 = 500;
@@ -50,7 +53,7 @@ impl Reductions {
     }
 }
 
-/// Takes the longer half of the learned clauses out.
+/// Takes the worse half of the learned clauses out.
 pub fn reduce(kernel: &mut LoggedKernel, guide: &mut Guide) -> Result<(), SatError>
     ensures keeps { Keeps kernel.old kernel.new }
     ensures refused { IfErr result (λ e. e ≡ OutOfMemory witness) }
@@ -58,21 +61,30 @@ pub fn reduce(kernel: &mut LoggedKernel, guide: &mut Guide) -> Result<(), SatErr
     guide
         .learned
         .as_mut_slice()
-        .sort_unstable_by_key(|id| rank(kernel.known(), *id));
-    let half = guide.learned.len() / 2;
-    kernel.forget(guide.alloc, &guide.learned[half..])?;
+        .sort_unstable_by_key(|learned| rank(kernel.known(), *learned));
+    let worse = worse_half(guide.alloc, guide.learned.as_slice())?;
+    kernel.forget(guide.alloc, worse.as_slice())?;
     guide
         .learned
-        .retain(|id| kernel.known().clause(*id).is_some());
+        .retain(|learned| kernel.known().clause(learned.id).is_some());
     guide.watches.sweep(kernel.known());
     Ok(())
 }
 
-/// The clause's length, and the newer the less.
-fn rank(kernel: &Kernel, id: u32) -> (usize, u32) {
-    let len = match kernel.clause(id) {
+/// The ids of the second half of the clauses.
+fn worse_half(alloc: Global, learned: &[Learned]) -> Result<Vec<u32>, Refused> {
+    let mut ids = Vec::new(alloc);
+    for place in learned.len() / 2..learned.len() {
+        push(&mut ids, learned[place].id)?;
+    }
+    Ok(ids)
+}
+
+/// What makes a clause worse than another: how many levels its literals were of, its length, and how old it is.
+fn rank(kernel: &Kernel, learned: Learned) -> (u32, usize, u32) {
+    let len = match kernel.clause(learned.id) {
         Some(clause) => clause.len(),
         None => 0,
     };
-    (len, u32::MAX - id)
+    (learned.block_distance, len, u32::MAX - learned.id)
 }

@@ -16,7 +16,7 @@ use std::alloc::Global;
 use std::test::Fail;
 
 /// Why a question was not asked, or not answered.
-#[derive(Clone, Copy, PartialEq, Eq)]
+#[derive(Clone, Copy, Debug, PartialEq, Eq)]
 pub enum Trouble {
     /// a literal is out of range
     Unfit,
