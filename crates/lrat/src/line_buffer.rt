@@ -51,6 +51,7 @@ impl LineBuffer {
     }
 
     /// The line that it holds, whose lists stay here.
+    #[inline(always)]
     pub fn as_ref(&self) -> LineRef<'_>
         ensures { lent_line result ≡ self.now }
     {

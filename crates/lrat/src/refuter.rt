@@ -159,6 +159,7 @@ impl Refuter {
     }
 
     /// Checks the next line.
+    #[inline(always)]
     pub fn feed(&mut self, _alloc: Global, line: LineRef<'_>) -> Result<(), Fault>
         requires { IsLine (lent_line line) }
         ensures base { self.new.base ≡ self.old.base }
@@ -197,6 +198,7 @@ impl Refuter {
     }
 
     /// Takes a line where nothing was refused yet.
+    #[inline(always)]
     fn advance(&mut self, line: LineRef<'_>) -> Result<(), Fault>
         requires { IsLine (lent_line line) }
         ensures base { self.new.base ≡ self.old.base }
