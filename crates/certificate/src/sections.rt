@@ -33,6 +33,7 @@ fn line_or_end(alloc: Global, text: &[u8]) -> Result<(Option<Line>, &[u8]), Faul
 /// Reads a line of a section into the buffer, and answers whether there is one; else a line with a
 /// dot ends the section. What follows comes with the answer.
 #[tactic(auto, unfolding(crate::specs::Reading::item_at))]
+#[inline(always)]
 pub fn line_into<'t>(
     alloc: Global,
     line: &mut LineBuffer,
