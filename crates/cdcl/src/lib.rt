@@ -40,6 +40,7 @@ mod refuter;
 mod restarts;
 mod search;
 mod selection;
+mod short_lists;
 mod shown;
 mod table;
 mod trail_reuse;

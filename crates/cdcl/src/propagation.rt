@@ -15,9 +15,10 @@ ghost use Rattle.cdcl.specs.Logged.{IsFull};
 
 use crate::guide::Guide;
 use crate::logged_kernel::LoggedKernel;
+use crate::short_lists::Short;
 use crate::units::imply;
 use crate::values::{Value, code_of};
-use crate::watches::{Short, Watch};
+use crate::watches::Watch;
 use base::Budget;
 use cdcl_kernel::Found;
 use solver::SatError;
@@ -101,24 +102,22 @@ fn is_passed_over(guide: &Guide, blocker: u32) -> bool {
     }
 }
 
-/// Whether a short clause need not be looked at: it has a true literal, or two open ones; or what it leaves is
-/// not of the part in question, above level 0.
+/// Whether a short clause need not be looked at: it has a true literal, or two open ones; or the one open literal that
+/// it leaves is not of the part in question, above level 0.
 #[inline]
 fn is_idle(guide: &Guide, watch: Short) -> bool {
+    let first = guide.values.of(watch.first);
     let second = guide.values.of(watch.second);
-    match guide.values.of(watch.first) {
-        Value::True => true,
-        Value::False => match second {
-            Value::True => true,
-            Value::False => false,
-            Value::Open => guide.is_left_out(watch.second),
-        },
-        Value::Open => match second {
-            Value::True => true,
-            Value::False => guide.is_left_out(watch.first),
-            Value::Open => watch.first != watch.second || guide.is_left_out(watch.first),
-        },
+    let chances = first.chance() + second.chance();
+    if chances != 1 {
+        return chances > 1;
     }
+    let open = if first == Value::Open {
+        watch.first
+    } else {
+        watch.second
+    };
+    guide.is_left_out(open)
 }
 
 /// The first place from this one on of a short clause that is to be looked at, and its id.

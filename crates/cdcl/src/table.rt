@@ -39,6 +39,15 @@ impl<T: Copy> Table<T> {
         }
     }
 
+    /// The items from the first index up to the second, or none where there are fewer.
+    #[inline]
+    pub fn part(&self, from: usize, to: usize) -> &[T] {
+        match self.items.get(from..to) {
+            Some(items) => items,
+            None => &[],
+        }
+    }
+
     /// Writes the item at the index, where there is one.
     #[inline]
     pub fn put(&mut self, index: usize, item: T) {

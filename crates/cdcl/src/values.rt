@@ -1,7 +1,10 @@
 //! Which literals are true.
 //!
 //! The kernel's trail says it too. Here it stands by literals, under the number that a watch has for its literal, so that
-//! a look at a watch reads one byte.
+//! a look at a watch reads one byte. Variable 0 does not exist, and both of its literals are false: they stand where a
+//! short clause has no further literal.
+
+ghost use Rattle.std.specs.Prelude.{◌≤◌};
 
 use crate::table::Table;
 use base::Refused;
@@ -10,9 +13,20 @@ use std::alloc::Global;
 /// What a literal is.
 #[derive(Clone, Copy, PartialEq, Eq)]
 pub enum Value {
+    False,
     Open,
     True,
-    False,
+}
+
+impl Value {
+    /// How much may still be true: 0 where the literal is false, 1 where it is open, and 2 where it is true. So two
+    /// literals that come to 2 or more have a true one, or are both open.
+    #[inline]
+    pub fn chance(self) -> u32
+        ensures { result ≤ 2 }
+    {
+        self as u32
+    }
 }
 
 /// The value of each literal.
@@ -39,10 +53,15 @@ impl Values {
         }
     }
 
-    /// Makes room for the next variable, from 0 on, which is open.
+    /// Makes room for the next variable, from 0 on, which is open. The literals of variable 0 are false.
     pub fn grow(&mut self) -> Result<(), Refused> {
-        self.values.push(Value::Open)?;
-        self.values.push(Value::Open)
+        let value = if self.values.len() == 0 {
+            Value::False
+        } else {
+            Value::Open
+        };
+        self.values.push(value)?;
+        self.values.push(value)
     }
 
     /// The value of the literal with this code.

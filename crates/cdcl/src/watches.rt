@@ -4,12 +4,14 @@
 //! is looked at (Moskewicz, Madigan, Zhao, Zhang, Malik 2001). Beside the clause's id a watch has
 //! its blocker, another literal of the clause: where that one is true the clause is left alone.
 //! The literals of a clause stay as they were added; which two are watched stands in a table by
-//! ids. Clauses of two or three literals have lists apart, by each of their literals: a watch of one has all the others,
-//! so that the clause is fetched only where a literal follows or it is false.
+//! ids. Clauses of two or three literals lie apart, under each of their literals (`short_lists`): a watch of one has all
+//! the others, so that the clause is fetched only where a literal follows or it is false. The lists of the longer ones
+//! lie apart too, and are read only of literals that have some.
 //!
 //! No proof rests on what is watched: a clause that is missed is found when a model is looked
 //! through.
 
+use crate::short_lists::{EMPTY, Short, ShortLists, Span};
 use crate::table::Table;
 use crate::values::code_of;
 use base::{Refused, push};
@@ -38,30 +40,34 @@ const NONE: Pair = Pair {
     second: 0,
 };
 
-/// A clause of two or three literals that has a literal, and its other ones: of two literals the other one twice.
+/// Where the clauses of a literal are to be found.
 #[derive(Clone, Copy)]
-pub struct Short {
-    pub id: u32,
-    /// their codes
-    pub first: u32,
-    pub second: u32,
+struct Lists {
+    /// where those of two or three literals lie
+    short: Span,
+    /// whether longer ones watch it
+    has_long: bool,
 }
 
-/// The clauses that watch a literal.
-#[derive(Drop)]
-struct Lists {
-    /// those of two or three literals
-    short: Vec<Short>,
-    /// the longer ones
-    long: Vec<Watch>,
-}
+/// A literal of no clause.
+const NO_LISTS: Lists = Lists {
+    short: EMPTY,
+    has_long: false,
+};
+
+/// The literal of variable 0, which does not exist and is always false.
+const NO_LITERAL: i32 = 0;
 
 /// The watches of each literal.
 #[derive(Drop)]
 pub struct Watches {
     alloc: Global,
-    /// by literals
+    /// by literals, 16 bytes of each
     lists: Vec<Lists>,
+    /// the clauses of two or three literals
+    shorts: ShortLists,
+    /// the longer ones, by literals, which are read only of a literal that has some
+    longs: Vec<Vec<Watch>>,
     /// the watched literals of each clause, by ids from 1 on
     pairs: Table<Pair>,
 }
@@ -82,31 +88,28 @@ fn third_of(clause: &[i32], first: i32, second: i32) -> Option<i32> {
     None
 }
 
-impl Lists {
-    /// No clauses, which take no memory.
-    fn new(alloc: Global) -> Lists {
-        Lists {
-            short: Vec::new(alloc),
-            long: Vec::new(alloc),
-        }
-    }
-}
-
 impl Watches {
     /// No lists, which take no memory.
     pub fn new(alloc: Global) -> Watches {
         Watches {
             alloc,
             lists: Vec::new(alloc),
+            shorts: ShortLists::new(alloc),
+            longs: Vec::new(alloc),
             pairs: Table::new(alloc),
         }
     }
 
     /// Makes room for the literals of the next variable, from 0 on.
     pub fn grow(&mut self) -> Result<(), Refused> {
-        push(&mut self.lists, Lists::new(self.alloc))?;
-        push(&mut self.lists, Lists::new(self.alloc))?;
-        Ok(())
+        self.grow_literal()?;
+        self.grow_literal()
+    }
+
+    /// Makes room for the next literal.
+    fn grow_literal(&mut self) -> Result<(), Refused> {
+        push(&mut self.lists, NO_LISTS)?;
+        push(&mut self.longs, Vec::new(self.alloc))
     }
 
     /// How many clauses have a place, which is the greatest of their ids.
@@ -118,7 +121,7 @@ impl Watches {
     #[inline]
     pub fn short(&self, literal: i32) -> &[Short] {
         match self.lists.get(index_of(literal)) {
-            Some(lists) => lists.short.as_slice(),
+            Some(lists) => self.shorts.of(lists.short),
             None => &[],
         }
     }
@@ -127,8 +130,8 @@ impl Watches {
     #[inline]
     pub fn take(&mut self, literal: i32) -> Option<Vec<Watch>> {
         let index = index_of(literal);
-        if index < self.lists.len() && !self.lists[index].long.is_empty() {
-            let list = mem::replace(&mut self.lists[index].long, Vec::new(self.alloc));
+        if index < self.lists.len() && self.lists[index].has_long && index < self.longs.len() {
+            let list = mem::replace(&mut self.longs[index], Vec::new(self.alloc));
             return Some(list);
         }
         None
@@ -138,24 +141,29 @@ impl Watches {
     #[inline]
     pub fn put(&mut self, literal: i32, list: Vec<Watch>) {
         let index = index_of(literal);
-        if index < self.lists.len() {
-            self.lists[index].long = list;
+        if index < self.lists.len() && index < self.longs.len() {
+            self.lists[index].has_long = !list.is_empty();
+            self.longs[index] = list;
         }
     }
 
+    /// Adds a longer clause to those that watch the literal.
     #[inline]
     fn watch(&mut self, literal: i32, watch: Watch) -> Result<(), Refused> {
         let index = index_of(literal);
-        if index < self.lists.len() {
-            push(&mut self.lists[index].long, watch)?;
+        if index < self.lists.len() && index < self.longs.len() {
+            push(&mut self.longs[index], watch)?;
+            self.lists[index].has_long = true;
         }
         Ok(())
     }
 
-    fn watch_short(&mut self, literal: i32, watch: Short) -> Result<(), Refused> {
+    /// Adds a short clause to those that have the literal.
+    fn watch_short(&mut self, literal: i32, clause: Short) -> Result<(), Refused> {
         let index = index_of(literal);
         if index < self.lists.len() {
-            push(&mut self.lists[index].short, watch)?;
+            let span = self.lists[index].short;
+            self.lists[index].short = self.shorts.add(span, clause)?;
         }
         Ok(())
     }
@@ -178,13 +186,13 @@ impl Watches {
                 self.attach_short(id, third, first, second)
             }
             None => {
-                self.attach_short(id, first, second, second)?;
-                self.attach_short(id, second, first, first)
+                self.attach_short(id, first, second, NO_LITERAL)?;
+                self.attach_short(id, second, first, NO_LITERAL)
             }
         }
     }
 
-    /// Watches a literal of a short clause, whose other ones these are.
+    /// Watches a literal of a short clause, whose other ones these are. Of a clause of two the second is `NO_LITERAL`.
     fn attach_short(
         &mut self,
         id: u32,
@@ -192,12 +200,12 @@ impl Watches {
         first: i32,
         second: i32,
     ) -> Result<(), Refused> {
-        let watch = Short {
+        let clause = Short {
             id,
             first: code_of(first),
             second: code_of(second),
         };
-        self.watch_short(literal, watch)
+        self.watch_short(literal, clause)
     }
 
     /// Watches two literals of a long clause.
@@ -239,13 +247,20 @@ impl Watches {
         }
     }
 
-    /// Takes the watches of longer clauses out that are gone.
+    /// Takes the watches of clauses out that are gone.
     pub fn sweep(&mut self, kernel: &Kernel) {
-        for lists in self.lists.iter_mut() {
-            lists
-                .short
-                .retain(|watch| kernel.clause(watch.id).is_some());
-            lists.long.retain(|watch| kernel.clause(watch.id).is_some());
+        for index in 0..self.lists.len() {
+            self.sweep_literal(index, kernel);
+        }
+    }
+
+    /// Takes the watches of clauses out that are gone, of the literal at the index.
+    fn sweep_literal(&mut self, index: usize, kernel: &Kernel) {
+        if index < self.lists.len() && index < self.longs.len() {
+            let span = self.lists[index].short;
+            self.lists[index].short = self.shorts.sweep(span, kernel);
+            self.longs[index].retain(|watch| kernel.clause(watch.id).is_some());
+            self.lists[index].has_long = !self.longs[index].is_empty();
         }
     }
 

@@ -1,0 +1,116 @@
+//! The clauses of two or three literals, by each of their literals.
+//!
+//! All of them lie in one list, and each literal has a span of it, with some room to grow. A span that is full moves to
+//! the end of the list, where it has twice the room; the places that it had are not used again. A span keeps its room where
+//! clauses are taken out of it.
+
+use crate::table::Table;
+use base::Refused;
+use cdcl_kernel::Kernel;
+use std::alloc::Global;
+
+/// For how many clauses a span has room when its first one comes.
+const FIRST_ROOM: u32 = 4;
+
+/// A clause of two or three literals that has a literal, and its other ones. Of a clause of two the second is that of
+/// variable 0, which does not exist and is always false.
+#[derive(Clone, Copy)]
+pub struct Short {
+    pub id: u32,
+    /// their codes
+    pub first: u32,
+    pub second: u32,
+}
+
+/// What stands in room that isn't used yet.
+const NONE: Short = Short {
+    id: 0,
+    first: 0,
+    second: 0,
+};
+
+/// Where the short clauses of a literal lie.
+#[derive(Clone, Copy)]
+pub struct Span {
+    /// the place of the first one in the list
+    start: u32,
+    /// how many there are
+    len: u32,
+    /// for how many there is room
+    room: u32,
+}
+
+/// The span of a literal that is in no short clause.
+pub const EMPTY: Span = Span {
+    start: 0,
+    len: 0,
+    room: 0,
+};
+
+/// The short clauses of all literals, one span after the other.
+#[derive(Drop)]
+pub struct ShortLists {
+    items: Table<Short>,
+}
+
+impl ShortLists {
+    /// No clauses, which take no memory.
+    pub fn new(alloc: Global) -> ShortLists {
+        ShortLists {
+            items: Table::new(alloc),
+        }
+    }
+
+    /// The clauses of a span.
+    #[inline]
+    pub fn of(&self, span: Span) -> &[Short] {
+        let start = span.start as usize;
+        self.items.part(start, start + span.len as usize)
+    }
+
+    /// Adds a clause to a span, and answers the span with it. A full span whose new place would be no number of 32 bits
+    /// stays as it is.
+    pub fn add(&mut self, span: Span, clause: Short) -> Result<Span, Refused> {
+        let mut span = span;
+        if span.len == span.room {
+            span = self.enlarge(span)?;
+        }
+        if span.len < span.room {
+            self.items
+                .put(span.start as usize + span.len as usize, clause);
+            span.len += 1;
+        }
+        Ok(span)
+    }
+
+    /// Copies a span to the end of the list, where it has twice the room.
+    fn enlarge(&mut self, span: Span) -> Result<Span, Refused> {
+        let Ok(start) = u32::try_from(self.items.len()) else {
+            return Ok(span);
+        };
+        let room = span.room.saturating_mul(2).max(FIRST_ROOM);
+        for at in 0..room as usize {
+            let clause = self.of(span).get(at).copied().unwrap_or(NONE);
+            self.items.push(clause)?;
+        }
+        Ok(Span {
+            start,
+            len: span.len,
+            room,
+        })
+    }
+
+    /// Takes the clauses out of a span that are gone, and answers the span of the others, which stay in order.
+    pub fn sweep(&mut self, span: Span, kernel: &Kernel) -> Span {
+        let mut kept = Span { len: 0, ..span };
+        for at in 0..span.len {
+            let clause = self.items.at(span.start as usize + at as usize, NONE);
+            if kernel.clause(clause.id).is_some() {
+                self.items
+                    .put(span.start as usize + kept.len as usize, clause);
+                kept.len = kept.len.saturating_add(1);
+            }
+        }
+        kept
+    }
+}
