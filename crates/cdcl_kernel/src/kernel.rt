@@ -21,7 +21,7 @@ use crate::origin::Origin;
 use crate::sorted::{ids_of, sorted_reasons};
 use crate::store::Store;
 use crate::verdict::{assumed_part, opposed_pair, replacement, values_of};
-use base::{copied, push, reserve_one};
+use base::{copied, push};
 use lrat::{Fault, Left, Lookup, Trail, derive_with, look_at};
 use solver::{AndGate, Part, SatError, Taken};
 use std::alloc::Global;
@@ -222,10 +222,14 @@ impl Kernel {
                 if self.trail.holds(literal) {
                     return Ok(Found::Satisfied);
                 }
-                reserve_one(&mut self.reasons)?;
-                self.trail.set(literal)?;
                 push(&mut self.reasons, Some(id))?;
-                Ok(Found::Implied(literal))
+                match self.trail.set(literal) {
+                    Ok(()) => Ok(Found::Implied(literal)),
+                    Err(refused) => {
+                        self.reasons.pop();
+                        Err(SatError::OutOfMemory(refused))
+                    }
+                }
             }
         }
     }
@@ -245,10 +249,14 @@ impl Kernel {
         if self.trail.holds(literal) || self.trail.denies(literal) {
             return Ok(false);
         }
-        reserve_one(&mut self.reasons)?;
-        self.trail.set(literal)?;
         push(&mut self.reasons, None)?;
-        Ok(true)
+        match self.trail.set(literal) {
+            Ok(()) => Ok(true),
+            Err(refused) => {
+                self.reasons.pop();
+                Err(SatError::OutOfMemory(refused))
+            }
+        }
     }
 
     /// Keeps only the first `len` literals of the trail. It costs the number of those that go.
