@@ -4,7 +4,7 @@ use Rattle.std.specs.List.{CopiedTo, SameBelow, SameFrom}
 use Rattle.std.proofs.Math.Seq.{take-suc-set, drop-cons}
 use Rattle.std.proofs.lemmas.List.{map-append, same_lists, length-take-le, length-drop, length-set, take_more, take_all, get_or-take, get_or-drop}
 use Rattle.std.proofs.lemmas.List.Elements.{All-push, All-head, All-tail, All-nil, Contains-get_or}
-use Rattle.cdcl_kernel.specs.Places.{kept_of, kept_at, AreInOrder}
+use Rattle.cdcl_kernel.specs.Places.{part_of, parts_at, AreInOrder}
 use Rattle.cdcl_kernel.specs.declared.place.Place.{Place}
 use Rattle.cdcl_kernel.proofs.Among.{by_lt}
 
@@ -41,7 +41,7 @@ part_moved xs ys s t n inx iny same =
     let kn : k < n = omega arith in
     get_or-take n (drop t ys) k d kn ∙ get_or-drop t ys k d ∙ same k d kn ∙ sym (get_or-take n (drop s xs) k d kn ∙ get_or-drop s xs k d))
 
-below_same : (xs ys : List ℤ) (e : ℕ) (ps : List Place) → length ys ≡ length xs → e ≤ length xs → SameBelow xs ys e → All (EndsBy e) ps → kept_at ys ps ≡ kept_at xs ps
+below_same : (xs ys : List ℤ) (e : ℕ) (ps : List Place) → length ys ≡ length xs → e ≤ length xs → SameBelow xs ys e → All (EndsBy e) ps → parts_at ys ps ≡ parts_at xs ps
 below_same xs ys e [] len fits same ends = refl
 below_same xs ys e (p ∷ ps) len fits same ends =
     let here : p.start + p.len ≤ e = All-head (EndsBy e) p ps ends in
@@ -68,7 +68,7 @@ pub record IsClosing (xs now : List ℤ) (ps qs : List Place) (i e : ℕ) : Type
   pub same_from : SameFrom xs now from
   pub same_literals : length now ≡ length xs
   pub same_places : length qs ≡ length ps
-  pub done : kept_at now (take i qs) ≡ kept_at xs (take i ps)
+  pub done : parts_at now (take i qs) ≡ parts_at xs (take i ps)
   pub ends : All (EndsBy e) (take i qs)
   pub in_order : AreInOrder 0 (take i qs)
   pub fits : e ≤ length xs
@@ -92,7 +92,7 @@ closing_none xs ps o = record {
 
 pub closing_more : (xs now next : List ℤ) (ps qs : List Place) (i e : ℕ) (p : Place) → i < length ps → All (λ (q : Place). q.start + q.len ≤ length xs) ps → p ≡ get_or qs i p
     → length next ≡ length now → CopiedTo now next p.start e p.len → SameBelow now next e → SameFrom now next (e + p.len)
-    → IsClosing xs now ps qs i e → IsClosing xs next ps (set qs i (record { start = e; len = p.len; origin = p.origin })) (i + 1) (e + p.len)
+    → IsClosing xs now ps qs i e → IsClosing xs next ps (set qs i (record { start = e; len = p.len })) (i + 1) (e + p.len)
 closing_more xs now next ps qs i e p lt inside at len copied below from c =
     let here : p ≡ get_or ps i p = at ∙ c.rest i p (omega arith) in
     let cons : drop i ps ≡ p ∷ drop (suc i) ps = drop-cons ps i p lt ∙ ap (λ (q : Place). q ∷ drop (suc i) ps) (sym here) in
@@ -100,7 +100,7 @@ closing_more xs now next ps qs i e p lt inside at len copied below from c =
     let first : c.from ≤ p.start = o.0 in
     let low : e ≤ c.from = c.low in
     let within : p.start + p.len ≤ length xs = subst (λ (q : Place). q.start + q.len ≤ length xs) (sym here) (inside i p lt) in
-    let moved : Place = record { start = e; len = p.len; origin = p.origin } in
+    let moved : Place = record { start = e; len = p.len } in
     let sn : length now ≡ length xs = c.same_literals in
     let sp : length qs ≡ length ps = c.same_places in
     let more : take (i + 1) (set qs i moved) ≡ take i qs ++ moved ∷ [] = rw add-one (take-suc-set qs i moved (omega arith)) in
@@ -108,7 +108,7 @@ closing_more xs now next ps qs i e p lt inside at len copied below from c =
     (λ k d kl.
     let same : p.start + (e + k - e) ≡ p.start + k = omega arith in
     copied (e + k) d (omega arith) (omega arith) ∙ ap (λ (j : ℕ). get_or now j d) same ∙ c.same_from (p.start + k) d (omega arith)) in
-    let before : kept_at next (take i qs) ≡ kept_at xs (take i ps) = below_same now next e (take i qs) len (omega (arith, c.fits)) below c.ends ∙ c.done in
+    let before : parts_at next (take i qs) ≡ parts_at xs (take i ps) = below_same now next e (take i qs) len (omega (arith, c.fits)) below c.ends ∙ c.done in
     record {
       from = p.start + p.len;
       low = omega arith;
@@ -117,17 +117,17 @@ closing_more xs now next ps qs i e p lt inside at len copied below from c =
       same_from = λ k d le. from k d (omega arith) ∙ c.same_from k d (omega arith);
       same_literals = len ∙ sn;
       same_places = length-set qs i moved ∙ sp;
-      done = ap (kept_at next) more ∙ map-append (kept_of next) (take i qs) (moved ∷ [])
-          ∙ ap (λ ks. ks ++ kept_of next moved ∷ []) before
-          ∙ ap (λ cl. kept_at xs (take i ps) ++ record { origin = p.origin; clause = cl } ∷ []) part
-          ∙ sym (ap (kept_at xs) (take_more ps i p lt ∙ ap (λ (q : Place). take i ps ++ q ∷ []) (sym here)) ∙ map-append (kept_of xs) (take i ps) (p ∷ []));
+      done = ap (parts_at next) more ∙ map-append (part_of next) (take i qs) (moved ∷ [])
+          ∙ ap (λ ks. ks ++ part_of next moved ∷ []) before
+          ∙ ap (λ cl. parts_at xs (take i ps) ++ cl ∷ []) part
+          ∙ sym (ap (parts_at xs) (take_more ps i p lt ∙ ap (λ (q : Place). take i ps ++ q ∷ []) (sym here)) ∙ map-append (part_of xs) (take i ps) (p ∷ []));
       ends = subst (All (EndsBy (e + p.len))) (sym more) (All-push (EndsBy (e + p.len)) (take i qs) moved (λ k d kl. let le = c.ends k d kl in omega arith) (omega arith));
       in_order = subst (AreInOrder 0) (sym more) (in_order_push 0 e (take i qs) moved c.in_order c.ends (omega arith) (omega arith));
       fits = omega arith;
       among = copied_all (Contains xs) now next p.start e p.len len (omega arith) copied below from c.among;
     }
 
-shorter : (xs : List ℤ) (e : ℕ) (ps : List Place) → e ≤ length xs → All (EndsBy e) ps → kept_at (take e xs) ps ≡ kept_at xs ps
+shorter : (xs : List ℤ) (e : ℕ) (ps : List Place) → e ≤ length xs → All (EndsBy e) ps → parts_at (take e xs) ps ≡ parts_at xs ps
 shorter xs e [] fits ends = refl
 shorter xs e (p ∷ ps) fits ends =
     let here : p.start + p.len ≤ e = All-head (EndsBy e) p ps ends in
@@ -137,11 +137,11 @@ shorter xs e (p ∷ ps) fits ends =
     cc
 
 -- all places are moved: the list up to e is enough
-pub closed_up : (xs now : List ℤ) (ps qs : List Place) (i e : ℕ) → length ps ≤ i → IsClosing xs now ps qs i e → kept_at (take e now) qs ≡ kept_at xs ps
+pub closed_up : (xs now : List ℤ) (ps qs : List Place) (i e : ℕ) → length ps ≤ i → IsClosing xs now ps qs i e → parts_at (take e now) qs ≡ parts_at xs ps
 closed_up xs now ps qs i e le c =
     let sn : length now ≡ length xs = c.same_literals in
     let sp : length qs ≡ length ps = c.same_places in
     let fits : e ≤ length xs = c.fits in
     let all : take i qs ≡ qs = take_all i qs (omega arith) in
     let ends : All (EndsBy e) qs = subst (All (EndsBy e)) all c.ends in
-    shorter now e qs (omega arith) ends ∙ ap (kept_at now) (sym all) ∙ c.done ∙ ap (kept_at xs) (take_all i ps le)
+    shorter now e qs (omega arith) ends ∙ ap (parts_at now) (sym all) ∙ c.done ∙ ap (parts_at xs) (take_all i ps le)

@@ -1,14 +1,29 @@
 -- How the fields of `Store` are seen.
-use Rattle.std.specs.Prelude.{ℕ, ◌+◌, ◌≤◌, List, [], ◌∷◌, ℤ, map, take, drop, length, All}
+use Rattle.std.specs.Prelude.{ℕ, ◌≡◌, ◌+◌, ◌≤◌, List, [], ◌∷◌, ℤ, map, take, drop, length, All}
 use Rattle.lrat.specs.Literals.{IsLiteral}
 use Rattle.cdcl_kernel.specs.Kept.{Kept}
+use Rattle.cdcl_kernel.specs.declared.origin.Origin.{Origin}
+use Rattle.cdcl_kernel.specs.declared.origin.Origin.TheVariants.{Removed}
 use Rattle.cdcl_kernel.specs.declared.place.Place.{Place}
 
-abbrev pub kept_of : List ℤ → Place → Kept
-kept_of ls p = record { origin = p.origin; clause = take p.len (drop p.start ls) }
+abbrev pub part_of : List ℤ → Place → List ℤ
+part_of ls p = take p.len (drop p.start ls)
 
-abbrev pub kept_at : List ℤ → List Place → List Kept
-kept_at ls ps = map (kept_of ls) ps
+abbrev pub parts_at : List ℤ → List Place → List (List ℤ)
+parts_at ls ps = map (part_of ls) ps
+
+-- each clause with where it comes from
+abbrev pub with_origins : List (List ℤ) → List Origin → List Kept
+with_origins [] os = []
+with_origins (c ∷ cs) [] = []
+with_origins (c ∷ cs) (o ∷ os) = record { origin = o; clause = c } ∷ with_origins cs os
+
+abbrev pub kept_at : List ℤ → List Place → List Origin → List Kept
+kept_at ls ps os = with_origins (parts_at ls ps) os
+
+-- nothing is left of a clause that was taken out
+abbrev pub IsEmptied : Kept → Type 0
+IsEmptied k = k.origin ≡ Removed → k.clause ≡ []
 
 -- each clause begins where those before it have ended
 abbrev pub AreInOrder : ℕ → List Place → Type 0
@@ -16,8 +31,10 @@ AreInOrder from [] = Unit {0}
 AreInOrder from (p ∷ ps) = (from ≤ p.start) × AreInOrder (p.start + p.len) ps
 
 -- each clause lies inside and behind the earlier ones, its literals are in range, and the ids fit
-pub record AreInside (n : ℕ) (ls : List ℤ) (ps : List Place) : Type 0 where
+pub record AreInside (n : ℕ) (ls : List ℤ) (ps : List Place) (os : List Origin) : Type 0 where
   pub inside : All (λ (p : Place). p.start + p.len ≤ length ls) ps
   pub in_order : AreInOrder 0 ps
   pub in_range : All (IsLiteral n) ls
   pub few : length ps ≤ 4294967295
+  pub same : length os ≡ length ps
+  pub emptied : All IsEmptied (kept_at ls ps os)

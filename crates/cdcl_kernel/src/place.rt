@@ -1,16 +1,13 @@
 //! Where clauses lie in a flat list.
 
 ghost use Rattle.std.specs.Prelude.{◌≡◌, ◌+◌, ◌≤◌, All, Contains, length, take};
-ghost use Rattle.cdcl_kernel.specs.Places.{AreInOrder, kept_at};
+ghost use Rattle.cdcl_kernel.specs.Places.{AreInOrder, parts_at};
 
-use crate::origin::Origin;
-
-/// Where a clause's literals lie in the flat list, and where the clause comes from.
+/// Where a clause's literals lie in the flat list.
 #[derive(Clone, Copy)]
 pub struct Place {
     pub start: usize,
     pub len: usize,
-    pub origin: Origin,
 }
 
 /// Moves the clauses together at the front of the list, in their order, and answers how many
@@ -18,7 +15,7 @@ pub struct Place {
 pub fn close_up(literals: &mut [i32], places: &mut [Place]) -> usize
     requires inside { All (λ p. p.start + p.len ≤ length literals.old) places.old }
     requires in_order { AreInOrder 0 places.old }
-    ensures same { kept_at (take result literals.new) places.new ≡ kept_at literals.old places.old }
+    ensures same { parts_at (take result literals.new) places.new ≡ parts_at literals.old places.old }
     ensures inside { All (λ p. p.start + p.len ≤ result) places.new }
     ensures in_order { AreInOrder 0 places.new }
     ensures fits { result ≤ length literals.old }
@@ -31,7 +28,6 @@ pub fn close_up(literals: &mut [i32], places: &mut [Place]) -> usize
         places[index] = Place {
             start: end,
             len: place.len,
-            origin: place.origin,
         };
         end += place.len;
     }

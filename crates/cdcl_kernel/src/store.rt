@@ -7,6 +7,7 @@ ghost use Rattle.std.specs.Ordering.{nat_cmp};
 ghost use Rattle.cdcl_kernel.specs.Forgotten.{Forgets, GoOut};
 ghost use Rattle.cdcl_kernel.specs.Kept.{Kept, find_in, origin_in, without, added};
 ghost use Rattle.cdcl_kernel.specs.Verdicts.{HoldsOne, HoldsOneOf, IsUnsatisfied};
+ghost use Rattle.cdcl_kernel.specs.declared.origin.Origin.TheVariants.{Removed};
 ghost use Rattle.solver.specs.declared.sat_error.SatError.TheVariants.{Limit, OutOfMemory};
 ghost use Rattle.solver.specs.Full.{full};
 
@@ -14,7 +15,7 @@ use crate::origin::Origin;
 use crate::place::{Place, close_up};
 use crate::sorted::has_id;
 use crate::verdict::holds_one;
-use base::{extend, push};
+use base::{extend, push, reserve_one};
 use lrat::{Lookup, Trail};
 use solver::{SatError, Taken};
 use std::alloc::Global;
@@ -27,6 +28,8 @@ pub struct Store {
     vars: u32,
     /// for each id, from 1 on, where its clause lies
     places: Vec<Place>,
+    /// for each id where its clause comes from: apart, as the places are read far more often
+    origins: Vec<Origin>,
     /// the literals of the clauses, one clause after the other
     literals: Vec<i32>,
     /// about how many of these are of clauses that were taken out
@@ -40,9 +43,9 @@ impl Model for Store {
 
     ghost use Rattle.cdcl_kernel.specs.Places.{kept_at, AreInside};
 
-    ghost view = { λ s. record { vars = s.vars; kept = kept_at s.literals.items s.places.items } };
+    ghost view = { λ s. record { vars = s.vars; kept = kept_at s.literals.items s.places.items s.origins.items } };
 
-    ghost invariant = { λ s. AreInside s.vars s.literals.items s.places.items };
+    ghost invariant = { λ s. AreInside s.vars s.literals.items s.places.items s.origins.items };
 }
 
 impl Store {
@@ -53,6 +56,7 @@ impl Store {
         Store {
             vars: 0,
             places: Vec::new(alloc),
+            origins: Vec::new(alloc),
             literals: Vec::new(alloc),
             dead: 0,
         }
@@ -64,6 +68,7 @@ impl Store {
     {
         self.vars = vars;
         self.places.clear();
+        self.origins.clear();
         self.literals.clear();
         self.dead = 0;
     }
@@ -84,9 +89,10 @@ impl Store {
         Taken::by(self.places.as_slice(), room)
     }
 
-    /// Adds a clause with the next id. A refusal changes nothing.
+    /// Adds a clause, added or learned, with the next id. A refusal changes nothing.
     pub fn add(&mut self, clause: &[i32], origin: Origin) -> Result<(), SatError>
-        requires { All (IsLiteral self.old.vars) clause.now }
+        requires in_range { All (IsLiteral self.old.vars) clause.now }
+        requires live { origin ≡ Removed → ⊥ }
         ensures vars { self.new.vars ≡ self.old.vars }
         ensures ok { OnOk result (self.new.kept ≡ self.old.kept ++ record { origin = origin; clause = clause.now } ∷ []) }
         ensures err { OnErr result (self.new ≡ self.old) }
@@ -94,15 +100,14 @@ impl Store {
     {
         Taken::by(self.places.as_slice(), 0).next_id(&[])?;
         let start = self.literals.len();
+        reserve_one(&mut self.origins)?;
         extend(&mut self.literals, clause)?;
-        push(
-            &mut self.places,
-            Place {
-                start,
-                len: clause.len(),
-                origin,
-            },
-        )?;
+        let place = Place {
+            start,
+            len: clause.len(),
+        };
+        push(&mut self.places, place)?;
+        push(&mut self.origins, origin)?;
         Ok(())
     }
 
@@ -118,8 +123,8 @@ impl Store {
             self.places[index - 1] = Place {
                 start: place.start,
                 len: 0,
-                origin: Origin::Removed,
             };
+            self.origins[index - 1] = Origin::Removed;
         }
     }
 
@@ -209,8 +214,8 @@ impl Store {
         ensures { result ≡ origin_in self.now.kept id }
     {
         let index = id as usize;
-        if index > 0 && index <= self.places.len() {
-            self.places[index - 1].origin
+        if index > 0 && index <= self.origins.len() {
+            self.origins[index - 1]
         } else {
             Origin::Removed
         }
@@ -233,9 +238,12 @@ impl Lookup for Store {
             return None;
         }
         let place = self.places[index - 1];
-        match place.origin {
-            Origin::Removed => None,
-            _ => Some(&self.literals[place.start..place.start + place.len]),
+        if place.len == 0 {
+            return match self.origins[index - 1] {
+                Origin::Removed => None,
+                _ => Some(&self.literals[..0]),
+            };
         }
+        Some(&self.literals[place.start..place.start + place.len])
     }
 }

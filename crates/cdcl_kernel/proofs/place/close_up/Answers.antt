@@ -2,7 +2,6 @@ use Rattle.std.proofs.Common.{◌≡◌, ◌+◌, ◌-◌, ◌<◌, get_or, leng
 use Rattle.std.proofs.lemmas.List.{get_or_default}
 use Rattle.cdcl_kernel.proofs.Closing.{closing_none, closing_more, closed_up}
 use Rattle.cdcl_kernel.specs.declared.place.Place.{Place}
-use Rattle.cdcl_kernel.specs.declared.origin.Origin.TheVariants.{Added}
 use Rattle.cdcl_kernel.proofs.place.close_up.Goals as goal
 
 pub loop-index-init : goal.loop-index-init
@@ -10,7 +9,7 @@ loop-index-init c = closing_none c.args.literals.now c.args.places.now c.require
 
 pub loop-index-preserved : goal.loop-index-preserved
 loop-index-preserved c =
-    let none : Place = record { start = 0; len = 0; origin = Added } in
+    let none : Place = record { start = 0; len = 0 } in
     let p : Place = get_or c.loop-index.places c.loop-index.index none in
     let lt : c.loop-index.index < length c.args.places.now = c.loop-index-test.true in
     let len : p.start + p.len - p.start ≡ p.len = omega arith in

@@ -2,8 +2,8 @@ use Rattle.std.proofs.Common.{◌∙◌, sym}
 use Rattle.cdcl_kernel.proofs.Follow.{follow_learned, added_learned, grounded_more}
 use Rattle.cdcl_kernel.proofs.kernel.Kernel.learn.Goals as goal
 
-pub add-requires : goal.add-requires
-add-requires c =
+pub add-requires-clause-in_range : goal.add-requires-clause-in_range
+add-requires-clause-in_range c =
     let learned = rw (← c.in_ok-shown.ensures.same, ← c.self.view_is) at (c.in_ok-shown.ensures.shown.0 c.if-shown.true) in
     learned.literals
 
