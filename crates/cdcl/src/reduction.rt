@@ -4,6 +4,10 @@
 //! after some conflicts the worse half of those with more than two literals goes, but for the
 //! reasons of literals on the trail. The worse ones are those whose literals were of more levels when they were
 //! learned (literal block distance, Audemard and Simon 2009); of two alike the longer, and then the older one.
+//!
+//! Where there are many clauses, a conflict propagates through many of them, and a few thousand learned ones cost little
+//! beside those. So the conflicts from one reduction to the next are at least a tenth of the clauses, but for questions about
+//! a part, which see a small share of the clauses.
 
 ghost use Rattle.std.specs.Prelude.{◌≡◌, IfErr};
 ghost use Rattle.cdcl.specs.Keeping.{Keeps};
@@ -17,19 +21,22 @@ use cdcl_kernel::Kernel;
 use solver::SatError;
 use std::alloc::Global;
 
-/// The conflicts before the first reduction.
+/// The fewest conflicts before the first reduction.
 const FIRST: u64 = 500;
 
 /// By this number of conflicts the interval grows from one reduction to the next.
 const MORE: u64 = 50;
 
+/// There are at least as many conflicts as this share of the clauses.
+const SHARE: u64 = 10;
+
 /// When learned clauses are to be taken out.
 #[derive(Drop)]
 pub struct Reductions {
-    /// the conflicts from the last reduction to the next
+    /// the fewest conflicts from the last reduction to the next
     interval: u64,
-    /// how many conflicts are left before the next
-    left: u64,
+    /// how many conflicts there were since the last
+    since: u64,
 }
 
 impl Reductions {
@@ -37,18 +44,19 @@ impl Reductions {
     pub fn new() -> Reductions {
         Reductions {
             interval: FIRST,
-            left: FIRST,
+            since: 0,
         }
     }
 
-    /// Counts a conflict, and tells whether a reduction is due.
-    pub fn is_due(&mut self) -> bool {
-        self.left = self.left.saturating_sub(1);
-        if self.left > 0 {
+    /// Counts a conflict of a question, about a part or all of this number of clauses, and tells whether a reduction is due.
+    pub fn is_due(&mut self, clauses: usize, is_part: bool) -> bool {
+        let least = if is_part { 0 } else { clauses as u64 / SHARE };
+        self.since = self.since.saturating_add(1);
+        if self.since < self.interval.max(least) {
             return false;
         }
         self.interval = self.interval.saturating_add(MORE);
-        self.left = self.interval;
+        self.since = 0;
         true
     }
 }

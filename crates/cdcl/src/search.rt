@@ -109,7 +109,8 @@ fn meet(
     }
     guide.waiting = None;
     learn(kernel, guide, conflict, level)?;
-    if guide.reductions.is_due() {
+    let clauses = kernel.known().clauses();
+    if guide.reductions.is_due(clauses, guide.is_part) {
         reduce(kernel, guide)?;
     }
     if guide.restarts.is_due() {
