@@ -111,6 +111,7 @@ fn suppose(trail: &mut Trail, clause: &[i32]) -> Result<(), Fault>
 }
 
 /// Sets the one literal that the clause of each hint leaves.
+#[inline(never)]
 fn follow<C: Lookup>(trail: &mut Trail, clauses: &C, hints: &[u32]) -> Result<(), Fault>
     requires { trail.old.vars ≡ C.vars clauses.now }
     ensures vars { trail.new.vars ≡ trail.old.vars }
