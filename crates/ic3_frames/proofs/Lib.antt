@@ -1,5 +1,5 @@
 pub mod Laws
-pub mod Walks
+pub mod Searched
 pub mod Sifting
 pub mod Begun
 pub mod Translated

@@ -82,10 +82,11 @@ impl Frames {
     }
 
     /// Whether a clause of the frame at `level` is part of this one, which then holds in each of its states.
-    /// Both are taken to be in rising order. It costs the clauses of the frames.
+    /// This one is taken to be in rising order. It costs a step for each clause of all frames, and a search that takes the
+    /// logarithm of this one's length for each of the clauses of the frame; more only where first literals are in this one.
     pub fn implies(&self, level: u32, clause: &[StateLit]) -> bool
         ensures sound { IsTrue result → (s : List Bool) → InFrame self.now.entries level s → Holds s clause.now }
-        ensures complete { result ≡ false → IsRising clause.now → All (λ e. level ≤ e.level → IsRising e.clause → IsPartOf e.clause clause.now → ⊥) self.now.entries }
+        ensures complete { result ≡ false → IsRising clause.now → All (λ e. level ≤ e.level → IsPartOf e.clause clause.now → ⊥) self.now.entries }
     {
         'looking: for entry in self.entries.as_slice() {
             if level <= entry.level && is_part(entry.clause.as_slice(), clause) {
@@ -96,8 +97,8 @@ impl Frames {
     }
 
     /// Adds a clause to the frames up to `level`, and drops the clauses that it makes subsumption
-    /// there: those of a level no greater that have all its literals. It takes time by the literals
-    /// of all clauses. A refusal changes nothing.
+    /// there: those of a level no greater that have all its literals. It takes a search for each such
+    /// clause, and more only where first literals agree. A refusal changes nothing.
     pub fn add(&mut self, clause: Seq<StateLit>, level: u32) -> Result<(), Refused>
         ensures top { self.new.top ≡ self.old.top }
         ensures newest { OnOk result (Contains self.new.entries (record { clause = clause; level = level })) }

@@ -1,6 +1,6 @@
 //! A clause more, and those that it makes subsumption.
 
-ghost use Rattle.std.specs.Prelude.{◌≡◌, ◌⊎◌, ◌↔◌, ◌<◌, ◌≤◌, IsTrue, length, slice_index_or, All, Contains, OnOk, OnErr};
+ghost use Rattle.std.specs.Prelude.{◌≡◌, ◌⊎◌, ◌≤◌, IsTrue, All, Contains, OnOk, OnErr};
 ghost use Rattle.std.specs.Vec.{vec_len, vec_capacity};
 ghost use Rattle.ic3_step.specs.States.{IsPartOf};
 ghost use Rattle.ic3_frames.specs.Frames.{IsRising, IsSubsumed, IsNotSubsumed, IsAdded};
@@ -10,26 +10,24 @@ use base::{Refused, push, reserve_one};
 use graph::Seq;
 use ic3_step::StateLit;
 
-/// Whether the literal stands at the place.
-fn is_at(clause: &[StateLit], place: usize, lit: StateLit) -> bool
-    ensures { IsTrue result ↔ ((place < length clause.now) × (slice_index_or clause.now place lit ≡ lit)) }
+/// Whether the literal is one of the clause, which is in rising order. It costs the logarithm of the clause's length.
+fn has(clause: &[StateLit], lit: StateLit) -> bool
+    ensures sound { IsTrue result → Contains clause.now lit }
+    ensures complete { IsRising clause.now → Contains clause.now lit → IsTrue result }
 {
-    place < clause.len() && clause[place] == lit
+    match clause.binary_search_by_key(&lit.latch, |other| other.latch) {
+        Ok(place) => clause[place] == lit,
+        Err(_) => false,
+    }
 }
 
-/// Whether each literal of the first clause is one of the second. Both are in rising order, so one
-/// walk over the second meets the literals of the first one after the other.
+/// Whether each literal of the first clause is one of the second, which is in rising order. The
+/// first literal that is missing ends it; each one before costs the logarithm of the second's length.
 pub(crate) fn is_part(part: &[StateLit], clause: &[StateLit]) -> bool
     ensures sound { IsTrue result → IsPartOf part.now clause.now }
-    ensures complete { IsRising part.now → IsRising clause.now → IsPartOf part.now clause.now → IsTrue result }
+    ensures complete { IsRising clause.now → IsPartOf part.now clause.now → IsTrue result }
 {
-    let mut met = 0;
-    'walking: for lit in clause {
-        if is_at(part, met, *lit) {
-            met += 1;
-        }
-    }
-    met == part.len()
+    part.iter().all(|lit| has(clause, *lit))
 }
 
 /// Whether the entry is of no greater level and has all the clause's literals.

@@ -7,5 +7,5 @@ pub returns-then-entry-level : goal.returns-then-entry-level
 returns-then-entry-level c = record {
   sound = λ part. (c.if-entry-level.true, subst (IsPartOf c.args.clause.now) c.as_slice.ensures (c.is_part.ensures.sound part));
   complete = λ rising entry_rising subsumption.
-      c.is_part.ensures.complete rising (subst IsRising (sym c.as_slice.ensures) entry_rising) (subst (IsPartOf c.args.clause.now) (sym c.as_slice.ensures) subsumption.1);
+      c.is_part.ensures.complete (subst IsRising (sym c.as_slice.ensures) entry_rising) (subst (IsPartOf c.args.clause.now) (sym c.as_slice.ensures) subsumption.1);
 }

@@ -3,13 +3,13 @@ use Rattle.std.proofs.lemmas.Bool.{cases_lt}
 use Rattle.std.proofs.lemmas.List.{get_or_default}
 use Rattle.ic3_step.specs.States.{IsPartOf}
 use Rattle.ic3_frames.specs.declared.frames.Entry.{Entry}
-use Rattle.ic3_frames.specs.Frames.{IsRising, Levels}
+use Rattle.ic3_frames.specs.Frames.{Levels}
 use Rattle.ic3_frames.proofs.frames.Frames.implies.Goals as goal
 use Rattle.ic3_frames.proofs.frames.Frames.implies.Goals.{else-level-entry-via-then-level-entry+else-is_part, else-level-entry-via-else-level-entry}
 
 pub looking-preserved : goal.looking-preserved
-looking-preserved c = λ rising k d k_in above e_rising part. elim (cases_lt k c.looking.entry-index) [
-  | inl below ↦ c.looking.invariant rising k d below above e_rising part
+looking-preserved c = λ rising k d k_in above part. elim (cases_lt k c.looking.entry-index) [
+  | inl below ↦ c.looking.invariant rising k d below above part
   | inr past ↦
       let here : k ≡ c.looking.entry-index = omega arith in
       let items = c.as_slice-entry-items.result.now in
@@ -21,7 +21,7 @@ looking-preserved c = λ rising k d k_in above e_rising part. elim (cases_lt k c
       elim c.else-level-entry.branch [
         | else-level-entry-via-then-level-entry+else-is_part w ↦
             let clause : w.as_slice.result.now ≡ (get_or c.args.self.now.entries k d).clause = w.as_slice.ensures ∙ ap (λ (x : Entry). x.clause) (sym same) in
-            let told = w.is_part.ensures.complete (subst IsRising (sym clause) e_rising) rising (subst (λ xs. IsPartOf xs c.args.clause.now) (sym clause) part) in
+            let told = w.is_part.ensures.complete rising (subst (λ xs. IsPartOf xs c.args.clause.now) (sym clause) part) in
             let not_told = w.if-is_part.false in
             let none : ⊥ = cc in
             none
