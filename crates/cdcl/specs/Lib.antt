@@ -1,9 +1,2 @@
-pub mod Logged
-pub mod Keeping
-pub mod Settled
-pub mod Selected
-pub mod Units
 pub mod Refutations
-pub mod Refuting
-pub mod Closings
 pub mod Solving

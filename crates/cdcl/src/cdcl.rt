@@ -2,10 +2,9 @@
 
 ghost use Rattle.std.specs.Prelude.{◌≡◌, ◌≤◌, []};
 
-use crate::guide::Guide;
-use crate::logged_kernel::LoggedKernel;
-use crate::search::search;
 use base::Budget;
+use cdcl_log::LoggedKernel;
+use cdcl_search::{Guide, search};
 use solver::{Answer, Part, PartSat, Sat, SatError};
 use std::alloc::Global;
 use std::marker::Model;
@@ -21,7 +20,7 @@ pub struct Cdcl {
 }
 
 impl Model for Cdcl {
-    ghost use Rattle.cdcl.specs.Logged.{is_wanted};
+    ghost use Rattle.cdcl_log.specs.Logged.{is_wanted};
     ghost use Rattle.cdcl.specs.Solving.{Solving};
     ghost use Rattle.std.specs.Prelude.{◌≡◌, false};
 
@@ -51,7 +50,7 @@ impl Sat for Cdcl {
 
     ghost is_full = { λ s. 4294967295 ≤ s.ids };
 
-    /// It costs the number of variables, and two bytes of memory for each.
+    /// It costs the number of variables, and a byte of memory for each.
     fn reset(&mut self, alloc: Global, count: u32) -> Result<(), SatError> {
         self.kernel.reset(alloc, count)?;
         self.guide = Guide::new(alloc);
@@ -79,7 +78,6 @@ impl Sat for Cdcl {
     ) -> Result<Answer, SatError> {
         let answer = search(&mut self.kernel, &mut self.guide, None, assume, budget);
         if answer.is_err() {
-            self.kernel.backtrack(0);
             self.guide = Guide::new(alloc);
         }
         answer
@@ -98,7 +96,6 @@ impl PartSat for Cdcl {
         let kernel = &mut self.kernel;
         let answer = search(kernel, &mut self.guide, Some(part), assume, budget);
         if answer.is_err() {
-            self.kernel.backtrack(0);
             self.guide = Guide::new(alloc);
         }
         answer

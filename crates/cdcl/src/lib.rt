@@ -9,48 +9,18 @@
 //! lines, `Refuter::show` finds what shows each, `Refuter::lemmas` the lines that they share, and `section` what
 //! is then left of each, one line.
 //!
-//! All of that is `cdcl_kernel`'s: it keeps the clauses and the trail, checks each clause before it is
-//! learned, looks through a model and derives a core before either is answered. The techniques
-//! here, one a file, only steer it, and no proof rests on them. What they get wrong costs time:
-//! a clause that the watches missed is found when a model is looked through, a clause that the
-//! analysis got wrong is refused and the denial of the decisions learned in its place.
+//! All of that is `cdcl_kernel`'s and `cdcl_log`'s: the kernel keeps the clauses, checks each clause before it is
+//! learned, looks through a model and checks a core before either is answered, and the log has a line
+//! for each clause that was learned. `cdcl_search` only steers them, and no proof rests on it.
 #![tactic(auto)]
 
-mod analysis;
-mod attaching;
 mod cdcl;
-mod closing;
-mod final_analysis;
-mod guide;
-mod heap;
-mod learning;
-mod lemmas;
-mod levels;
-mod lines;
-mod loading;
-mod logged_kernel;
-mod logging;
-mod minimization;
-mod numbering;
-mod propagation;
-mod reduction;
 mod refutation;
 mod refuted;
 mod refuter;
-mod restarts;
-mod search;
-mod selection;
-mod short_lists;
-mod shown;
-mod table;
-mod trail_reuse;
-mod units;
-mod values;
-mod watches;
 
 pub use cdcl::Cdcl;
-pub use lemmas::{Lemmas, section};
+pub use cdcl_log::{Closing, Lemmas, Shown, section};
 pub use refutation::refute;
 pub use refuted::Refuted;
 pub use refuter::Refuter;
-pub use shown::{Closing, Shown};

@@ -3,28 +3,24 @@
 ghost use Rattle.std.specs.Prelude.{◌≡◌, ◌≢◌, ◌≤◌, ◌⊎◌, [], ℤ, true, All, IfErr, IfOk, List, length};
 ghost use Rattle.base.specs.Budget.{Spends};
 ghost use Rattle.base.specs.Witness.{witness};
-ghost use Rattle.cdcl.specs.Closings.{AreLemmas, IsClosingOf, IsShown, StaysShown};
-ghost use Rattle.cdcl.specs.Refuting.{refuting};
+ghost use Rattle.cdcl_log.specs.Closings.{AreLemmas, IsClosingOf, IsShown, StaysShown};
+ghost use Rattle.cdcl_log.specs.Refuting.{refuting};
 ghost use Rattle.solver.specs.declared.sat_error.SatError.TheVariants.{Limit, OutOfMemory};
 ghost use Rattle.solver.specs.Full.{full};
 ghost use Rattle.cdcl_kernel.specs.Verdicts.{IsOpposed};
-ghost use Rattle.cdcl.specs.Keeping.{Keeps};
-ghost use Rattle.cdcl.specs.Logged.{EndDenies, added_to, is_wanted, with_units, IsFull};
+ghost use Rattle.cdcl_log.specs.Keeping.{Keeps};
+ghost use Rattle.cdcl_log.specs.Logged.{EndDenies, added_to, is_wanted, with_units, IsFull};
 ghost use Rattle.cdcl.specs.Refutations.{IsProved};
-ghost use Rattle.cdcl.specs.Settled.{EndsWith};
+ghost use Rattle.cdcl_search.specs.Settled.{EndsWith};
 ghost use Rattle.lrat.specs.Limits.{IsFormula};
 ghost use Rattle.lrat.specs.Literals.{IsLiteral};
 ghost use Rattle.lrat.specs.Proofs.{IsAcceptedProof};
 ghost use Rattle.solver.specs.Answers.{IsLawful};
 
-use crate::closing::opposed_closing;
-use crate::guide::Guide;
-use crate::lemmas::Lemmas;
-use crate::logged_kernel::LoggedKernel;
 use crate::refuted::Refuted;
-use crate::search::search;
-use crate::shown::{Closing, Shown};
 use base::Budget;
+use cdcl_log::{Closing, Lemmas, LoggedKernel, Shown, opposed_closing};
+use cdcl_search::{Guide, search};
 use lrat::{Formula, Proof};
 use solver::{Answer, SatError};
 use std::alloc::Global;
@@ -40,8 +36,8 @@ pub struct Refuter {
 
 impl Model for Refuter {
     ghost use Rattle.std.specs.Prelude.{◌≡◌, true};
-    ghost use Rattle.cdcl.specs.Logged.{is_wanted};
-    ghost use Rattle.cdcl.specs.Refuting.{Refuting, refuting};
+    ghost use Rattle.cdcl_log.specs.Logged.{is_wanted};
+    ghost use Rattle.cdcl_log.specs.Refuting.{Refuting, refuting};
 
     ghost Value = { Refuting };
 
@@ -146,7 +142,6 @@ fn searched(
 {
     let answer = search(kernel, guide, None, units, budget);
     if answer.is_err() {
-        kernel.backtrack(0);
         *guide = Guide::new(alloc);
     }
     answer

@@ -1,14 +1,12 @@
 -- What stays true of the clauses as they come and go.
-use Rattle.std.proofs.Common.{◌≡◌, ℕ, zero, suc, ◌≢◌, ◌⊎◌, List, [], ◌∷◌, ◌++◌, slice_index_or, slice_set, All, Contains, ℤ, pos, neg_ℤ, map, Option, Some, refl, sym, ◌∙◌, ap, subst, inl, inr}
+use Rattle.std.proofs.Common.{◌≡◌, ℕ, zero, suc, ◌≢◌, ◌⊎◌, List, [], ◌∷◌, ◌++◌, slice_index_or, slice_set, All, ℤ, pos, Some, refl, sym, ◌∙◌, ap, subst, inl, inr}
 use Rattle.std.proofs.lemmas.List.Elements.{All-contains, Contains-append_left, Contains-get_or, Contains-push}
 use Rattle.lrat.specs.Literals.{Finder, IsLiteral, IsSatisfied, Follows}
-use Rattle.lrat.specs.Lines.{IsAcceptedLine, Conflicts}
+use Rattle.lrat.specs.Lines.{IsAcceptedLine}
 use Rattle.lrat.proofs.Sound.{shown_true}
 use Rattle.cdcl_kernel.specs.Kept.{Kept, find_in, live, gone, added, added_if, origin_in, without}
 use Rattle.cdcl_kernel.specs.Inside.{AllFollow}
 use Rattle.cdcl_kernel.specs.Known.{Known, IsLearned}
-use Rattle.cdcl_kernel.specs.Grounds.{Grounded, decisions, reasons}
-use Rattle.cdcl_kernel.proofs.Denied.{denial_accepted, denials_nonzero, grounded_kept}
 use Rattle.cdcl_kernel.specs.declared.origin.Origin.{Origin}
 use Rattle.cdcl_kernel.specs.declared.origin.Origin.TheVariants.{Added, Learned, Removed}
 
@@ -30,16 +28,6 @@ find_more [] k zero c e = inr e
 find_more [] k (suc i) c e = absurd (none_some c e)
 find_more (j ∷ ks) k zero c e = inl e
 find_more (j ∷ ks) k (suc i) c e = find_more ks k i c e
-
-find_kept : (ks : List Kept) (k : Kept) (i : ℕ) (c : List ℤ) → live (slice_index_or ks i gone) ≡ Some c → live (slice_index_or (ks ++ k ∷ []) i gone) ≡ Some c
-find_kept [] k zero c e = absurd (none_some c e)
-find_kept [] k (suc i) c e = absurd (none_some c e)
-find_kept (j ∷ ks) k zero c e = e
-find_kept (j ∷ ks) k (suc i) c e = find_kept ks k i c e
-
-pub kept_found : (ks : List Kept) (k : Kept) (id : ℕ) (c : List ℤ) → find_in ks id ≡ Some c → find_in (ks ++ k ∷ []) id ≡ Some c
-kept_found ks k zero c e = e
-kept_found ks k (suc i) c e = find_kept ks k i c e
 
 found_cases : (ks : List Kept) (k : Kept) (id : ℕ) (c : List ℤ) → find_in (ks ++ k ∷ []) id ≡ Some c → (find_in ks id ≡ Some c) ⊎ (live k ≡ Some c)
 found_cases ks k zero c e = inl e
@@ -91,34 +79,6 @@ learned_from k c hints all nz line = record {
   follows = accepted_follows k.vars k.kept c hints all nz line;
 }
 
-pub denial_learned : (k : Known) → AllFollow k.kept → Grounded (find_in k.kept) k.literals k.reasons [] → All (IsLiteral k.vars) k.literals → (id : ℕ) → Conflicts (find_in k.kept) k.literals id → IsLearned k (map neg_ℤ (decisions k.literals k.reasons)) (reasons k.reasons ++ id ∷ [])
-denial_learned k all g lits id conflict =
-    learned_from k _ _ all (denials_nonzero k.vars k.literals k.reasons lits) (denial_accepted k.vars (find_in k.kept) k.literals k.reasons id g lits conflict)
-
-set_found : (ks : List Kept) (i j : ℕ) (c : List ℤ) → live (slice_index_or (slice_set ks i gone) j gone) ≡ Some c → live (slice_index_or ks j gone) ≡ Some c
-set_found [] i j c e = e
-set_found (k ∷ ks) zero zero c e = absurd (none_some c e)
-set_found (k ∷ ks) zero (suc j) c e = e
-set_found (k ∷ ks) (suc i) zero c e = e
-set_found (k ∷ ks) (suc i) (suc j) c e = set_found ks i j c e
-
-found_removed : (ks : List Kept) (id q : ℕ) (c : List ℤ) → find_in (without ks id) q ≡ Some c → find_in ks q ≡ Some c
-found_removed ks id zero c e = absurd (none_some c e)
-found_removed ks zero (suc j) c e = e
-found_removed ks (suc i) (suc j) c e = set_found ks i j c e
-
-set_kept : (ks : List Kept) (i j : ℕ) (c : List ℤ) → j ≢ i → live (slice_index_or ks j gone) ≡ Some c → live (slice_index_or (slice_set ks i gone) j gone) ≡ Some c
-set_kept [] i j c ne e = e
-set_kept (k ∷ ks) zero zero c ne e = absurd (ne refl)
-set_kept (k ∷ ks) zero (suc j) c ne e = e
-set_kept (k ∷ ks) (suc i) zero c ne e = e
-set_kept (k ∷ ks) (suc i) (suc j) c ne e = set_kept ks i j c (λ same. ne (ap suc same)) e
-
-pub kept_removed : (ks : List Kept) (id q : ℕ) (c : List ℤ) → q ≢ id → find_in ks q ≡ Some c → find_in (without ks id) q ≡ Some c
-kept_removed ks id zero c ne e = absurd (none_some c e)
-kept_removed ks zero (suc j) c ne e = e
-kept_removed ks (suc i) (suc j) c ne e = set_kept ks i j c (λ same. ne (ap suc same)) e
-
 added_set : (ks : List Kept) (i : ℕ) → (slice_index_or ks i gone).origin ≡ Learned → added (slice_set ks i gone) ≡ added ks
 added_set [] i e = refl
 added_set (k ∷ ks) zero e = rw e refl
@@ -127,15 +87,3 @@ added_set (k ∷ ks) (suc i) e = ap (added_if k.origin k.clause) (added_set ks i
 pub added_removed : (ks : List Kept) (id : ℕ) → origin_in ks id ≡ Learned → added (without ks id) ≡ added ks
 added_removed ks zero e = refl
 added_removed ks (suc i) e = added_set ks i e
-
-pub follow_removed : (ks : List Kept) (id : ℕ) → origin_in ks id ≡ Learned → AllFollow ks → AllFollow (without ks id)
-follow_removed ks id e all q c found = subst (λ cs. Follows cs c) (sym (added_removed ks id e)) (all q c (found_removed ks id q c found))
-
-some_other : (q id : ℕ) (rs : List (Option ℕ)) → Contains rs (Some q) → (Contains rs (Some id) → ⊥) → q ≢ id
-some_other q id rs at none e = none (subst (λ i. Contains rs (Some i)) e at)
-
-pub grounded_removed : (ks : List Kept) (id : ℕ) (ls : List ℤ) (rs : List (Option ℕ)) → (Contains rs (Some id) → ⊥) → Grounded (find_in ks) ls rs [] → Grounded (find_in (without ks id)) ls rs []
-grounded_removed ks id ls rs none g = grounded_kept (find_in ks) (find_in (without ks id)) ls rs [] (λ q c at found. kept_removed ks id q c (some_other q id rs at none) found) g
-
-pub grounded_more : (ks : List Kept) (k : Kept) (ls : List ℤ) (rs : List (Option ℕ)) → Grounded (find_in ks) ls rs [] → Grounded (find_in (ks ++ k ∷ [])) ls rs []
-grounded_more ks k ls rs g = grounded_kept (find_in ks) (find_in (ks ++ k ∷ [])) ls rs [] (λ q c at found. kept_found ks k q c found) g

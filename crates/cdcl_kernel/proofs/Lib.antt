@@ -1,6 +1,6 @@
-pub mod Denied
 pub mod Placed
 pub mod Follow
+pub mod Valued
 pub mod Judged
 pub mod Among
 pub mod Forgetting

@@ -1,7 +1,7 @@
-pub mod Grounds
 pub mod Kept
 pub mod Places
 pub mod Known
 pub mod Inside
 pub mod Forgotten
+pub mod Valued
 pub mod Verdicts

@@ -1,10 +1,6 @@
 //! Lists of literals.
 
-ghost use Rattle.std.specs.Prelude.{◌≡◌, ◌≢◌, ◌<◌, ◌^◌, pos, neg_ℤ, IsTrue, ◌↔◌, All, IfOk, length, map, unsigned_abs};
-ghost use Rattle.cdcl_kernel.specs.Grounds.{decisions};
-
-use base::{Refused, push};
-use std::alloc::Global;
+ghost use Rattle.std.specs.Prelude.{◌≡◌, ◌≢◌, ◌<◌, ◌^◌, pos, neg_ℤ, IsTrue, ◌↔◌, All, unsigned_abs};
 
 /// The other literal of a variable.
 pub fn negated(literal: i32) -> i32
@@ -12,26 +8,6 @@ pub fn negated(literal: i32) -> i32
     ensures { result ≡ neg_ℤ literal }
 {
     -literal
-}
-
-/// The denials of the literals without a reason.
-pub fn denials(
-    alloc: Global,
-    literals: &[i32],
-    reasons: &[Option<u32>],
-) -> Result<Vec<i32>, Refused>
-    requires same { length literals.now ≡ length reasons.now }
-    requires small { All (λ l. unsigned_abs l < 2 ^ 31) literals.now }
-    ensures { IfOk result (λ c. c.items ≡ map neg_ℤ (decisions literals.now reasons.now)) }
-{
-    let mut clause = Vec::new(alloc);
-    for place in 0..literals.len() {
-        match reasons[place] {
-            None => push(&mut clause, negated(literals[place]))?,
-            Some(_) => {}
-        }
-    }
-    Ok(clause)
 }
 
 /// Whether no literal is 0.

@@ -1,22 +1,19 @@
 //! Clauses in one flat list, by their ids: 1, 2 and so on.
 
-ghost use Rattle.std.specs.Prelude.{IsTrue, ◌↔◌, MatchOption, ◌≡◌, ◌≤◌, ◌+◌, ◌++◌, ◌∷◌, [], All, OnOk, OnErr, IfErr, length, take};
+ghost use Rattle.std.specs.Prelude.{IsTrue, ◌↔◌, MatchOption, ◌≡◌, ◌≤◌, ◌+◌, ◌++◌, ◌∷◌, [], All, OnOk, OnErr, IfErr, length};
 ghost use Rattle.lrat.specs.Literals.{IsLiteral};
-ghost use Rattle.std.specs.List.Sorted.{IsSorted};
-ghost use Rattle.std.specs.Ordering.{nat_cmp};
-ghost use Rattle.cdcl_kernel.specs.Forgotten.{Forgets, GoOut};
+ghost use Rattle.cdcl_kernel.specs.Forgotten.{Forgets};
 ghost use Rattle.cdcl_kernel.specs.Kept.{Kept, find_in, origin_in, without, added};
-ghost use Rattle.cdcl_kernel.specs.Verdicts.{HoldsOne, HoldsOneOf, IsUnsatisfied};
+ghost use Rattle.cdcl_kernel.specs.Verdicts.{IsSatisfiedBy, SatisfiesOf, IsUnsatisfied};
 ghost use Rattle.cdcl_kernel.specs.declared.origin.Origin.TheVariants.{Removed};
 ghost use Rattle.solver.specs.declared.sat_error.SatError.TheVariants.{Limit, OutOfMemory};
 ghost use Rattle.solver.specs.Full.{full};
 
 use crate::origin::Origin;
 use crate::place::{Place, close_up};
-use crate::sorted::has_id;
-use crate::verdict::holds_one;
+use crate::values::satisfies;
 use base::{extend, push, reserve_one};
-use lrat::{Lookup, Trail};
+use lrat::Lookup;
 use solver::{SatError, Taken};
 use std::alloc::Global;
 use std::marker::Model;
@@ -128,48 +125,30 @@ impl Store {
         }
     }
 
-    /// Takes the learned ones of these clauses out that are no reasons. The reasons ascend. Those
-    /// that went are the first ones of `gone` then, each once, and the answer is their number. It
-    /// costs the number of the ids, times the logarithm of the number of reasons. Where more than
+    /// Takes the learned ones of these clauses out. It costs the number of the ids. Where more than
     /// half of the list is dead then, it is closed up, which costs its length.
-    pub fn forget(&mut self, ids: &[u32], reasons: &[u32], gone: &mut [u32]) -> usize
-        requires sorted { IsSorted nat_cmp reasons.now }
-        requires room { length gone.old ≡ length ids.now }
+    pub fn forget(&mut self, ids: &[u32])
         ensures vars { self.new.vars ≡ self.old.vars }
         ensures added { added self.new.kept ≡ added self.old.kept }
-        ensures forgets { Forgets self.old.kept self.new.kept reasons.now ids.now }
-        ensures gone { GoOut self.old.kept (take result gone.new) self.new.kept }
-        ensures room { length gone.new ≡ length gone.old }
+        ensures forgets { Forgets self.old.kept self.new.kept ids.now }
     {
-        let count = self.take_out(ids, reasons, gone);
+        self.take_out(ids);
         if self.dead > self.literals.len() / 2 {
             self.close_up();
         }
-        count
     }
 
-    /// Takes the learned ones of these clauses out that are no reasons, and lists them. The
-    /// reasons ascend.
-    fn take_out(&mut self, ids: &[u32], reasons: &[u32], gone: &mut [u32]) -> usize
-        requires sorted { IsSorted nat_cmp reasons.now }
-        requires room { length gone.old ≡ length ids.now }
+    /// Takes the learned ones of these clauses out, and leaves their room.
+    fn take_out(&mut self, ids: &[u32])
         ensures vars { self.new.vars ≡ self.old.vars }
         ensures added { added self.new.kept ≡ added self.old.kept }
-        ensures forgets { Forgets self.old.kept self.new.kept reasons.now ids.now }
-        ensures gone { GoOut self.old.kept (take result gone.new) self.new.kept }
-        ensures room { length gone.new ≡ length gone.old }
+        ensures forgets { Forgets self.old.kept self.new.kept ids.now }
     {
-        let mut count = 0;
         for id in ids {
             if let Origin::Learned = self.origin(*id) {
-                if !has_id(reasons, *id) {
-                    self.remove(*id);
-                    gone[count] = *id;
-                    count += 1;
-                }
+                self.remove(*id);
             }
         }
-        count
     }
 
     /// Gives up the room of the clauses that were taken out. It takes no memory.
@@ -181,16 +160,15 @@ impl Store {
         self.dead = 0;
     }
 
-    /// The first added clause of which the trail holds no literal. It costs the literals of the
-    /// clauses up to that one.
-    pub fn unsatisfied(&self, trail: &Trail) -> Option<u32>
-        requires { self.now.vars ≡ trail.now.vars }
-        ensures { MatchOption result (All (HoldsOne trail.now.literals) (added self.now.kept)) (IsUnsatisfied self.now.kept trail.now.literals) }
+    /// The first added clause of which no literal is true under the values. It costs the literals
+    /// of the clauses up to that one.
+    pub fn unsatisfied(&self, values: &[bool]) -> Option<u32>
+        ensures { MatchOption result (All (IsSatisfiedBy values.now) (added self.now.kept)) (IsUnsatisfied self.now.kept values.now) }
     {
         for index in 0..self.len() {
             let id = index as u32 + 1;
             if let Origin::Added = self.origin(id) {
-                if !self.is_satisfied(trail, id) {
+                if !self.is_satisfied(values, id) {
                     return Some(id);
                 }
             }
@@ -198,13 +176,12 @@ impl Store {
         None
     }
 
-    /// Whether the trail holds a literal of the clause with this id.
-    fn is_satisfied(&self, trail: &Trail, id: u32) -> bool
-        requires { self.now.vars ≡ trail.now.vars }
-        ensures { IsTrue result ↔ HoldsOneOf self.now.kept trail.now.literals id }
+    /// Whether a literal of the clause with this id is true under the values.
+    fn is_satisfied(&self, values: &[bool], id: u32) -> bool
+        ensures { IsTrue result ↔ SatisfiesOf self.now.kept values.now id }
     {
         match self.get(id) {
-            Some(clause) => holds_one(trail, clause),
+            Some(clause) => satisfies(values, clause),
             None => false,
         }
     }

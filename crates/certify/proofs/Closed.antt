@@ -8,9 +8,9 @@ use Rattle.lrat.specs.declared.formula.Formula.{Formula}
 use Rattle.lrat.specs.declared.line.Line.{Line}
 use Rattle.lrat.specs.Limits.{IsLine}
 use Rattle.lrat.specs.Shared.{Base, IsAcceptedOver}
-use Rattle.cdcl.specs.Closings.{IsClosingOf, StaysShown, section_of}
-use Rattle.cdcl.specs.Refuting.{Refuting}
-use Rattle.cdcl.specs.declared.shown.Closing.{Closing}
+use Rattle.cdcl_log.specs.Closings.{IsClosingOf, StaysShown, section_of}
+use Rattle.cdcl_log.specs.Refuting.{Refuting}
+use Rattle.cdcl_log.specs.declared.shown.Closing.{Closing}
 use Rattle.cnf.specs.Clauses.{step_units, bad_units}
 use Rattle.cnf.specs.Formulas.{shared_formula}
 use Rattle.checker.specs.Accepted.{Case, step_case, bad_case, IsShared}

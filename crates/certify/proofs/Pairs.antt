@@ -11,7 +11,7 @@ use Rattle.lrat.specs.Shared.{Base}
 use Rattle.lrat.specs.Stages.{Stage, GoAlong}
 use Rattle.lrat.proofs.Sharing.{over_law}
 use Rattle.certificate.specs.declared.certificate.Certificate.{Certificate}
-use Rattle.cdcl.specs.Logged.{with_units}
+use Rattle.cdcl_log.specs.Logged.{with_units}
 use Rattle.checker.specs.Accepted.{Case, init_case, step_case, bad_case, cases, IsAcceptedFor, IsGood, IsProofOf, IsShared, RefuteBelow}
 use Rattle.checker.proofs.InOrder.{refute_more}
 use Rattle.certify.specs.Sections.{AreProofs, case_over}

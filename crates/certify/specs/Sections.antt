@@ -7,9 +7,9 @@ use Rattle.lrat.specs.Limits.{IsLine}
 use Rattle.lrat.specs.Proofs.{first_stage}
 use Rattle.lrat.specs.Shared.{Base, base_of, IsAcceptedOver}
 use Rattle.lrat.specs.Stages.{Stage}
-use Rattle.cdcl.specs.Closings.{IsClosingOf, section_of}
-use Rattle.cdcl.specs.Refuting.{Refuting}
-use Rattle.cdcl.specs.declared.shown.Closing.{Closing}
+use Rattle.cdcl_log.specs.Closings.{IsClosingOf, section_of}
+use Rattle.cdcl_log.specs.Refuting.{Refuting}
+use Rattle.cdcl_log.specs.declared.shown.Closing.{Closing}
 use Rattle.checker.specs.Accepted.{Case, RefuteBelow}
 use Rattle.certify.specs.declared.closed_cases.ClosedCases.{ClosedCases}
 

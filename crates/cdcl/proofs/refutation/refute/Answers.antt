@@ -1,6 +1,6 @@
 use Rattle.std.proofs.Common.{IfOk, ◌∙◌, subst}
 use Rattle.cdcl.specs.Refutations.{IsProved}
-use Rattle.cdcl.proofs.Ended.{without_units}
+use Rattle.cdcl.proofs.Searched.{without_units}
 use Rattle.cdcl.proofs.refutation.refute.Goals as goal
 
 pub returns-clause-lawful : goal.returns-clause-lawful

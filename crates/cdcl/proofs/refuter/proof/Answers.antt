@@ -1,7 +1,7 @@
 use Rattle.std.proofs.Common.{rules, ◌≡◌, ◌≤◌, ◌∷◌, [], ℤ, neg_ℤ, inl, inr, unsigned_abs, SFits, w32, subst}
 use Rattle.lrat.proofs.Fit.{read32}
 use Rattle.cdcl_kernel.specs.Verdicts.{IsOpposed}
-use Rattle.cdcl.proofs.Ended.{literal_at, none_opposed}
+use Rattle.cdcl.proofs.Searched.{literal_at, none_opposed}
 use Rattle.cdcl.proofs.refuter.proof.Goals as goal
 
 pub opposed_refutation-requires-clause-in_range : goal.opposed_refutation-requires-clause-in_range

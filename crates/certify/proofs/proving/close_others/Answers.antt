@@ -2,7 +2,7 @@ use Rattle.std.proofs.Common.{rules, ◌≡◌, ◌++◌, [], ◌∷◌, map, su
 use Rattle.lrat.proofs.Fit.{err_gives, read32}
 use Rattle.cnf.specs.Clauses.{bad_units, step_units}
 use Rattle.cnf.specs.Formulas.{bad_formula, shared_formula}
-use Rattle.cdcl.specs.Logged.{with_units}
+use Rattle.cdcl_log.specs.Logged.{with_units}
 use Rattle.certify.specs.Halts.{IsHalt}
 use Rattle.certify.specs.Sections.{AreProofs, case_with}
 use Rattle.certify.specs.declared.counterexample.Case.TheVariants.{Bad}

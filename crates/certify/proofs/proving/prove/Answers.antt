@@ -1,6 +1,6 @@
 use Rattle.std.proofs.Common.{refl}
 use Rattle.lrat.specs.Proofs.{IsAcceptedProof}
-use Rattle.cdcl.specs.Logged.{with_units}
+use Rattle.cdcl_log.specs.Logged.{with_units}
 use Rattle.certify.proofs.Pairs.{proof_over}
 use Rattle.certify.proofs.proving.prove.Goals as goal
 

@@ -5,7 +5,7 @@ use Rattle.lrat.proofs.Fit.{err_gives}
 use Rattle.std.proofs.lemmas.List.{length-map, take_all}
 use Rattle.cnf.specs.Clauses.{denial, init_units}
 use Rattle.cnf.specs.Formulas.{IsOverLatches, init_formula, start_formula}
-use Rattle.cdcl.specs.Logged.{with_units}
+use Rattle.cdcl_log.specs.Logged.{with_units}
 use Rattle.checker.specs.Accepted.{init_case}
 use Rattle.checker.proofs.InOrder.{clause_is}
 use Rattle.certify.specs.Halts.{IsHalt}

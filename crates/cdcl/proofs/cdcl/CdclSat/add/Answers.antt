@@ -1,5 +1,5 @@
 use Rattle.std.proofs.Common.{◌≤◌, length, subst, arith}
-use Rattle.cdcl.proofs.Few.{length-added}
+use Rattle.cdcl_log.proofs.Few.{length-added}
 use Rattle.cdcl.proofs.cdcl.CdclSat.add.Goals as goal
 
 pub returns-clause-few : goal.returns-clause-few

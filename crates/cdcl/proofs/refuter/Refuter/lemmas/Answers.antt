@@ -1,5 +1,5 @@
 use Rattle.std.proofs.Common.{List, ℤ, All, sym, subst}
-use Rattle.cdcl.specs.Closings.{IsClosingOf}
+use Rattle.cdcl_log.specs.Closings.{IsClosingOf}
 use Rattle.cdcl.proofs.refuter.Refuter.lemmas.Goals as goal
 
 pub lemmas-requires-clause-shown : goal.lemmas-requires-clause-shown

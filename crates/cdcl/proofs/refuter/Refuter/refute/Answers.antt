@@ -1,10 +1,9 @@
 use Rattle.std.proofs.Common.{[], ◌∙◌, ap, subst}
 use Rattle.lrat.specs.Proofs.{IsAcceptedProof}
 use Rattle.solver.specs.Answers.{IsModel}
-use Rattle.cdcl.specs.Logged.{added_to, with_units}
-use Rattle.cdcl.specs.Refuting.{Refuting}
-use Rattle.cdcl.specs.Settled.{Ends}
-use Rattle.cdcl.proofs.Ended.{model_with, same_formula}
+use Rattle.cdcl_log.specs.Logged.{Ends, added_to, with_units}
+use Rattle.cdcl_log.specs.Refuting.{Refuting}
+use Rattle.cdcl.proofs.Searched.{model_with, same_formula}
 use Rattle.cdcl.proofs.refuter.Refuter.refute.Goals as goal
 
 pub proof-requires-clause-shown : goal.proof-requires-clause-shown

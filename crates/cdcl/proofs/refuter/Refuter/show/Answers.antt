@@ -1,9 +1,8 @@
 use Rattle.std.proofs.Common.{◌≡◌, ◌∙◌, [], sym, subst}
 use Rattle.solver.specs.Answers.{IsModel}
-use Rattle.cdcl.specs.Logged.{added_to, with_units}
-use Rattle.cdcl.specs.Refuting.{refuting}
-use Rattle.cdcl.proofs.Closings.{same_refuting, stays_then}
-use Rattle.cdcl.proofs.Ended.{model_with, same_formula}
+use Rattle.cdcl_log.specs.Logged.{added_to, with_units}
+use Rattle.cdcl_log.specs.Refuting.{refuting}
+use Rattle.cdcl.proofs.Searched.{model_with, same_formula, same_refuting, stays_then}
 use Rattle.cdcl.proofs.refuter.Refuter.show.Goals as goal
 
 pub returns-in-Model-clause-lawful : goal.returns-in-Model-clause-lawful

@@ -1,5 +1,5 @@
 use Rattle.std.proofs.Common.{◌∙◌, sym}
-use Rattle.cdcl_kernel.proofs.Follow.{follow_learned, added_learned, grounded_more}
+use Rattle.cdcl_kernel.proofs.Follow.{follow_learned, added_learned}
 use Rattle.cdcl_kernel.proofs.kernel.Kernel.learn.Goals as goal
 
 pub add-requires-clause-in_range : goal.add-requires-clause-in_range
@@ -12,10 +12,8 @@ invariant_of-self c =
     let s = c.self.invariant in
     let learned = rw (← c.in_ok-shown.ensures.same, ← c.self.view_is) at (c.in_ok-shown.ensures.shown.0 c.if-shown.true) in
     record {
-      same_vars = s.same_vars ∙ sym c.in_ok-add.ensures.vars;
       scratch_vars = s.scratch_vars ∙ sym c.in_ok-add.ensures.vars;
       scratch_clear = s.scratch_clear;
-      grounded = rw c.in_ok-add.ensures.ok (grounded_more _ _ _ _ s.grounded);
       follow = rw c.in_ok-add.ensures.ok (follow_learned _ _ s.follow learned.follows);
     }
 

@@ -1,18 +1,25 @@
-use Rattle.std.proofs.Common.{◌∙◌, ◌+◌, ap, ℕ}
-use Rattle.cdcl_kernel.proofs.Judged.{unsatisfied_open, model_from}
+use Rattle.std.proofs.Common.{◌≡◌, ◌∙◌, List, Bool, ℕ, ap, sym, subst, All}
+use Rattle.lrat.proofs.Fit.{not_true}
+use Rattle.cdcl_kernel.specs.Kept.{added}
+use Rattle.cdcl_kernel.specs.Valued.{valued}
+use Rattle.cdcl_kernel.specs.Verdicts.{AreTrueBy, IsSatisfiedBy}
+use Rattle.cdcl_kernel.proofs.Judged.{unsatisfied_open}
+use Rattle.cdcl_kernel.proofs.Valued.{model_from}
 use Rattle.cdcl_kernel.proofs.kernel.Kernel.model_of.Goals as goal
 
 pub returns-in-Some-clause-model : goal.returns-in-Some-clause-model
-returns-in-Some-clause-model c = λ h. unsatisfied_open c.args.self.now.kept c.args.self.now.literals c.in-Some.field-0 c.in-Some.ensures h.clauses
+returns-in-Some-clause-model c =
+    let e : c.as_slice.result.now ≡ valued c.args.self.now.vars c.args.literals.now = c.as_slice.ensures.value ∙ c.in_ok-values.ensures ∙ ap (λ (n : ℕ). valued n c.args.literals.now) c.vars.ensures.value in
+    λ m. unsatisfied_open c.args.self.now.kept c.as_slice.result.now c.in-Some.field-0 c.in-Some.ensures (subst (λ (b : List Bool). All (IsSatisfiedBy b) (added c.args.self.now.kept)) (sym e) m.satisfied)
 
-pub values_of-requires-clause-apart : goal.values_of-requires-clause-apart
-values_of-requires-clause-apart c = rw c.literals.ensures.value c.literals.ensures.apart
+pub returns-then-not-are_true-clause-model : goal.returns-then-not-are_true-clause-model
+returns-then-not-are_true-clause-model c =
+    let e : c.as_slice-2.result.now ≡ valued c.args.self.now.vars c.args.literals.now = c.as_slice-2.ensures.value ∙ c.in_ok-values.ensures ∙ ap (λ (n : ℕ). valued n c.args.literals.now) c.vars.ensures.value in
+    λ m. not_true c.are_true.ensures.1 c.if-not-are_true.true (subst (λ (b : List Bool). AreTrueBy b c.args.assume.now) (sym e) m.assumed)
 
 pub returns-clause-model : goal.returns-clause-model
 returns-clause-model c =
-    let held = rw (← c.self.view_is) at c.in_default.ensures in
-    let assumed = rw (← c.self.view_is) at (c.are_true.ensures.0 c.if-not-are_true.false) in
-    rw (← c.self.view_is) (model_from _ _ _ c.self.inside.trail.literals _ held assumed
-    (c.in_ok-values.ensures.places ∙ ap (λ (n : ℕ). n + 1) (c.vars.ensures.value ∙ c.self.invariant.same_vars))
-    c.in_ok-values.ensures.none
-    (rw c.literals.ensures.value at c.in_ok-values.ensures.are_true))
+    let e : c.in_ok-values.values.items ≡ valued c.args.self.now.vars c.args.literals.now = c.in_ok-values.ensures ∙ ap (λ (n : ℕ). valued n c.args.literals.now) c.vars.ensures.value in
+    let satisfied = rw c.as_slice.ensures.value at c.in_default.ensures in
+    let assumed = rw c.as_slice-2.ensures.value at (c.are_true.ensures.0 c.if-not-are_true.false) in
+    (e, model_from _ _ _ c.args.literals.now _ e satisfied assumed)

@@ -5,6 +5,6 @@ use Rattle.cdcl_kernel.proofs.kernel.Kernel.shows.Goals as goal
 
 pub returns-in-Ok-clause-shown : goal.returns-in-Ok-clause-shown
 returns-in-Ok-clause-shown c = (
-  λ e. rw (← c.self.view_is) (learned_from (known_of c.self.inside.store c.self.inside.trail c.self.inside.reasons.items) _ _ c.self.invariant.follow (c.are_nonzero.ensures.0 c.if-not-are_nonzero.false) c.in-Ok.ensures.accepted),
+  λ e. rw (← c.self.view_is) (learned_from (known_of c.self.inside.store) _ _ c.self.invariant.follow (c.are_nonzero.ensures.0 c.if-not-are_nonzero.false) c.in-Ok.ensures.accepted),
   λ learned. refl,
 )

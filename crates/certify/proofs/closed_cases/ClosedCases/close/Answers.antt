@@ -1,5 +1,5 @@
 use Rattle.std.proofs.Common.{rules, ◌≡◌, subst}
-use Rattle.cdcl.specs.Closings.{IsClosingOf}
+use Rattle.cdcl_log.specs.Closings.{IsClosingOf}
 use Rattle.certify.proofs.Closed.{one_closed}
 use Rattle.certify.proofs.closed_cases.ClosedCases.close.Goals as goal
 

@@ -1,5 +1,5 @@
 use Rattle.std.proofs.Common.{refl, subst}
-use Rattle.cdcl.specs.Closings.{AreLemmas}
+use Rattle.cdcl_log.specs.Closings.{AreLemmas}
 use Rattle.lrat.specs.Lemmas.{base_at}
 use Rattle.certify.proofs.Closed.{units_of}
 use Rattle.certify.proofs.closed_cases.ClosedCases.write.Goals as goal

@@ -1,8 +1,0 @@
-use Rattle.std.proofs.Common.{rules}
-use Rattle.cdcl.proofs.Closings.{closing_opposed}
-use Rattle.cdcl.proofs.closing.opposed_closing.Goals as goal
-
-pub returns : goal.returns
-returns c = λ r.
-    rw (c.from_vec.ensures, c.new.ensures, c.in_ok-push-2.ensures.items, c.in_ok-push.ensures.items, c.new-denied.ensures.items)
-    (closing_opposed c.args.units.now c.args.literal c.place_of-one.result c.place_of-other.result c.place_of-one.ensures.inside (search rules) c.place_of-other.ensures.inside (search rules) r)

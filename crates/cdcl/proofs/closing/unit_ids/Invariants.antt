@@ -1,6 +1,0 @@
-use Rattle.std.proofs.Common.{◌≡◌, map, take}
-use Rattle.cdcl.specs.Units.{unit_id}
-use Rattle.cdcl.proofs.closing.unit_ids.Given as goal
-
-abbrev pub invariant-loop-place : goal.invariant-loop-place
-invariant-loop-place l = l.ids.items ≡ map (unit_id l.numbering.base) (take l.place-index l.places)

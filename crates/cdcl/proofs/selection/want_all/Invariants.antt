@@ -1,7 +1,0 @@
-use Rattle.std.specs.BTreeSet.{contains}
-use Rattle.std.specs.Ordering.{nat_cmp}
-use Rattle.cdcl.proofs.Selecting.{Told}
-use Rattle.cdcl.proofs.selection.want_all.Given as goal
-
-abbrev pub invariant-loop-hint : goal.invariant-loop-hint
-invariant-loop-hint l = Told l.first l.hints (contains nat_cmp l.initial.wanted) (contains nat_cmp l.wanted) l.hint-index

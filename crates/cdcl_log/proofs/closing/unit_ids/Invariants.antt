@@ -1,0 +1,6 @@
+use Rattle.std.proofs.Common.{◌≡◌, map, take}
+use Rattle.cdcl_log.specs.Units.{unit_id}
+use Rattle.cdcl_log.proofs.closing.unit_ids.Given as goal
+
+abbrev pub invariant-loop-place : goal.invariant-loop-place
+invariant-loop-place l = l.ids.items ≡ map (unit_id l.numbering.base) (take l.place-index l.places)

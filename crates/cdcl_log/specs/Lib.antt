@@ -1,0 +1,6 @@
+pub mod Logged
+pub mod Keeping
+pub mod Selected
+pub mod Units
+pub mod Refuting
+pub mod Closings

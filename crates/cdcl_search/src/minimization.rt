@@ -1,0 +1,139 @@
+//! Clause minimization: literals of a learned clause that the others imply.
+//!
+//! A literal is left out where its reason, the reasons of that reason's literals and so on lead
+//! only to literals of the clause and of level 0 (Sörensson and Biere 2009). What is still to be
+//! followed stands in a list and not on the machine's stack. As in MiniSat a literal whose level
+//! has none of the clause's literals ends the search at once.
+
+use crate::analysis::take_step;
+use crate::guide::Guide;
+use base::{Refused, push};
+use cdcl_kernel::Kernel;
+
+/// Leaves the literals out that the others imply, and notes the reasons that show it. The first
+/// literal stays.
+pub fn minimize(kernel: &Kernel, guide: &mut Guide) -> Result<(), Refused> {
+    let levels = levels_of(guide);
+    let mut kept = 1;
+    for at in 1..guide.clause.len() {
+        let Some(literal) = guide.clause.get(at).copied() else {
+            break;
+        };
+        let before = guide.marked.len();
+        if is_implied(kernel, guide, literal, levels)? {
+            note_reasons(kernel, guide, literal, before)?;
+        } else {
+            guide.forget_seen(before);
+            if kept < guide.clause.len() {
+                guide.clause[kept] = literal;
+                kept += 1;
+            }
+        }
+    }
+    guide.clause.truncate(kept);
+    Ok(())
+}
+
+/// One of 64 bits for the literal's level.
+fn level_bit(guide: &Guide, literal: i32) -> u64 {
+    1u64 << (guide.levels.level_of(literal) % 64)
+}
+
+/// The bits of the levels of the clause's literals but the first.
+fn levels_of(guide: &Guide) -> u64 {
+    let mut levels = 0;
+    for at in 1..guide.clause.len() {
+        levels |= level_bit(guide, guide.clause[at]);
+    }
+    levels
+}
+
+/// Whether the reasons behind the literal lead only to what is seen. The literals between are
+/// seen from then on.
+fn is_implied(
+    kernel: &Kernel,
+    guide: &mut Guide,
+    literal: i32,
+    levels: u64,
+) -> Result<bool, Refused> {
+    let mut next = guide.marked.len();
+    if !see_reason(kernel, guide, literal, levels)? {
+        return Ok(false);
+    }
+    for _ in 0..guide.trail.len() {
+        let Some(literal) = guide.marked.get(next).copied() else {
+            return Ok(true);
+        };
+        if !see_reason(kernel, guide, literal, levels)? {
+            return Ok(false);
+        }
+        next = next.saturating_add(1);
+    }
+    Ok(true)
+}
+
+/// Sees the literals of the literal's reason that are above level 0. Answers false where there is
+/// no reason, or one of them has none or is of a level that has none of the clause's literals.
+fn see_reason(
+    kernel: &Kernel,
+    guide: &mut Guide,
+    literal: i32,
+    levels: u64,
+) -> Result<bool, Refused> {
+    let Some(reason) = guide.trail.reason(guide.levels.place_of(literal)) else {
+        return Ok(false);
+    };
+    let Some(clause) = kernel.clause(reason) else {
+        return Ok(false);
+    };
+    for other in clause {
+        if guide.is_seen(*other) || guide.levels.level_of(*other) == 0 {
+            continue;
+        }
+        if level_bit(guide, *other) & levels == 0 {
+            return Ok(false);
+        }
+        if guide.trail.reason(guide.levels.place_of(*other)).is_none() {
+            return Ok(false);
+        }
+        guide.see(*other)?;
+    }
+    Ok(true)
+}
+
+/// Notes the reasons of the literal and of those that were seen since.
+fn note_reasons(
+    kernel: &Kernel,
+    guide: &mut Guide,
+    literal: i32,
+    before: usize,
+) -> Result<(), Refused> {
+    let end = guide.marked.len();
+    note_reason(kernel, guide, literal)?;
+    for at in before..end {
+        if let Some(between) = guide.marked.get(at).copied() {
+            note_reason(kernel, guide, between)?;
+        }
+    }
+    Ok(())
+}
+
+/// Notes the literal's reason, and hints what that needs of level 0.
+fn note_reason(kernel: &Kernel, guide: &mut Guide, literal: i32) -> Result<(), Refused> {
+    let place = guide.levels.place_of(literal);
+    let Some(reason) = guide.trail.reason(place) else {
+        return Ok(());
+    };
+    take_step(guide, place, reason)?;
+    let Some(clause) = kernel.clause(reason) else {
+        return Ok(());
+    };
+    for other in clause {
+        if guide.levels.level_of(*other) == 0 && !guide.is_seen(*other) {
+            guide.see(*other)?;
+            let unit = guide.unit_of(*other);
+            push(&mut guide.hints, unit)?;
+        }
+    }
+    Ok(())
+}

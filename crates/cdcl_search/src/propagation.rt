@@ -1,0 +1,231 @@
+//! What follows from the literals on the trail.
+//!
+//! For each literal that came on the trail the clauses that watch its negation are looked at. One
+//! with another literal to watch is watched there; of one with a single literal left, that
+//! literal comes on the trail; one that is false is a conflict. Clauses of two or three literals come
+//! first, since their watches tell which of them need not be looked at. Each clause looked at is a step of the
+//! budget; a clause whose blocker is true is not looked at.
+
+ghost use Rattle.base.specs.Budget.{Spends};
+
+use crate::guide::Guide;
+use crate::look::{Found, replacement};
+use crate::short_lists::Short;
+use crate::units::imply;
+use crate::values::{Value, code_of, literal_of};
+use crate::watches::Watch;
+use base::{Budget, Refused};
+use cdcl_kernel::Kernel;
+
+/// How a propagation ended.
+#[derive(Clone, Copy)]
+pub enum Propagated {
+    /// nothing more follows
+    Quiet,
+    /// the clause is false
+    Conflict(u32),
+    /// the budget is exhausted
+    Spent,
+}
+
+/// What becomes of a watch.
+#[derive(Clone, Copy)]
+enum Visit {
+    /// the clause goes on watching the literal, beside this blocker
+    Stays(i32),
+    /// the clause watches another literal, or is gone
+    Goes,
+    /// the clause is false
+    Conflict,
+}
+
+/// What the values leave of a short clause beside a literal that is false.
+#[derive(Clone, Copy)]
+enum Left {
+    /// it need not be looked at
+    Idle,
+    /// the open literal with this code alone
+    Unit(u32),
+    /// nothing
+    Conflict,
+}
+
+/// Looks at the clauses of which a watched literal became false, until nothing more follows.
+pub fn propagate(
+    kernel: &Kernel,
+    guide: &mut Guide,
+    budget: &mut Budget,
+) -> Result<Propagated, Refused>
+    ensures { Spends budget.old budget.new }
+{
+    for _ in 0..kernel.vars() as u64 + 1 {
+        let Some(literal) = guide.trail.literal(guide.head) else {
+            return Ok(Propagated::Quiet);
+        };
+        match propagate_literal(kernel, guide, budget, literal.wrapping_neg())? {
+            Propagated::Quiet => guide.head = guide.head.saturating_add(1),
+            Propagated::Conflict(id) => return Ok(Propagated::Conflict(id)),
+            Propagated::Spent => return Ok(Propagated::Spent),
+        }
+    }
+    Ok(Propagated::Quiet)
+}
+
+/// Looks at the clauses that watch a literal, which is false.
+fn propagate_literal(
+    kernel: &Kernel,
+    guide: &mut Guide,
+    budget: &mut Budget,
+    denied: i32,
+) -> Result<Propagated, Refused>
+    ensures { Spends budget.old budget.new }
+{
+    match visit_short(guide, budget, denied)? {
+        Propagated::Quiet => {}
+        outcome => return Ok(outcome),
+    }
+    let Some(mut list) = guide.watches.take(denied) else {
+        return Ok(Propagated::Quiet);
+    };
+    let outcome = visit_long(kernel, guide, budget, denied, &mut list);
+    guide.watches.put(denied, list);
+    outcome
+}
+
+/// Whether a clause with this blocker need not be looked at: the blocker is true; or it has no value and is not of the
+/// part in question, above level 0, so that the clause may stay as it is.
+#[inline]
+fn is_passed_over(guide: &Guide, blocker: u32) -> bool {
+    match guide.values.of(blocker) {
+        Value::True => true,
+        Value::False => false,
+        Value::Open => guide.is_left_out(blocker),
+    }
+}
+
+/// What is left of a short clause. It need not be looked at where it has a true literal, or two open ones; or where the one
+/// open literal that it leaves is not of the part in question, above level 0.
+#[inline]
+fn left_of(guide: &Guide, watch: Short) -> Left {
+    let first = guide.values.of(watch.first);
+    let second = guide.values.of(watch.second);
+    let chances = first.chance() + second.chance();
+    if chances > 1 {
+        return Left::Idle;
+    }
+    if chances == 0 {
+        return Left::Conflict;
+    }
+    let open = if first == Value::Open {
+        watch.first
+    } else {
+        watch.second
+    };
+    if guide.is_part && guide.is_left_out(open) {
+        Left::Idle
+    } else {
+        Left::Unit(open)
+    }
+}
+
+/// Looks at the clauses of two or three literals that have this one. What one of them leaves comes on the trail without a
+/// look at the clause itself.
+fn visit_short(guide: &mut Guide, budget: &mut Budget, denied: i32) -> Result<Propagated, Refused>
+    ensures { Spends budget.old budget.new }
+{
+    for at in 0..guide.watches.short(denied).len() {
+        let Some(watch) = guide.watches.short(denied).get(at).copied() else {
+            break;
+        };
+        let left = left_of(guide, watch);
+        if let Left::Idle = left {
+            continue;
+        }
+        if !budget.tick() {
+            return Ok(Propagated::Spent);
+        }
+        let Left::Unit(open) = left else {
+            return Ok(Propagated::Conflict(watch.id));
+        };
+        guide.enqueue(literal_of(open), Some(watch.id))?;
+    }
+    Ok(Propagated::Quiet)
+}
+
+/// Looks at the longer clauses that watch the literal. Those that go on watching it stay in the
+/// list, in order.
+fn visit_long(
+    kernel: &Kernel,
+    guide: &mut Guide,
+    budget: &mut Budget,
+    denied: i32,
+    list: &mut Vec<Watch>,
+) -> Result<Propagated, Refused>
+    ensures { Spends budget.old budget.new }
+{
+    let mut kept = 0;
+    for at in 0..list.len() {
+        let watch = list[at];
+        if is_passed_over(guide, watch.blocker) {
+            list[kept] = watch;
+            kept += 1;
+            continue;
+        }
+        if !budget.tick() {
+            close_gap(list, kept, at);
+            return Ok(Propagated::Spent);
+        }
+        match look_at(kernel, guide, denied, watch.id)? {
+            Visit::Goes => {}
+            Visit::Stays(blocker) => {
+                list[kept] = Watch {
+                    id: watch.id,
+                    blocker: code_of(blocker),
+                };
+                kept += 1;
+            }
+            Visit::Conflict => {
+                close_gap(list, kept, at);
+                return Ok(Propagated::Conflict(watch.id));
+            }
+        }
+    }
+    list.truncate(kept);
+    Ok(Propagated::Quiet)
+}
+
+/// Moves the items from `from` on down to `to`.
+fn close_gap(list: &mut Vec<Watch>, to: usize, from: usize) {
+    if to == from {
+        return;
+    }
+    let mut kept = to;
+    for at in from..list.len() {
+        let watch = list[at];
+        if kept < list.len() {
+            list[kept] = watch;
+            kept += 1;
+        }
+    }
+    list.truncate(kept);
+}
+
+/// Looks at a clause that watches a literal which is false.
+fn look_at(kernel: &Kernel, guide: &mut Guide, denied: i32, id: u32) -> Result<Visit, Refused> {
+    let other = guide.watches.other(id, denied);
+    if guide.values.is_true(other) {
+        return Ok(Visit::Stays(other));
+    }
+    if let Some(next) = replacement(kernel, &guide.values, id, other) {
+        if guide.values.is_true(next) {
+            return Ok(Visit::Stays(next));
+        }
+        guide.watches.replace(id, other, next)?;
+        return Ok(Visit::Goes);
+    }
+    match imply(kernel, guide, id)? {
+        Found::Missing => Ok(Visit::Goes),
+        Found::Conflict => Ok(Visit::Conflict),
+        _ => Ok(Visit::Stays(other)),
+    }
+}
