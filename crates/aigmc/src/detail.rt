@@ -1,8 +1,8 @@
 //! The second line of a fault: which file it is about, and why.
 
 use crate::explaining::meaning;
-use crate::progress::is_terminal;
-use crate::stop::{Has, Role, Stop};
+use aigmc_commands::is_terminal;
+use aigmc_files::{Has, Role, Stop};
 use arguments::Request;
 use graph::Property;
 

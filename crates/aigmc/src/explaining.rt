@@ -1,6 +1,6 @@
 //! What the numbers of faults mean.
 
-use crate::stop::{DONE, Stop, finished};
+use aigmc_files::{DONE, Stop, finished};
 
 /// What a number means, and what to do.
 struct Row {

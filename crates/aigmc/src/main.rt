@@ -52,44 +52,21 @@
 //! status is 0, and 3 where the command failed.
 #![tactic(auto)]
 
-mod adopting;
-mod checking;
-mod counterexample;
 mod detail;
 mod explaining;
-mod files;
-mod making;
-mod progress;
-mod relevant;
-mod shadow;
-mod stop;
-mod tracing;
-mod witnessing;
 
-use adopting::{certify_clauses, make_fitting, make_shadow};
+use aigmc_commands::{
+    certify_clauses, check, check_all, make_fitting, make_shadow, make_witness, trace,
+};
+use aigmc_files::{DONE, FAULT, Stop, circuit, finished, print_table, stimulus_of, tell};
 use arguments::{AskedLayout, Request, Wrong, parse};
 use base::push;
-use checking::{check, check_all};
-use cli::{CliError, Layout, ready};
+use cli::Layout;
 use detail::tell_detail;
 use explaining::explain;
-use files::{circuit, print_table, stimulus_of};
-use graph::AigerFile;
 use inputs::is_standard;
-use std::alloc::Global;
 use std::env;
 use std::process::ExitCode;
-use stop::{DONE, FAULT, Stop, finished, tell};
-use tracing::trace;
-use witnessing::make_witness;
-
-/// The circuit as the layout takes it: for the binary one in its numbering.
-fn fitting(alloc: Global, file: AigerFile, layout: Layout) -> Result<AigerFile, CliError> {
-    match layout {
-        Layout::Ascii => Ok(file),
-        Layout::Binary => ready(alloc, file).map_err(CliError::from),
-    }
-}
 
 /// The layout that is asked for, by itself or by the name of the file to make.
 fn layout_of(asked: AskedLayout, out: &str) -> Option<Layout> {

@@ -2,13 +2,11 @@
 
 use crate::checking::{ask, is_taken};
 use crate::counterexample::tell_counterexample;
-use crate::files::{circuit, keep, make, read_text};
-use crate::fitting;
 use crate::shadow::shadow_file;
-use crate::stop::{DONE, Role, Stop, about, read_of};
+use aigmc_files::{DONE, Role, Stop, about, circuit, keep, make, read_of, read_text};
 use arguments::{Claim, EngineKind, Search, Shadow};
 use certify::{Certified, certify};
-use cli::{Layout, Verdict, property_named};
+use cli::{CliError, Layout, Verdict, property_named, ready};
 use graph::{AigerFile, Budget, Lit, Property, Seq};
 use inputs::is_standard;
 use std::alloc::Global;
@@ -160,6 +158,14 @@ pub fn certify_clauses(rt: &HostRuntime, asked: Claim<'_>) -> Result<u8, Stop> {
 fn shadow_of(rt: &HostRuntime, name: &str, position: u32) -> Result<AigerFile, Stop> {
     let file = circuit(rt, name)?;
     about(Role::Circuit, shadow_file(rt.alloc(), &file, position))
+}
+
+/// The circuit as the layout takes it: for the binary one in its numbering.
+fn fitting(alloc: Global, file: AigerFile, layout: Layout) -> Result<AigerFile, CliError> {
+    match layout {
+        Layout::Ascii => Ok(file),
+        Layout::Binary => ready(alloc, file).map_err(CliError::from),
+    }
 }
 
 /// Makes the file of that name, in its layout.

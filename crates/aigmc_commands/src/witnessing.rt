@@ -1,8 +1,9 @@
 //! The command `witness`: a counterexample of another tool becomes a strict stimulus.
 
 use crate::checking::is_taken;
-use crate::files::{circuit, make_bytes, make_stimulus, read_text};
-use crate::stop::{DONE, Role, Stop, about, finished, read_of};
+use aigmc_files::{
+    DONE, Role, Stop, about, circuit, finished, make_bytes, make_stimulus, read_of, read_text,
+};
 use arguments::Counterexample;
 use cli::property_named;
 use graph::{AigerFile, Model, Property};

@@ -1,6 +1,6 @@
 //! The shadow circuit of a justice property as a file, with names.
 
-use crate::stop::Stop;
+use aigmc_files::Stop;
 use base::{Refused, extend, push};
 use graph::{AigerFile, Seq, Symbol, SymbolKind};
 use live_safe::to_safety;

@@ -1,6 +1,6 @@
 //! What satisfies a case of clauses that are no invariant, in words.
 
-use crate::stop::Stop;
+use aigmc_files::Stop;
 use certify::{Case, Counterexample};
 use graph::{Model, Property};
 use live_safe::to_safety;

@@ -1,10 +1,11 @@
 //! The commands `check` and `all`.
 
-use crate::files::{circuit, keep, path_of, print};
-use crate::making::{expect_folder, is_same};
 use crate::progress::{Reporter, Shown, conclude};
 use crate::relevant::relevant_clauses;
-use crate::stop::{DONE, Has, NO_PROPERTY, Role, Stop, about, at};
+use aigmc_files::{
+    DONE, Has, NO_PROPERTY, Role, Stop, about, at, circuit, expect_folder, is_same, keep, path_of,
+    print,
+};
 use arguments::{EngineKind, Search};
 use base::{boxed, push};
 use bmc::Bmc;

@@ -1,8 +1,6 @@
 //! The command `trace`.
 
-use crate::files::{circuit, make_waveform, path_of, print_trace, stimulus_of};
-use crate::making::is_same;
-use crate::stop::{DONE, Stop};
+use aigmc_files::{DONE, Stop, circuit, is_same, make_waveform, path_of, print_trace, stimulus_of};
 use inputs::is_standard;
 
 /// Whether the file to make is the one that is read by that name.

@@ -1,0 +1,17 @@
+//! The commands of `aigmc` that look for evidence, make it of what other engines found, or show it.
+#![tactic(auto)]
+
+mod adopting;
+mod checking;
+mod counterexample;
+mod progress;
+mod relevant;
+mod shadow;
+mod tracing;
+mod witnessing;
+
+pub use adopting::{certify_clauses, make_fitting, make_shadow};
+pub use checking::{check, check_all};
+pub use progress::is_terminal;
+pub use tracing::trace;
+pub use witnessing::make_witness;

@@ -1,0 +1,16 @@
+//! What the commands of `aigmc` read, print and make, and why one was not done.
+//!
+//! A file is made whole or not at all. A refusal keeps its number and its place, and which of the command's files
+//! it is about.
+#![tactic(auto)]
+
+mod files;
+mod making;
+mod stop;
+
+pub use files::{
+    circuit, keep, make, make_bytes, make_stimulus, make_waveform, path_of, print, print_table,
+    print_trace, read_text, stimulus_of,
+};
+pub use making::{expect_folder, is_same};
+pub use stop::{DONE, FAULT, Has, NO_PROPERTY, Role, Stop, about, at, finished, read_of, tell};
