@@ -133,10 +133,10 @@ fn left_of(guide: &Guide, watch: Short) -> Left {
 fn visit_short(guide: &mut Guide, budget: &mut Budget, denied: i32) -> Result<Propagated, Refused>
     ensures { Spends budget.old budget.new }
 {
-    for at in 0..guide.watches.short(denied).len() {
-        let Some(watch) = guide.watches.short(denied).get(at).copied() else {
-            break;
-        };
+    // where they lie is read once: what comes on the trail moves none of them
+    let span = guide.watches.short_span(denied);
+    for at in 0..span.len {
+        let watch = guide.watches.short_at(span, at);
         let left = left_of(guide, watch);
         if let Left::Idle = left {
             continue;

@@ -35,7 +35,7 @@ pub struct Span {
     /// the place of the first one in the list
     start: u32,
     /// how many there are
-    len: u32,
+    pub len: u32,
     /// for how many there is room
     room: u32,
 }
@@ -66,6 +66,12 @@ impl ShortLists {
     pub fn of(&self, span: Span) -> &[Short] {
         let start = span.start as usize;
         self.items.part(start, start + span.len as usize)
+    }
+
+    /// The clause at a place of a span, or none of any literal past the list's end.
+    #[inline]
+    pub fn at(&self, span: Span, at: u32) -> Short {
+        self.items.at(span.start as usize + at as usize, NONE)
     }
 
     /// Adds a clause to a span, and answers the span with it. A full span whose new place would be no number of 32 bits

@@ -117,13 +117,19 @@ impl Watches {
         self.pairs.len()
     }
 
-    /// The clauses of two or three literals that have this one.
+    /// Where the clauses of two or three literals lie that have this one.
     #[inline]
-    pub fn short(&self, literal: i32) -> &[Short] {
+    pub fn short_span(&self, literal: i32) -> Span {
         match self.lists.get(index_of(literal)) {
-            Some(lists) => self.shorts.of(lists.short),
-            None => &[],
+            Some(lists) => lists.short,
+            None => EMPTY,
         }
+    }
+
+    /// A clause of such a span.
+    #[inline]
+    pub fn short_at(&self, span: Span, at: u32) -> Short {
+        self.shorts.at(span, at)
     }
 
     /// Takes the list of the longer clauses that watch the literal out, where there are any.
