@@ -1,6 +1,6 @@
 //! Literals that are made of others: constants are folded, and what is equal is shared (structural hashing).
 
-ghost use Rattle.std.specs.Prelude.{◌≡◌, ◌≢◌, ◌+◌, ◌<◌, ◌≤◌, ◌^◌, ◌++◌, ◌∷◌, [], ◌&&◌, ℕ, ℤ, Bool, true, None, pos, negsuc, neg_ℤ, unsigned_abs, OnOk, IfOk, IfSome, ◌⊎◌, length};
+ghost use Rattle.std.specs.Prelude.{◌≡◌, ◌≢◌, ◌+◌, ◌<◌, ◌≤◌, ◌^◌, ◌++◌, ◌∷◌, [], ◌&&◌, ℕ, ℤ, Bool, true, None, pos, negsuc, unsigned_abs, OnOk, IfOk, IfSome, ◌⊎◌, length};
 ghost use Rattle.std.specs.HashMap.{get};
 ghost use Rattle.lrat.specs.Literals.{IsLiteral, is_true};
 ghost use Rattle.bmc.specs.Encodings.{AreSides, IsConjunctionIn, IsEncoding, IsGate, IsGrown, IsInner, IsMultiplexer, IsSelection, rights_at, same_pair};

@@ -3,10 +3,10 @@
 ghost use Rattle.std.specs.Prelude.{IsTrue, ◌↔◌, MatchOption, ◌≡◌, ◌≤◌, ◌+◌, ◌++◌, ◌∷◌, [], All, OnOk, OnErr, IfErr, length};
 ghost use Rattle.lrat.specs.Literals.{IsLiteral};
 ghost use Rattle.cdcl_kernel.specs.Forgotten.{Forgets};
-ghost use Rattle.cdcl_kernel.specs.Kept.{Kept, find_in, origin_in, without, added};
+ghost use Rattle.cdcl_kernel.specs.Kept.{find_in, origin_in, without, added};
 ghost use Rattle.cdcl_kernel.specs.Verdicts.{IsSatisfiedBy, SatisfiesOf, IsUnsatisfied};
 ghost use Rattle.cdcl_kernel.specs.declared.origin.Origin.TheVariants.{Removed};
-ghost use Rattle.solver.specs.declared.sat_error.SatError.TheVariants.{Limit, OutOfMemory};
+ghost use Rattle.solver.specs.declared.sat_error.SatError.TheVariants.{Limit};
 ghost use Rattle.solver.specs.Full.{full};
 
 use crate::origin::Origin;

@@ -1,6 +1,6 @@
 //! The clauses of a formula in a kernel.
 
-ghost use Rattle.std.specs.Prelude.{◌≡◌, ◌≢◌, IfErr, IfOk, OnOk, map};
+ghost use Rattle.std.specs.Prelude.{◌≡◌, ◌≢◌, IfErr, IfOk, map};
 ghost use Rattle.cdcl_log.specs.Logged.{as_added};
 ghost use Rattle.lrat.specs.Limits.{IsFormula};
 ghost use Rattle.solver.specs.declared.sat_error.SatError.TheVariants.{Limit};

@@ -18,7 +18,7 @@ ghost use Rattle.cdcl_kernel.specs.Verdicts.{IsOpposed};
 ghost use Rattle.lrat.specs.Limits.{IsFormula};
 ghost use Rattle.lrat.specs.Literals.{IsLiteral};
 ghost use Rattle.lrat.specs.Proofs.{IsAcceptedProof};
-ghost use Rattle.solver.specs.Answers.{IsCore, IsModel};
+ghost use Rattle.solver.specs.Answers.{IsCore};
 ghost use Rattle.solver.specs.declared.sat_error.SatError.TheVariants.{Limit, OutOfMemory};
 ghost use Rattle.solver.specs.Full.{full};
 ghost use Rattle.base.specs.Witness.{witness};

@@ -4,7 +4,6 @@ ghost use Rattle.base.specs.Witness.{witness};
 ghost use Rattle.std.specs.Prelude.{◌≡◌, ◌<◌, ◌≤◌, ◌+◌, ◌*◌, ◌^◌, ◌++◌, ◌⊎◌, All, flat_map, IfOk, IfErr, OnOk};
 ghost use Rattle.lrat.specs.Limits.{IsFormula};
 ghost use Rattle.lrat.specs.Literals.{IsLiteral};
-ghost use Rattle.graph.specs.WellFormed.{IsWellFormed};
 ghost use Rattle.cnf.specs.Clauses.{time_clauses};
 ghost use Rattle.cnf.specs.Formulas.{IsInRange, IsOver};
 ghost use Rattle.cnf.specs.Unrolled.{join_clauses, times_from, unroll_clauses as unroll_list, unroll_formula, IsExtension, UnrollLaw};

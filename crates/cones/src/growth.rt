@@ -1,6 +1,6 @@
 //! Cones that grow from question to question.
 
-ghost use Rattle.std.specs.Prelude.{◌≡◌, ℕ, ◌+◌, ◌≤◌, ◌++◌, ℤ, List, length, flat_map, All, Contains, IfOk, OnOk};
+ghost use Rattle.std.specs.Prelude.{◌≡◌, ◌+◌, ◌≤◌, ◌++◌, ℤ, List, length, flat_map, All, Contains, IfOk, OnOk};
 ghost use Rattle.graph.specs.Valuation.{variable};
 ghost use Rattle.cnf.specs.Clauses.{gate_clauses};
 ghost use Rattle.cones.specs.Marks.{IsMarked, IsCone};

@@ -1,8 +1,7 @@
 //! Worked formulas: both solvers answer them rightly, and what is refuted has an accepted proof.
 
-ghost use Rattle.std.specs.Prelude.{◌≡◌, ◌≤◌, ◌↔◌, IsTrue, length, All, OnOk, IfOk};
+ghost use Rattle.std.specs.Prelude.{◌≡◌, ◌≤◌, ◌↔◌, length, OnOk, IfOk};
 ghost use Rattle.lrat.specs.Limits.{IsFormula};
-ghost use Rattle.lrat.specs.Literals.{IsLiteral};
 
 mod formulas;
 

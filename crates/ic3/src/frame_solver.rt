@@ -5,7 +5,6 @@ ghost use Rattle.base.specs.Budget.{Spends};
 ghost use Rattle.graph.specs.declared.parts.Parts.{Parts};
 ghost use Rattle.cnf.specs.Formulas.{bad_literal};
 ghost use Rattle.ic3_step.specs.States.{Holds};
-ghost use Rattle.ic3_step.specs.Contents.{HasGuards};
 ghost use Rattle.ic3_frames.specs.declared.frames.Entry.{Entry as Item};
 ghost use Rattle.ic3_frames.specs.Frames.{InFrame, AreFrames, IsStateClause};
 ghost use Rattle.ic3.specs.Sound.{HasFrames, IsSound};

@@ -96,7 +96,7 @@ impl Frames {
         false
     }
 
-    /// Adds a clause to the frames up to `level`, and drops the clauses that it makes subsumption
+    /// Adds a clause to the frames up to `level`, and drops the clauses that it subsumes
     /// there: those of a level no greater that have all its literals. It takes a search for each such
     /// clause, and more only where first literals agree. A refusal changes nothing.
     pub fn add(&mut self, clause: Seq<StateLit>, level: u32) -> Result<(), Refused>

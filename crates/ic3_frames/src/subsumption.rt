@@ -1,4 +1,4 @@
-//! A clause more, and those that it makes subsumption.
+//! A clause more, and those that it subsumes.
 
 ghost use Rattle.std.specs.Prelude.{◌≡◌, ◌⊎◌, ◌≤◌, IsTrue, All, Contains, OnOk, OnErr};
 ghost use Rattle.std.specs.Vec.{vec_len, vec_capacity};
@@ -38,7 +38,7 @@ fn is_subsumed(entry: &Entry, clause: &[StateLit], level: u32) -> bool
     entry.level <= level && is_part(clause, entry.clause.as_slice())
 }
 
-/// Leaves the entries that are not subsumption beside the clause.
+/// Leaves the entries that the clause does not subsume.
 fn remove_subsumed(entries: &mut Vec<Entry>, clause: &[StateLit], level: u32)
     ensures only { All (Contains entries.old.items) entries.new.items }
     ensures each { All (λ e. Contains entries.new.items e ⊎ IsSubsumed clause.now level e) entries.old.items }
@@ -56,7 +56,7 @@ fn remove_subsumed(entries: &mut Vec<Entry>, clause: &[StateLit], level: u32)
     entries.truncate(kept);
 }
 
-/// Adds a clause, and drops those that it makes subsumption.
+/// Adds a clause, and drops those that it subsumes.
 pub(crate) fn insert(
     entries: &mut Vec<Entry>,
     clause: Seq<StateLit>,

@@ -1,14 +1,12 @@
 //! The clauses that are needed, by a work list.
 
-ghost use Rattle.std.specs.Prelude.{◌≡◌, ◌<◌, ◌≤◌, ◌+◌, ℕ, IsTrue, List, length, All, Contains, IfOk, IfSome};
+ghost use Rattle.std.specs.Prelude.{◌≡◌, ◌<◌, ◌≤◌, ◌+◌, ℕ, IsTrue, length, All, Contains, IfOk, IfSome};
 ghost use Rattle.base.specs.Budget.{Spends};
 ghost use Rattle.graph.specs.WellFormed.{used};
-ghost use Rattle.cnf.specs.Clauses.{bad_units};
 ghost use Rattle.cnf.specs.Formulas.{IsOverLatches};
 ghost use Rattle.cnf.specs.Invariants.{IsInductive};
-ghost use Rattle.cnf.specs.Tables.{IsTableOf};
 ghost use Rattle.inductive_subset.specs.Guards.{IsLoaded, IsMarked, IsFor};
-ghost use Rattle.inductive_subset.specs.Subsets.{IsExcluded, IsHeld, AreMarked};
+ghost use Rattle.inductive_subset.specs.Subsets.{IsHeld, AreMarked};
 
 use crate::asking::ask;
 use crate::loading::load;

@@ -1,7 +1,6 @@
 //! ABC's PLA: cubes of states that are not reached.
 
-ghost use Rattle.base.specs.Witness.{witness};
-ghost use Rattle.std.specs.Prelude.{◌≡◌, List, false, IfOk, MatchResult};
+ghost use Rattle.std.specs.Prelude.{◌≡◌, List, false, IfOk};
 ghost use Rattle.scan.specs.Reading.{Gives};
 ghost use Rattle.graph.specs.declared.circuit.Lit.{Lit as ALit};
 ghost use Rattle.invariant.specs.Plas.{NegationLaw, SpellsPla, behind_comments};

@@ -1,6 +1,6 @@
 //! Clauses by their ids.
 
-ghost use Rattle.std.specs.Prelude.{◌≡◌, None, OnOk, OnErr, IfSome, All, option_map};
+ghost use Rattle.std.specs.Prelude.{◌≡◌, None, OnOk, OnErr, All};
 ghost use Rattle.std.specs.FinMap as fin;
 ghost use Rattle.lrat.specs.Literals.{IsLiteral};
 ghost use Rattle.lrat.specs.Store.{find_in};

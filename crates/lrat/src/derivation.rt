@@ -1,8 +1,8 @@
 //! One line of a proof.
 
 ghost use Rattle.base.specs.Witness.{witness};
-ghost use Rattle.std.specs.Prelude.{◌≡◌, ◌≢◌, ◌<◌, ◌^◌, ℕ, ℤ, pos, neg_ℤ, Bool, List, [], map, All, MatchResult, IfOk, IfErr};
-ghost use Rattle.lrat.specs.Literals.{IsLiteral, IsProper, IsSatisfied, Satisfies};
+ghost use Rattle.std.specs.Prelude.{◌≡◌, ◌≢◌, ◌<◌, ◌^◌, ℕ, pos, neg_ℤ, Bool, [], map, All, MatchResult, IfOk, IfErr};
+ghost use Rattle.lrat.specs.Literals.{IsProper, IsSatisfied, Satisfies};
 ghost use Rattle.lrat.specs.Lines.{Leads, Conflicts, IsAcceptedLine};
 ghost use Rattle.lrat.specs.Refusals.{IsRefusedLine};
 ghost use Rattle.lrat.specs.Store.{find_in};
@@ -11,6 +11,7 @@ ghost use Rattle.lrat.specs.Faults.{IsImproper, StopsWithin, StopsLast};
 
 use crate::clauses::Clauses;
 use crate::fault::Fault;
+use crate::hint::Hint;
 use crate::look::{Left, look};
 use crate::lookup::Lookup;
 use crate::step_error::StepError;
@@ -36,6 +37,24 @@ pub fn derive_with<C: Lookup>(
     ensures refused { IfErr result (λ e. IsRefusedLine (C.vars clauses.now) (C.find clauses.now) clause.now hints.now e) }
     ensures complete { IfErr result (λ e. e ≢ OutOfMemory witness → IsAcceptedLine (C.vars clauses.now) (C.find clauses.now) clause.now hints.now → ⊥) }
     ensures sound { IfOk result (λ _. (v : ℕ → Bool) → Satisfies v (C.find clauses.now) → IsSatisfied v clause.now) }
+{
+    derive_hinted(trail, clauses, clause, hints)
+}
+
+/// `derive_with` by hints as the line has them.
+pub(crate) fn derive_hinted<C: Lookup, H: Hint>(
+    trail: &mut Trail,
+    clauses: &C,
+    clause: &[i32],
+    hints: &[H],
+) -> Result<(), Fault>
+    requires same_vars { trail.old.vars ≡ C.vars clauses.now }
+    requires clear { trail.old.literals ≡ [] }
+    requires not_zero { All (λ l. l ≢ pos 0) clause.now }
+    requires allowed { All H.allows hints.now }
+    ensures same { trail.new ≡ trail.old }
+    ensures accepted { IfOk result (λ _. IsAcceptedLine (C.vars clauses.now) (C.find clauses.now) clause.now (map H.named hints.now)) }
+    ensures refused { IfErr result (λ e. IsRefusedLine (C.vars clauses.now) (C.find clauses.now) clause.now (map H.named hints.now) e) }
 {
     let answer = check(trail, clauses, clause, hints);
     trail.clear();
@@ -69,25 +88,26 @@ pub fn derive(
 }
 
 /// What `derive_with` answers. The trail stays as the check left it.
-fn check<C: Lookup>(
+fn check<C: Lookup, H: Hint>(
     trail: &mut Trail,
     clauses: &C,
     clause: &[i32],
-    hints: &[u32],
+    hints: &[H],
 ) -> Result<(), Fault>
     requires same_vars { trail.old.vars ≡ C.vars clauses.now }
     requires clear { trail.old.literals ≡ [] }
     requires not_zero { All (λ l. l ≢ pos 0) clause.now }
+    requires allowed { All H.allows hints.now }
     ensures vars { trail.new.vars ≡ trail.old.vars }
-    ensures accepted { IfOk result (λ _. IsAcceptedLine (C.vars clauses.now) (C.find clauses.now) clause.now hints.now) }
-    ensures refused { IfErr result (λ e. IsRefusedLine (C.vars clauses.now) (C.find clauses.now) clause.now hints.now e) }
+    ensures accepted { IfOk result (λ _. IsAcceptedLine (C.vars clauses.now) (C.find clauses.now) clause.now (map H.named hints.now)) }
+    ensures refused { IfErr result (λ e. IsRefusedLine (C.vars clauses.now) (C.find clauses.now) clause.now (map H.named hints.now) e) }
 {
     suppose(trail, clause)?;
     let Some((last, first)) = hints.split_last() else {
         return Err(Fault::NoHints);
     };
     follow(trail, clauses, first)?;
-    conclude(trail, clauses, *last)
+    conclude(trail, clauses, last.id())
 }
 
 /// Supposes the clause's literals false, in order. None may be repeated or opposed.
@@ -112,13 +132,14 @@ fn suppose(trail: &mut Trail, clause: &[i32]) -> Result<(), Fault>
 
 /// Sets the one literal that the clause of each hint leaves.
 #[inline(never)]
-fn follow<C: Lookup>(trail: &mut Trail, clauses: &C, hints: &[u32]) -> Result<(), Fault>
-    requires { trail.old.vars ≡ C.vars clauses.now }
+fn follow<C: Lookup, H: Hint>(trail: &mut Trail, clauses: &C, hints: &[H]) -> Result<(), Fault>
+    requires same_vars { trail.old.vars ≡ C.vars clauses.now }
+    requires allowed { All H.allows hints.now }
     ensures vars { trail.new.vars ≡ trail.old.vars }
-    ensures answer { MatchResult result (λ _. Leads (C.find clauses.now) trail.old.literals hints.now trail.new.literals) (λ e. StopsWithin (C.find clauses.now) trail.old.literals hints.now e) }
+    ensures answer { MatchResult result (λ _. Leads (C.find clauses.now) trail.old.literals (map H.named hints.now) trail.new.literals) (λ e. StopsWithin (C.find clauses.now) trail.old.literals (map H.named hints.now) e) }
 {
     for hint in hints {
-        let Some(clause) = clauses.get(*hint) else {
+        let Some(clause) = clauses.get(hint.id()) else {
             return Err(Fault::UnknownId);
         };
         match look(trail, clause) {

@@ -25,6 +25,7 @@ mod derivation;
 mod extension;
 mod fault;
 mod formula;
+mod hint;
 mod line;
 mod line_buffer;
 mod line_ref;

@@ -1,25 +1,25 @@
 //! Proofs, checked line by line.
 
 ghost use Rattle.base.specs.Witness.{witness};
-ghost use Rattle.std.specs.Prelude.{◌≡◌, ◌≢◌, ◌+◌, ◌≤◌, ◌<◌, ◌^◌, ◌⊎◌, ◌↔◌, Bool, true, false, [], None, Some, map, length, All, IfOk, IfErr, IfSome, IsTrue, OnOk, OnErr, unsigned_abs};
+ghost use Rattle.std.specs.Prelude.{◌≡◌, ◌≢◌, ◌+◌, ◌≤◌, ◌<◌, ◌^◌, ◌⊎◌, ◌↔◌, true, false, [], None, Some, length, All, IfOk, IfErr, IfSome, IsTrue, OnOk};
 ghost use Rattle.lrat.specs.Buffered.{lent_line};
 ghost use Rattle.lrat.specs.Courses.{at_formula, at_units};
 ghost use Rattle.lrat.specs.Halts.{Halts, LacksOne};
 ghost use Rattle.lrat.specs.Lemmas.{AddsEmpty, IsNoLemma, base_at};
-ghost use Rattle.lrat.specs.Limits.{IsFormula, IsHint, IsId, IsLine};
+ghost use Rattle.lrat.specs.Limits.{IsFormula, IsHint, IsLine};
 ghost use Rattle.lrat.specs.Literals.{IsLiteral};
 ghost use Rattle.lrat.specs.Stages.{Stage, Goes, IsPositive, TakesOut};
 ghost use Rattle.lrat.specs.declared.fault.Fault.TheVariants.{OutOfMemory, NegativeHint, NoEmptyClause, NoIds, UnknownId};
 ghost use Rattle.lrat.specs.declared.line.Line.TheVariants.{Add};
 
 use crate::clause_row::ClauseRow;
-use crate::derivation::derive_with;
+use crate::derivation::derive_hinted;
 use crate::fault::Fault;
 use crate::formula::Formula;
 use crate::line_ref::LineRef;
 use crate::stack::Stack;
 use crate::trail::Trail;
-use base::{Refused, push};
+use base::Refused;
 use std::alloc::Global;
 use std::marker::Model;
 
@@ -27,18 +27,15 @@ use std::marker::Model;
 /// Lemmas may come first: lines that all later refutations share, as they share the formula.
 /// After a refusal every further call answers that refusal.
 ///
-/// It keeps one mark for each variable and one buffer of hints through all lines and all
-/// refutations. A line costs the literals of its clause and of the clauses that it hints, and
-/// for each id the logarithm of the number of clauses, or a constant where no id up to it is
-/// missing, or none behind it.
+/// It keeps one mark for each variable through all lines and all refutations. A line costs the
+/// literals of its clause and of the clauses that it hints, and for each id the logarithm of the
+/// number of clauses, or a constant where no id up to it is missing, or none behind it.
 #[derive(Drop)]
 pub struct Refuter {
     /// holds nothing between lines
     trail: Trail,
     /// the clauses that are present, over those that all refutations share
     stack: Stack,
-    /// the hints of the line in progress
-    hints: Vec<u32>,
     /// whether the empty clause was added
     closed: bool,
     /// the first refusal
@@ -67,7 +64,6 @@ impl Refuter {
         Ok(Refuter {
             trail: Trail::new(alloc, formula.vars)?,
             stack: Stack::new(alloc, formula)?,
-            hints: Vec::new(alloc),
             closed: false,
             refusal: None,
         })
@@ -83,7 +79,6 @@ impl Refuter {
         Ok(Refuter {
             trail,
             stack: Stack::over(alloc, vars, clauses),
-            hints: Vec::new(alloc),
             closed: false,
             refusal: None,
         })
@@ -243,8 +238,10 @@ impl Refuter {
         if id <= self.stack.top() {
             return Err(Fault::IdOrder);
         }
-        positive(&mut self.hints, hints)?;
-        derive_with(&mut self.trail, &self.stack, clause, self.hints.as_slice())?;
+        if !are_positive(hints) {
+            return Err(Fault::NegativeHint);
+        }
+        derive_hinted(&mut self.trail, &self.stack, clause, hints)?;
         self.stack.add(id, clause)?;
         self.closed = clause.is_empty();
         Ok(())
@@ -277,18 +274,9 @@ fn take_out(stack: &mut Stack, ids: &[u32]) -> Result<(), Fault>
     Ok(())
 }
 
-/// Puts the hints into the buffer, where all of them are positive.
-fn positive(buffer: &mut Vec<u32>, hints: &[i64]) -> Result<(), Fault>
-    requires { All IsHint hints.now }
-    ensures ok { OnOk result (All IsPositive hints.now × (buffer.new.items ≡ map unsigned_abs hints.now)) }
-    ensures refused { IfErr result (λ e. (e ≡ OutOfMemory witness) ⊎ ((e ≡ NegativeHint) × (All IsPositive hints.now → ⊥))) }
+/// Whether each hint is positive.
+fn are_positive(hints: &[i64]) -> bool
+    ensures { IsTrue result ↔ All IsPositive hints.now }
 {
-    buffer.clear();
-    for hint in hints {
-        if *hint < 0 {
-            return Err(Fault::NegativeHint);
-        }
-        push(buffer, hint.unsigned_abs() as u32)?;
-    }
-    Ok(())
+    hints.iter().all(|hint| *hint > 0)
 }

@@ -3,7 +3,7 @@
 ghost use Rattle.std.specs.Prelude.{◌≡◌, ◌≤◌, ◌<◌, ◌++◌, ◌∷◌, [], true, false, All, Contains, MatchOption, OnOk, OnErr, get_or, if◌then◌else◌, is_ok, length, set, take};
 ghost use Rattle.lrat.specs.Literals.{IsLiteral};
 ghost use Rattle.lrat.specs.Places.{kept_at, AreInside};
-ghost use Rattle.lrat.specs.Slots.{Slot, IsRising, IsTidied, blank, ids_in, live_slots, live_slots_from};
+ghost use Rattle.lrat.specs.Slots.{IsRising, IsTidied, blank, ids_in, live_slots, live_slots_from};
 
 use crate::place::{Place, close_up, keep_live, position};
 use base::{Refused, push};

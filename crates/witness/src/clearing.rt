@@ -1,6 +1,6 @@
 //! What a violation rests on.
 
-ghost use Rattle.std.specs.Prelude.{◌≡◌, ◌+◌, List, [], IfOk, IfSome, IsTrue, All, None, Some, length, map, replicate, slice_index_or};
+ghost use Rattle.std.specs.Prelude.{◌≡◌, ◌+◌, [], IfOk, IfSome, IsTrue, All, None, Some, length, map, replicate, slice_index_or};
 ghost use Rattle.graph.specs.Valuation.{variable};
 ghost use Rattle.cones.specs.Marks.{IsKnown};
 ghost use Rattle.cones.specs.Reach.{IsGateTable};

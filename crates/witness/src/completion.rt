@@ -1,6 +1,6 @@
 //! Values in place of those that don't matter.
 
-ghost use Rattle.std.specs.Prelude.{◌≡◌, IfOk, IfSome, Bool, Option};
+ghost use Rattle.std.specs.Prelude.{◌≡◌, IfOk, Option};
 ghost use Rattle.witness.specs.Completions.{Keeps, Completes, CompleteFirst};
 
 use base::Refused;

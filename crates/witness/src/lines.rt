@@ -1,6 +1,6 @@
 //! The lines of loose texts.
 
-ghost use Rattle.std.specs.Prelude.{◌≤◌, ◌≢◌, length};
+ghost use Rattle.std.specs.Prelude.{◌≤◌, ◌≢◌};
 
 use crate::characters::is_blank;
 use base::{Refused, push};

@@ -1,6 +1,6 @@
 //! On which values a time of a run rests.
 
-ghost use Rattle.std.specs.Prelude.{◌≡◌, ◌≤◌, ◌<◌, ◌+◌, ℕ, List, Bool, true, IsTrue, ◌↔◌, false, IfOk, OnOk, Option, Some, None, if◌then◌else◌, IfSome, All, length, map};
+ghost use Rattle.std.specs.Prelude.{◌≡◌, ◌≤◌, ◌<◌, ◌+◌, ℕ, true, IsTrue, ◌↔◌, false, IfOk, OnOk, Option, Some, None, if◌then◌else◌, IfSome, All, length, map};
 ghost use Rattle.graph.specs.Valuation.{Valuation, Agrees, place, state_of, inputs_of, value_of, variable};
 ghost use Rattle.graph.specs.Runs.{next_state};
 ghost use Rattle.stimulus.specs.Causes.{KeepsAt};
