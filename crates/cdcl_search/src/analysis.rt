@@ -9,7 +9,7 @@
 //! kernel checks the clause before it is learned.
 
 use crate::guide::{Guide, Step};
-use crate::minimization::minimize;
+use crate::minimization::{minimize, minimize_by_binary};
 use base::{Refused, push};
 use cdcl_kernel::Kernel;
 
@@ -39,6 +39,7 @@ pub fn analyse(
         *first = point.wrapping_neg();
     }
     minimize(kernel, guide)?;
+    minimize_by_binary(guide)?;
     finish(guide, conflict)
 }
 

@@ -4,11 +4,19 @@
 //! only to literals of the clause and of level 0 (Sörensson and Biere 2009). What is still to be
 //! followed stands in a list and not on the machine's stack. As in MiniSat a literal whose level
 //! has none of the clause's literals ends the search at once.
+//!
+//! Of a clause that is still short those go as well whose negation a binary clause has beside the first literal
+//! (Audemard and Simon 2009), but for questions about a part, which learn little.
 
 use crate::analysis::take_step;
 use crate::guide::Guide;
+use crate::short_lists::Short;
+use crate::values::literal_of;
 use base::{Refused, push};
 use cdcl_kernel::Kernel;
+
+/// The most literals of a clause that is minimized by binary clauses.
+const MOST_BY_BINARY: usize = 30;
 
 /// Leaves the literals out that the others imply, and notes the reasons that show it. The first
 /// literal stays.
@@ -32,6 +40,39 @@ pub fn minimize(kernel: &Kernel, guide: &mut Guide) -> Result<(), Refused> {
     }
     guide.clause.truncate(kept);
     Ok(())
+}
+
+/// Leaves the literals out whose negation a binary clause has beside the first literal, where the clause is short enough and
+/// the question is about all clauses.
+pub fn minimize_by_binary(guide: &mut Guide) -> Result<(), Refused> {
+    if guide.is_part || guide.clause.len() > MOST_BY_BINARY {
+        return Ok(());
+    }
+    let Some(first) = guide.clause.first().copied() else {
+        return Ok(());
+    };
+    let span = guide.watches.short_span(first);
+    for at in 0..span.len {
+        let short = guide.watches.short_at(span, at);
+        if short.is_binary() {
+            resolve_binary(guide, short)?;
+        }
+    }
+    Ok(())
+}
+
+/// Leaves the negation of the binary clause's other literal out, where the clause in progress has it, and hints the binary
+/// clause.
+fn resolve_binary(guide: &mut Guide, binary: Short) -> Result<(), Refused> {
+    let implied = literal_of(binary.first).wrapping_neg();
+    if !guide.is_seen(implied) {
+        return Ok(());
+    }
+    let Some(place) = guide.clause.iter().position(|literal| *literal == implied) else {
+        return Ok(());
+    };
+    guide.clause.swap_remove(place);
+    push(&mut guide.hints, binary.id)
 }
 
 /// One of 64 bits for the literal's level.

@@ -22,6 +22,13 @@ pub struct Short {
     pub second: u32,
 }
 
+impl Short {
+    /// Whether it is a binary clause: one of two literals.
+    pub fn is_binary(self) -> bool {
+        self.second / 2 == 0
+    }
+}
+
 /// What stands in room that isn't used yet.
 const NONE: Short = Short {
     id: 0,
