@@ -1,11 +1,12 @@
 -- The values that literals give.
-use Rattle.std.proofs.Common.{◌≡◌, ◌∙◌, ◌+◌, ◌≤◌, ◌<◌, ℕ, zero, suc, Bool, true, false, List, [], ◌∷◌, ◌++◌, replicate, length, take, get_or, set, slice_index_or, All, ℤ, pos, negsuc, unsigned_abs, refl, sym, ap, subst, arith, add-one}
-use Rattle.std.proofs.lemmas.List.{take_more, set_past, length-set, length-replicate}
+use Rattle.std.proofs.Common.{◌≡◌, ◌≢◌, ◌∙◌, ◌+◌, ◌≤◌, ◌<◌, ℕ, zero, suc, Bool, true, false, List, [], ◌∷◌, ◌++◌, replicate, length, take, get_or, set, slice_index_or, All, ℤ, pos, negsuc, unsigned_abs, refl, sym, ap, subst, arith, add-one}
+use Rattle.std.proofs.lemmas.List.{take_more, set_past, length-set, length-replicate, get_or-set_same, get_or-set_other, get_or-replicate}
+use Rattle.std.proofs.lemmas.List.Elements.{All-head, All-tail}
 use Rattle.std.proofs.lemmas.Bool.Decides.{nat_tests}
 use Rattle.solver.specs.Answers.{IsModel}
 use Rattle.solver.specs.Parts.{IsPartModel}
 use Rattle.solver.specs.declared.part.Part.{Part}
-use Rattle.cdcl_kernel.specs.Valued.{is_positive, with_value, with_values, valued}
+use Rattle.cdcl_kernel.specs.Valued.{is_positive, with_value, with_values, valued, IsLastValue, AreLastValues}
 use Rattle.cdcl_kernel.specs.Verdicts.{AreTrueBy, IsSatisfiedBy, IsAndBy}
 use lib.Signed.{lt_z}
 
@@ -62,6 +63,39 @@ all_false n = rw add-one refl
 
 valued_none : (n : ℕ) (ls : List ℤ) → slice_index_or (valued n ls) 0 true ≡ false
 valued_none n ls = values_none (replicate (n + 1) false) ls (all_false n)
+
+-- ---- the last literal of a variable
+
+values_after : (b : List Bool) (before after : List ℤ) → with_values b (before ++ after) ≡ with_values (with_values b before) after
+values_after b [] after = refl
+values_after b (k ∷ before) after = values_after (with_value b k) before after
+
+values_other : (b : List Bool) (ls : List ℤ) (v : ℕ) → All (λ k. unsigned_abs k ≢ v) ls → get_or (with_values b ls) v false ≡ get_or b v false
+values_other b [] v others = refl
+values_other b (k ∷ ls) v others =
+    values_other (with_value b k) ls v (All-tail (λ k. unsigned_abs k ≢ v) k ls others)
+    ∙ get_or-set_other b (unsigned_abs k) v (is_positive k) false (λ e. All-head (λ k. unsigned_abs k ≢ v) k ls others (sym e))
+
+value_last : (b : List Bool) (before after : List ℤ) (l : ℤ) (v : ℕ) → v < length b → unsigned_abs l ≡ v → All (λ k. unsigned_abs k ≢ v) after → get_or (with_values b (before ++ l ∷ after)) v false ≡ is_positive l
+value_last b before after l v inside is others =
+    ap (λ (c : List Bool). get_or c v false) (values_after b before (l ∷ after))
+    ∙ values_other (with_value (with_values b before) l) after v others
+    ∙ subst (λ w. get_or (with_value (with_values b before) l) w false ≡ is_positive l) is
+    (get_or-set_same (with_values b before) (unsigned_abs l) (is_positive l) false (rw (is, values_places b before) inside))
+
+valued_is : (n : ℕ) (ls : List ℤ) (v : ℕ) → v ≤ n → IsLastValue ls v (get_or (valued n ls) v false)
+valued_is n ls v le =
+    let inside : v < n + 1 = omega (arith, le) in
+    record {
+      last = λ before after l parts is others. rw parts (value_last (replicate (n + 1) false) before after l v (rw length-replicate inside) is others);
+      none = λ others. values_other (replicate (n + 1) false) ls v others ∙ get_or-replicate (n + 1) v false false inside;
+    }
+
+pub last_values : (n : ℕ) (ls : List ℤ) (b : List Bool) → b ≡ valued n ls → AreLastValues n ls b
+last_values n ls b e = record {
+  places = ap length e ∙ valued_places n ls;
+  each = λ v le. subst (λ (c : List Bool). IsLastValue ls v (get_or c v false)) (sym e) (valued_is n ls v le);
+}
 
 -- ---- models
 

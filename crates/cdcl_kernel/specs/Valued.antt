@@ -1,5 +1,5 @@
 -- The values that literals give.
-use Rattle.std.specs.Prelude.{ℕ, zero, suc, ◌+◌, ℤ, pos, negsuc, Bool, true, false, List, [], ◌∷◌, replicate, slice_set, unsigned_abs}
+use Rattle.std.specs.Prelude.{◌≡◌, ◌≢◌, ◌≤◌, ℕ, zero, suc, ◌+◌, ℤ, pos, negsuc, Bool, true, false, List, [], ◌∷◌, ◌++◌, All, get_or, length, replicate, slice_set, unsigned_abs}
 
 -- the value of its variable by which the literal is true: 0 is no literal
 abbrev pub is_positive : ℤ → Bool
@@ -19,3 +19,13 @@ with_values b (l ∷ ls) = with_values (with_value b l) ls
 -- the values of the variables 1 to n after a place 0, all of them false, and then as the literals give them
 abbrev pub valued : ℕ → List ℤ → List Bool
 valued n ls = with_values (replicate (n + 1) false) ls
+
+-- the value that literals give a variable: that of its last literal, and false where there is none
+pub record IsLastValue (ls : List ℤ) (variable : ℕ) (value : Bool) : Type 0 where
+  pub last : (before after : List ℤ) (l : ℤ) → ls ≡ before ++ l ∷ after → unsigned_abs l ≡ variable → All (λ k. unsigned_abs k ≢ variable) after → value ≡ is_positive l
+  pub none : All (λ k. unsigned_abs k ≢ variable) ls → value ≡ false
+
+-- the variables 1 to n, after a place 0, have the values that the literals give them
+pub record AreLastValues (n : ℕ) (ls : List ℤ) (values : List Bool) : Type 0 where
+  pub places : length values ≡ n + 1
+  pub each : (variable : ℕ) → variable ≤ n → IsLastValue ls variable (get_or values variable false)

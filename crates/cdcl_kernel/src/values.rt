@@ -1,7 +1,7 @@
 //! Values of variables in a list, each at its variable's place, and what is true under them.
 
 ghost use Rattle.std.specs.Prelude.{◌≡◌, ◌<◌, ◌^◌, false, IsTrue, ◌↔◌, All, IfOk, slice_index_or};
-ghost use Rattle.cdcl_kernel.specs.Valued.{valued};
+ghost use Rattle.cdcl_kernel.specs.Valued.{AreLastValues, valued};
 ghost use Rattle.cdcl_kernel.specs.Verdicts.{true_by, AreTrueBy, IsSatisfiedBy, IsAndBy};
 
 use base::{Refused, filled};
@@ -13,7 +13,8 @@ use std::alloc::Global;
 /// passed over, and of a variable's literals the last one counts.
 pub fn values_of(alloc: Global, vars: u32, literals: &[i32]) -> Result<Vec<bool>, Refused>
     requires { vars < 2 ^ 31 }
-    ensures { IfOk result (λ b. b.items ≡ valued vars literals.now) }
+    ensures value { IfOk result (λ b. b.items ≡ valued vars literals.now) }
+    ensures last { IfOk result (λ b. AreLastValues vars literals.now b.items) }
 {
     let mut values = filled(alloc, false, vars as usize + 1)?;
     for literal in literals {

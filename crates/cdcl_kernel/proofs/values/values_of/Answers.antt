@@ -2,7 +2,7 @@ use Rattle.std.proofs.Common.{rules, ◌∙◌, ℤ, pos, SFits, w32, get_or, ar
 use Rattle.std.proofs.lemmas.List.{take_all}
 use Rattle.lrat.proofs.Fit.{read32}
 use Rattle.cdcl_kernel.specs.Valued.{valued}
-use Rattle.cdcl_kernel.proofs.Valued.{valued_more, valued_same}
+use Rattle.cdcl_kernel.proofs.Valued.{last_values, valued_more, valued_same}
 use Rattle.cdcl_kernel.proofs.values.values_of.Goals as goal
 use Rattle.cdcl_kernel.proofs.values.values_of.Goals.{then-place-len, else-place-len}
 
@@ -16,5 +16,8 @@ loop-literal-preserved c =
       | else-place-len w ↦ rw w.values-is (valued_same c.args.vars c.args.literals.now c.loop-literal.literal-index c.loop-literal.values.items c.loop-literal-test.true (omega (arith, at, w.if-place-len.false)) c.loop-literal.invariant)
     ]
 
-pub returns : goal.returns
-returns c = c.loop-literal.invariant ∙ ap (valued c.args.vars) (take_all _ c.args.literals.now c.loop-literal-test.false)
+pub returns-clause-value : goal.returns-clause-value
+returns-clause-value c = c.loop-literal.invariant ∙ ap (valued c.args.vars) (take_all _ c.args.literals.now c.loop-literal-test.false)
+
+pub returns-clause-last : goal.returns-clause-last
+returns-clause-last c = last_values _ _ _ (c.loop-literal.invariant ∙ ap (valued c.args.vars) (take_all _ c.args.literals.now c.loop-literal-test.false))
