@@ -1,2 +1,3 @@
 mod Cutting
+mod Listing
 pub mod Putting

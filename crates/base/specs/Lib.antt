@@ -1,4 +1,5 @@
 pub mod Budget
 pub mod Devices
+pub mod Lists
 pub mod Sizes
 pub mod Witness

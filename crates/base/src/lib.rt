@@ -1,7 +1,7 @@
 //! The ground of every crate: lists, budgets and devices.
 //!
 //! - `Seq` is a list that contracts see as a plain list, so that values made of lists are equal
-//!   where their lists are.
+//!   where their lists are. `Lists` is the same for a list of lists, which lie in one `Vec`.
 //! - `Budget` counts the steps that a search may still take. What is spent and what is left are
 //!   together what it began with, through every call that takes one (`Spends`).
 //! - `Source` and `Sink` are where bytes come from and where they go. A device counts its
@@ -13,6 +13,7 @@
 
 mod budget;
 mod grow;
+mod lists;
 mod refused;
 mod seq;
 mod sink;
@@ -24,6 +25,7 @@ pub use grow::{
     boxed, buffered, copied, extend, filled, filled_like, insert, insert_hashed, insert_key, push,
     reserve_one, small,
 };
+pub use lists::Lists;
 pub use refused::Refused;
 pub use seq::Seq;
 pub use sink::{Sink, ToVec, ToWrite};

@@ -41,6 +41,11 @@ abbrev pub with_line : Result Bool ReaderError → Line → Result (Option Line)
 with_line (Ok there) line = Ok (line_where there line)
 with_line (Err e) line = Err e
 
+-- an answer, with the list that was read
+abbrev pub with_list : {A : Type 0} → Result (Unit {0}) ReaderError → List A → Result (List A) ReaderError
+with_list (Ok done) list = Ok list
+with_list (Err e) list = Err e
+
 -- the letter of a section
 abbrev pub letter_of : SectionKind → ℕ
 letter_of Lemmas = 108

@@ -5,7 +5,7 @@ ghost use Rattle.certificate.specs.Reading.{first_line_at, version_at, property_
 
 use crate::refusal::{IN_LINE, IN_PROPERTY, IN_VERSION, Refusal};
 use graph::{Lit, Property, Seq};
-use scan::{Fault, LineKind, byte, field, lines, number, tag};
+use scan::{Fault, LineKind, byte, field, lines_into, number, tag};
 use std::alloc::Global;
 
 /// The greatest count of clauses, and of literals in a clause.
@@ -89,14 +89,34 @@ impl LineKind for SpacedLiteral {
     }
 }
 
-/// As many literals as `count` says, and what follows the line end behind them.
+/// As many literals as `count` says, put into a list that is emptied first, and what follows the
+/// line end behind them.
 #[tactic(auto, unfolding(crate::specs::Reading::literals_at))]
-fn literals(alloc: Global, count: u32, text: &[u8]) -> Result<(Seq<Lit>, &[u8]), Fault<Refusal>>
-    ensures { Gives (λ x. (x.0, x.1.now)) result (literals_at count text.now) }
+fn literals_into<'t>(
+    alloc: Global,
+    literals: &mut Vec<Lit>,
+    count: u32,
+    text: &'t [u8],
+) -> Result<&'t [u8], Fault<Refusal>>
+    ensures { Gives (λ x. (literals.new.items, x.now)) result (literals_at count text.now) }
 {
-    let (literals, rest) = lines::<SpacedLiteral>(alloc, count, text, ())?;
+    let rest = lines_into::<SpacedLiteral>(alloc, literals, count, text, ())?;
     let rest = byte(rest, b'\n', IN_LINE)?;
-    Ok((Seq::from_vec(literals), rest))
+    Ok(rest)
+}
+
+/// The literals of the clause of a line, put into a list that is emptied first and keeps its memory,
+/// and what follows the line.
+#[tactic(auto, unfolding(crate::specs::Reading::clause_at))]
+pub fn clause_into<'t>(
+    alloc: Global,
+    clause: &mut Vec<Lit>,
+    text: &'t [u8],
+) -> Result<&'t [u8], Fault<Refusal>>
+    ensures { Gives (λ x. (clause.new.items, x.now)) result (clause_at text.now) }
+{
+    let (count, rest) = number(text, GREATEST, IN_LINE)?;
+    literals_into(alloc, clause, count, rest)
 }
 
 /// A line of a clause.
@@ -113,9 +133,9 @@ impl LineKind for ClauseLine {
 
     ghost at = { λ _ bytes. clause_at bytes };
 
-    #[tactic(auto, unfolding(crate::specs::Reading::clause_at))]
     fn line(alloc: Global, text: &[u8], _context: ()) -> Result<(Seq<Lit>, &[u8]), Fault<Refusal>> {
-        let (count, rest) = number(text, GREATEST, IN_LINE)?;
-        literals(alloc, count, rest)
+        let mut clause = Vec::new(alloc);
+        let rest = clause_into(alloc, &mut clause, text)?;
+        Ok((Seq::from_vec(clause), rest))
     }
 }

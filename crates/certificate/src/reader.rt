@@ -6,17 +6,17 @@ ghost use Rattle.scan.specs.Words.{any, field_at};
 ghost use Rattle.lrat.specs.Limits.{IsLine};
 ghost use Rattle.certificate.specs.Pieces.{IsOfPiece};
 ghost use Rattle.certificate.specs.Reading.{clause_at, first_line_at, greatest, item_at, property_at};
-ghost use Rattle.certificate.specs.Streams.{Finds, end_at, letter_at, with_line};
+ghost use Rattle.certificate.specs.Streams.{Finds, end_at, letter_at, with_line, with_list};
 ghost use Rattle.certificate.specs.declared.reader_error.ReaderError.TheVariants.{Device};
 
 use crate::cert_error::CertError;
-use crate::head::{ClauseLine, Version};
+use crate::head::{Version, clause_into};
 use crate::kinds::{CountLine, FirstLine, LetterLine, PropertyLine, SectionKind};
 use crate::reader_error::ReaderError;
 use crate::refusal::{Refusal, error};
 use crate::sections::line_into;
 use base::{Refused, Source};
-use graph::{Lit, Property, Seq};
+use graph::{Lit, Property};
 use lrat::LineBuffer;
 use pieces::Pieces;
 use scan::LineKind;
@@ -50,6 +50,31 @@ fn line_from<L: LineKind<Refusal = Refusal>, S: Source>(
     pieces.skip(taken);
     *before = before.saturating_add(taken);
     Ok(item)
+}
+
+/// Reads the clause of the next line into the list.
+#[tactic(auto, using(crate::proofs::LineLaws::clause_of_piece, crate::proofs::LineLaws::rest_within, crate::proofs::LineLaws::rest_less))]
+fn clause_from<S: Source>(
+    alloc: Global,
+    pieces: &mut Pieces,
+    before: &mut usize,
+    clause: &mut Vec<Lit>,
+    from: &mut S,
+) -> Result<(), ReaderError>
+    requires source { S.failed from.old < 2 ^ 64 - 1 }
+    ensures says { (ys : List ℕ) → S.remaining from.old ≡ Some ys → Finds (clause_at (pieces.old ++ ys)) (with_list result clause.new.items) pieces.new (S.remaining from.new) }
+    ensures device { IsErrOf result Device ↔ (S.failed from.new ≡ S.failed from.old + 1) }
+    ensures others { (IsErrOf result Device → ⊥) → S.failed from.new ≡ S.failed from.old }
+{
+    let n = pieces.next(from)?;
+    let left = match clause_into(alloc, clause, pieces.first(n)) {
+        Ok(rest) => rest.len(),
+        Err(fault) => return Err(ReaderError::Refused(error(before.saturating_add(n), fault))),
+    };
+    let taken = n - left;
+    pieces.skip(taken);
+    *before = before.saturating_add(taken);
+    Ok(())
 }
 
 /// Reads the next line of a section into the buffer, and answers whether there is one.
@@ -155,19 +180,19 @@ impl Reader {
         line_from::<CountLine, S>(alloc, &mut self.pieces, &mut self.before, (), from)
     }
 
-    /// The next clause.
-    #[tactic(auto, using(crate::proofs::LineLaws::clause_of_piece))]
-    pub fn clause<S: Source>(
+    /// Reads the next clause into the list, which is emptied first and keeps its memory.
+    pub fn clause_into<S: Source>(
         &mut self,
         alloc: Global,
+        clause: &mut Vec<Lit>,
         from: &mut S,
-    ) -> Result<Seq<Lit>, ReaderError>
+    ) -> Result<(), ReaderError>
         requires source { S.failed from.old < 2 ^ 64 - 1 }
-        ensures says { (ys : List ℕ) → S.remaining from.old ≡ Some ys → Finds (clause_at (self.old ++ ys)) result self.new (S.remaining from.new) }
+        ensures says { (ys : List ℕ) → S.remaining from.old ≡ Some ys → Finds (clause_at (self.old ++ ys)) (with_list result clause.new.items) self.new (S.remaining from.new) }
         ensures device { IsErrOf result Device ↔ (S.failed from.new ≡ S.failed from.old + 1) }
         ensures others { (IsErrOf result Device → ⊥) → S.failed from.new ≡ S.failed from.old }
     {
-        line_from::<ClauseLine, S>(alloc, &mut self.pieces, &mut self.before, (), from)
+        clause_from::<S>(alloc, &mut self.pieces, &mut self.before, clause, from)
     }
 
     /// Reads the line with which a section of this kind begins.

@@ -9,31 +9,32 @@ ghost use Rattle.certificate.specs.declared.reader_error.ReaderError.TheVariants
 use crate::kinds::SectionKind;
 use crate::reader::Reader;
 use crate::reader_error::ReaderError;
-use base::{Source, push};
-use graph::{Lit, Seq};
+use base::{Lists, Source};
+use graph::Lit;
 use lrat::LineBuffer;
 use std::alloc::Global;
 
-/// Reads this number of clauses. The list grows clause by clause: no memory is taken ahead by a count that
-/// the text states.
+/// Reads this number of clauses, which lie one after the other. The list grows clause by clause: no
+/// memory is taken ahead by a count that the text states.
 pub fn read_clauses<S: Source>(
     alloc: Global,
     count: u32,
     reader: &mut Reader,
     from: &mut S,
-) -> Result<Seq<Seq<Lit>>, ReaderError>
+) -> Result<Lists<Lit>, ReaderError>
     requires source { S.failed from.old < 2 ^ 64 - 1 }
     ensures says { (ys : List ℕ) → S.remaining from.old ≡ Some ys → Finds (many_at clause_at count (reader.old ++ ys)) result reader.new (S.remaining from.new) }
     ensures many { IfOk result (λ clauses. length clauses ≡ count) }
     ensures device { IsErrOf result Device ↔ (S.failed from.new ≡ S.failed from.old + 1) }
     ensures others { (IsErrOf result Device → ⊥) → S.failed from.new ≡ S.failed from.old }
 {
-    let mut clauses = Vec::new(alloc);
+    let mut clauses = Lists::new(alloc);
+    let mut clause = Vec::new(alloc);
     for _ in 0..count {
-        let clause = reader.clause(alloc, from)?;
-        push(&mut clauses, clause)?;
+        reader.clause_into(alloc, &mut clause, from)?;
+        clauses.push(clause.as_slice())?;
     }
-    Ok(Seq::from_vec(clauses))
+    Ok(clauses)
 }
 
 /// Reads the lines of a section up to its end, and forgets them.

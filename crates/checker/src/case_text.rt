@@ -13,9 +13,10 @@ ghost use Rattle.checker.specs.Accepted.{cases, init_case, step_case};
 ghost use Rattle.checker.specs.Streamed.{AreOfCases};
 
 use crate::section_text::check_section;
+use base::Lists;
 use certificate::{Reader, ReaderError, SectionKind, skip_section, skip_sections};
 use cnf::{NextTable, bad_unit, init_units_into, step_units_into};
-use graph::{Lit, Model, Seq, Source};
+use graph::{Lit, Model, Source};
 use lrat::{Fault, LineBuffer, Refuter};
 use std::alloc::Global;
 
@@ -24,7 +25,7 @@ use std::alloc::Global;
 pub fn check_initial<S: Source>(
     alloc: Global,
     circuit: &Model,
-    invariant: &[Seq<Lit>],
+    invariant: &Lists<Lit>,
     refuter: &mut Refuter,
     line: &mut LineBuffer,
     reader: &mut Reader,
@@ -40,8 +41,9 @@ pub fn check_initial<S: Source>(
 {
     circuit.well_formed();
     let mut units = Vec::new(alloc);
-    for (k, clause) in invariant.iter().enumerate() {
-        init_units_into(&mut units, circuit, clause.as_slice())?;
+    for k in 0..invariant.len() {
+        let clause = invariant.list(k);
+        init_units_into(&mut units, circuit, clause)?;
         let found = check_section(
             alloc,
             SectionKind::Initial,
@@ -66,7 +68,7 @@ pub fn check_steps<S: Source>(
     alloc: Global,
     circuit: &Model,
     table: &NextTable,
-    invariant: &[Seq<Lit>],
+    invariant: &Lists<Lit>,
     refuter: &mut Refuter,
     line: &mut LineBuffer,
     reader: &mut Reader,
@@ -85,8 +87,9 @@ pub fn check_steps<S: Source>(
 {
     circuit.well_formed();
     let mut units = Vec::new(alloc);
-    for (k, clause) in invariant.iter().enumerate() {
-        step_units_into(&mut units, circuit, table, clause.as_slice())?;
+    for k in 0..invariant.len() {
+        let clause = invariant.list(k);
+        step_units_into(&mut units, circuit, table, clause)?;
         let found = check_section(
             alloc,
             SectionKind::Step,
@@ -112,7 +115,7 @@ pub fn check_cases<S: Source>(
     alloc: Global,
     circuit: &Model,
     table: &NextTable,
-    invariant: &[Seq<Lit>],
+    invariant: &Lists<Lit>,
     bad: Lit,
     start: &mut Refuter,
     shared: &mut Refuter,

@@ -24,15 +24,15 @@ ghost use Rattle.checker.specs.declared.check_error.CheckError.TheVariants.{OutO
 use crate::acceptance::no_property;
 use crate::case_text::check_cases;
 use crate::check_error::CheckError;
-use crate::invariant::check_clauses;
+use crate::invariant::check_lists;
 use crate::section_text::take_lemmas;
 use crate::sections::start_refuter;
-use base::Refused;
+use base::{Lists, Refused};
 use certificate::{
     Reader, ReaderError, SectionKind, Version, read_clauses, skip_section, skip_sections,
 };
 use cnf::{NextTable, shared_row};
-use graph::{Lit, Model, Property, Seq, Source};
+use graph::{Lit, Model, Property, Source};
 use live_safe::{LiveError, to_safety};
 use lrat::{Fault, Refuter};
 use std::alloc::Global;
@@ -124,7 +124,7 @@ fn share_lemmas<S: Source>(
 fn invariant_refuter(
     alloc: Global,
     circuit: &Model,
-    invariant: &[Seq<Lit>],
+    invariant: &Lists<Lit>,
 ) -> Result<Refuter, Refused>
     requires { IsInvariant circuit.now invariant.now }
     ensures { IfOk result (λ r. r ≡ at_formula (shared_formula circuit.now invariant.now)) }
@@ -139,7 +139,7 @@ fn check_lemmas_and_cases<S: Source>(
     alloc: Global,
     circuit: &Model,
     table: &NextTable,
-    invariant: &[Seq<Lit>],
+    invariant: &Lists<Lit>,
     bad: Lit,
     version: Version,
     start: &mut Refuter,
@@ -173,7 +173,7 @@ fn check_parts<S: Source>(
     alloc: Global,
     circuit: &Model,
     table: &NextTable,
-    invariant: &[Seq<Lit>],
+    invariant: &Lists<Lit>,
     bad: Lit,
     version: Version,
     reader: &mut Reader,
@@ -204,14 +204,14 @@ fn check_parts<S: Source>(
 }
 
 /// Looks for the first fault before the sections, for a literal of this circuit.
-fn prepare(alloc: Global, circuit: &Model, invariant: &[Seq<Lit>]) -> Result<NextTable, CheckError>
+fn prepare(alloc: Global, circuit: &Model, invariant: &Lists<Lit>) -> Result<NextTable, CheckError>
     requires few { length invariant.now ≤ 4194303 }
     ensures table { IfOk result (λ t. IsTableOf circuit.now.latches t) }
     ensures good { OnOk result (All (IsGood circuit.now) invariant.now) }
     ensures refused { IfErr result (λ e. (a : ALit) (c : ACertificate) → c.invariant ≡ invariant.now → IsCounted c → HasCauseFor circuit.now a c e) }
 {
     let table = NextTable::new(alloc, circuit)?;
-    check_clauses(alloc, circuit, &table, invariant)?;
+    check_lists(alloc, circuit, &table, invariant)?;
     Ok(table)
 }
 
@@ -222,7 +222,7 @@ fn check_for<S: Source>(
     circuit: &Model,
     bad: Lit,
     version: Version,
-    invariant: &[Seq<Lit>],
+    invariant: &Lists<Lit>,
     reader: &mut Reader,
     from: &mut S,
 ) -> Result<Option<u8>, ReaderError>
@@ -255,7 +255,7 @@ fn check_justice<S: Source>(
     circuit: &Model,
     n: u32,
     version: Version,
-    invariant: &[Seq<Lit>],
+    invariant: &Lists<Lit>,
     reader: &mut Reader,
     from: &mut S,
 ) -> Result<Option<u8>, ReaderError>
@@ -294,7 +294,7 @@ fn check_property<S: Source>(
     circuit: &Model,
     property: Property,
     version: Version,
-    invariant: &[Seq<Lit>],
+    invariant: &Lists<Lit>,
     reader: &mut Reader,
     from: &mut S,
 ) -> Result<Option<u8>, ReaderError>
@@ -360,15 +360,7 @@ fn check_text<S: Source>(
     let property = reader.property(alloc, from)?;
     let count = reader.count(alloc, from)?;
     let invariant = read_clauses(alloc, count, reader, from)?;
-    let refusal = check_property(
-        alloc,
-        circuit,
-        property,
-        version,
-        invariant.as_slice(),
-        reader,
-        from,
-    )?;
+    let refusal = check_property(alloc, circuit, property, version, &invariant, reader, from)?;
     Ok(Outcome { property, refusal })
 }
 

@@ -2,14 +2,14 @@
 
 ghost use Rattle.std.specs.Prelude.{◌≡◌, ◌∷◌, [], IfOk, OnOk};
 ghost use Rattle.lrat.specs.Limits.{IsFormula};
-ghost use Rattle.cnf.specs.Clauses.{truth_clause, frame_clauses as frame_list, start_clauses as start_list, shared_clauses as shared_list};
+ghost use Rattle.cnf.specs.Clauses.{truth_clause, frame_clauses as frame_list, start_clauses as start_list, time_clauses, shared_clauses as shared_list};
 ghost use Rattle.cnf.specs.Formulas.{formula_of, frame_formula, start_formula, shared_formula, IsInvariant, IsOver};
 ghost use Rattle.cnf.specs.Invariants.{SafetyLaw};
 ghost use Rattle.cnf.specs.Meaning.{FrameLaw};
 
-use crate::push::{push, push_constraints, push_gates, push_invariant, push_resets};
+use crate::push::{push, push_constraints, push_gates, push_invariant, push_lists, push_resets};
 use crate::time_frame::TimeFrame;
-use base::Refused;
+use base::{Lists, Refused};
 use graph::{Lit, Model, Seq};
 use lrat::{AddClause, Clause, ClauseRow, Formula};
 use std::alloc::Global;
@@ -54,16 +54,14 @@ fn push_start<C: AddClause>(alloc: Global, clauses: &mut C, circuit: &Model) -> 
     push_resets(alloc, clauses, TimeFrame::first(circuit), circuit.latches())
 }
 
-/// Adds the clauses that the step cases and the bad case share to a list without clauses.
-fn push_shared<C: AddClause>(
+/// Adds the clauses of the frame and of the constraints to a list without clauses.
+fn push_constrained_frame<C: AddClause>(
     alloc: Global,
     clauses: &mut C,
     circuit: &Model,
-    invariant: &[Seq<Lit>],
 ) -> Result<(), Refused>
-    requires empty { C.clauses clauses.old ≡ [] }
-    requires invariant { IsInvariant circuit.now invariant.now }
-    ensures { OnOk result (C.clauses clauses.new ≡ shared_list circuit.now invariant.now) }
+    requires { C.clauses clauses.old ≡ [] }
+    ensures { OnOk result (C.clauses clauses.new ≡ time_clauses circuit.now 0) }
 {
     circuit.well_formed();
     push_frame(alloc, clauses, circuit)?;
@@ -72,8 +70,7 @@ fn push_shared<C: AddClause>(
         clauses,
         TimeFrame::first(circuit),
         circuit.constraints(),
-    )?;
-    push_invariant(alloc, clauses, TimeFrame::first(circuit), invariant)
+    )
 }
 
 fn frame_clauses(alloc: Global, circuit: &Model) -> Result<Seq<Clause>, Refused>
@@ -100,8 +97,10 @@ pub(crate) fn shared_clauses(
     requires { IsInvariant circuit.now invariant.now }
     ensures { IfOk result (λ s. s ≡ shared_list circuit.now invariant.now) }
 {
+    circuit.well_formed();
     let mut clauses: Seq<Clause> = Seq::new(alloc);
-    push_shared(alloc, &mut clauses, circuit, invariant)?;
+    push_constrained_frame(alloc, &mut clauses, circuit)?;
+    push_invariant(alloc, &mut clauses, TimeFrame::first(circuit), invariant)?;
     Ok(clauses)
 }
 
@@ -161,7 +160,7 @@ pub fn start_row(alloc: Global, circuit: &Model) -> Result<ClauseRow, Refused>
 pub fn shared_row(
     alloc: Global,
     circuit: &Model,
-    invariant: &[Seq<Lit>],
+    invariant: &Lists<Lit>,
 ) -> Result<ClauseRow, Refused>
     requires { IsInvariant circuit.now invariant.now }
     ensures formula { IfOk result (λ r. formula_of circuit.now r ≡ shared_formula circuit.now invariant.now) }
@@ -170,6 +169,7 @@ pub fn shared_row(
 {
     circuit.well_formed();
     let mut clauses = ClauseRow::new(alloc);
-    push_shared(alloc, &mut clauses, circuit, invariant)?;
+    push_constrained_frame(alloc, &mut clauses, circuit)?;
+    push_lists(alloc, &mut clauses, TimeFrame::first(circuit), invariant)?;
     Ok(clauses)
 }

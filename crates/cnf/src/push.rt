@@ -6,7 +6,7 @@ ghost use Rattle.cnf.specs.Clauses.{literal, denial, gate_clauses, reset_clauses
 ghost use Rattle.cnf.specs.Formulas.{IsGateIn, IsInRange};
 
 use crate::time_frame::TimeFrame;
-use base::Refused;
+use base::{Lists, Refused};
 use graph::{Gate, Latch, Lit, Seq};
 use lrat::AddClause;
 use std::alloc::Global;
@@ -162,6 +162,26 @@ pub fn push_invariant<C: AddClause>(
     for clause in invariant {
         literals.clear();
         push_literals(&mut literals, time, clause.as_slice())?;
+        push(alloc, clauses, literals.as_slice())?;
+    }
+    Ok(())
+}
+
+/// Adds the clauses of an invariant, which lie in one list.
+pub fn push_lists<C: AddClause>(
+    alloc: Global,
+    clauses: &mut C,
+    time: TimeFrame,
+    invariant: &Lists<Lit>,
+) -> Result<(), Refused>
+    requires fits { time.offset + time.max_var + 1 < 2 ^ 31 }
+    requires in_range { All (λ c. All (IsInRange time.max_var) c) invariant.now }
+    ensures { OnOk result (C.clauses clauses.new ≡ C.clauses clauses.old ++ map (map (literal time.max_var time.offset)) invariant.now) }
+{
+    let mut literals = Vec::new(alloc);
+    for k in 0..invariant.len() {
+        literals.clear();
+        push_literals(&mut literals, time, invariant.list(k))?;
         push(alloc, clauses, literals.as_slice())?;
     }
     Ok(())

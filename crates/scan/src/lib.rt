@@ -67,7 +67,7 @@ pub use bytes::{byte, tag};
 pub use fault::{Fault, Kinds, place};
 pub use header::counts;
 pub use item_kind::{ItemKind, items, items_into};
-pub use line_kind::{LineKind, lines};
+pub use line_kind::{LineKind, lines, lines_into};
 pub use numbers::number;
 pub use signs::signed;
 pub use words::{field, word};

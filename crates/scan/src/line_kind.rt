@@ -39,8 +39,31 @@ pub trait LineKind {
         ensures { Gives (λ x. (x.0, x.1.now)) result (at context text.now) };
 }
 
-/// As many lines of one kind as `count` says, and what follows them. The list grows line by line:
-/// no memory is taken ahead by a count that the text states.
+/// As many lines of one kind as `count` says, put into a list that is emptied first and keeps its
+/// memory, and what follows them. The list grows line by line: no memory is taken ahead by a count
+/// that the text states.
+pub fn lines_into<'t, L: LineKind>(
+    alloc: Global,
+    items: &mut Vec<L::Item>,
+    count: u32,
+    text: &'t [u8],
+    context: L::Context,
+) -> Result<&'t [u8], Fault<L::Refusal>>
+    requires allows { L.allows context }
+    requires item { IsItemSize (type_size L.Item.row) }
+    ensures { Gives (λ x. (items.new.items, x.now)) result (many_at (L.at context) count text.now) }
+{
+    items.clear();
+    let mut rest = text;
+    for _ in 0..count {
+        let (item, after) = L::line(alloc, rest, context)?;
+        push(items, item)?;
+        rest = after;
+    }
+    Ok(rest)
+}
+
+/// As `lines_into`, in a list of its own.
 pub fn lines<L: LineKind>(
     alloc: Global,
     count: u32,
@@ -52,11 +75,6 @@ pub fn lines<L: LineKind>(
     ensures { Gives (λ x. (x.0.items, x.1.now)) result (many_at (L.at context) count text.now) }
 {
     let mut items = Vec::new(alloc);
-    let mut rest = text;
-    for _ in 0..count {
-        let (item, after) = L::line(alloc, rest, context)?;
-        push(&mut items, item)?;
-        rest = after;
-    }
+    let rest = lines_into::<L>(alloc, &mut items, count, text, context)?;
     Ok((items, rest))
 }

@@ -7,6 +7,6 @@ use Rattle.certificate.proofs.streaming.read_clauses.Given as goal
 abbrev pub invariant-loop : goal.invariant-loop
 invariant-loop g l = record {
   steady : g.S.Source.failed l.from ≡ g.S.Source.failed l.fn.from;
-  many : length l.clauses.items ≡ l.counter;
-  reads : (ys : List ℕ) → g.S.Source.remaining l.fn.from ≡ Some ys → StillReads (many_at clause_at l.count (l.fn.reader ++ ys)) l.clauses.items (many_at clause_at (l.count - l.counter)) l.reader (g.S.Source.remaining l.from);
+  many : length l.clauses ≡ l.counter;
+  reads : (ys : List ℕ) → g.S.Source.remaining l.fn.from ≡ Some ys → StillReads (many_at clause_at l.count (l.fn.reader ++ ys)) l.clauses (many_at clause_at (l.count - l.counter)) l.reader (g.S.Source.remaining l.from);
 }

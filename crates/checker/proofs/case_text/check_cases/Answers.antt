@@ -46,7 +46,7 @@ returns-in_err-skip_sections-clause-says g c ys known =
     let P = AreOfCases (cases m b inv c.args.bad) in
     let first = subst (λ o. FindsWith (AreOfCases inits) (many_at (section_at 105) n bytes) (Ok o) c.check_initial.new.reader (g.S.Source.remaining c.check_initial.new.from)) c.in-Some.is (c.in_ok-initial.ensures.says ys known) in
     behind_initial (AreOfCases inits) P n bytes c.check_initial.new.reader c.skip_sections.new.reader (g.S.Source.remaining c.check_initial.new.from) (g.S.Source.remaining c.skip_sections.new.from) (Some c.in-Some.fault) c.from_residual-in_err-skip_sections.result first
-    (λ i zs are here. err_finds P (then_steps n i (c.check_initial.new.reader ++ zs)) _ c.in_err-skip_sections.field-0.0 c.skip_sections.new.reader (g.S.Source.remaining c.skip_sections.new.from) c.from_residual-in_err-skip_sections.ensures.1 (steps_refused n i (c.check_initial.new.reader ++ zs) c.in_err-skip_sections.field-0.0 (c.in_err-skip_sections.ensures.says zs here)))
+    (λ i zs are here. err_finds P (then_steps n i (c.check_initial.new.reader ++ zs)) _ c.in_err-skip_sections.field-0.0 c.skip_sections.new.reader (g.S.Source.remaining c.skip_sections.new.from) c.from_residual-in_err-skip_sections.ensures.1 (steps_refused n i (c.check_initial.new.reader ++ zs) c.in_err-skip_sections.field-0.0 (rw c.len-count.ensures at (c.in_err-skip_sections.ensures.says zs here))))
 
 pub returns-in_err-skip_section-clause-says : goal.returns-in_err-skip_section-clause-says
 returns-in_err-skip_section-clause-says g c ys known =
@@ -60,7 +60,7 @@ returns-in_err-skip_section-clause-says g c ys known =
     let P = AreOfCases (cases m b inv c.args.bad) in
     let first = subst (λ o. FindsWith (AreOfCases inits) (many_at (section_at 105) n bytes) (Ok o) c.check_initial.new.reader (g.S.Source.remaining c.check_initial.new.from)) c.in-Some.is (c.in_ok-initial.ensures.says ys known) in
     behind_initial (AreOfCases inits) P n bytes c.check_initial.new.reader c.skip_section.new.reader (g.S.Source.remaining c.check_initial.new.from) (g.S.Source.remaining c.skip_section.new.from) (Some c.in-Some.fault) c.from_residual-in_err-skip_section.result first
-    (λ i zs are here. behind_steps (λ sections x. Unit {0}) P n i (c.check_initial.new.reader ++ zs) c.skip_sections.new.reader c.skip_section.new.reader (g.S.Source.remaining c.skip_sections.new.from) (g.S.Source.remaining c.skip_section.new.from) (tt {0}) c.from_residual-in_err-skip_section.result (c.in_ok-skip_sections.ensures.says zs here)
+    (λ i zs are here. behind_steps (λ sections x. Unit {0}) P n i (c.check_initial.new.reader ++ zs) c.skip_sections.new.reader c.skip_section.new.reader (g.S.Source.remaining c.skip_sections.new.from) (g.S.Source.remaining c.skip_section.new.from) (tt {0}) c.from_residual-in_err-skip_section.result (rw c.len-count.ensures at (c.in_ok-skip_sections.ensures.says zs here))
     (λ s us any there. err_finds P (then_bad i s (c.skip_sections.new.reader ++ us)) _ c.in_err-skip_section.field-0.0 c.skip_section.new.reader (g.S.Source.remaining c.skip_section.new.from) c.from_residual-in_err-skip_section.ensures.1 (bad_refused i s (c.skip_sections.new.reader ++ us) c.in_err-skip_section.field-0.0 (c.in_err-skip_section.ensures.says us there))))
 
 pub returns-in-Some-clause-says : goal.returns-in-Some-clause-says
@@ -75,7 +75,7 @@ returns-in-Some-clause-says g c ys known =
     let P = AreOfCases (cases m b inv c.args.bad) in
     let first = subst (λ o. FindsWith (AreOfCases inits) (many_at (section_at 105) n bytes) (Ok o) c.check_initial.new.reader (g.S.Source.remaining c.check_initial.new.from)) c.in-Some.is (c.in_ok-initial.ensures.says ys known) in
     behind_initial (AreOfCases inits) P n bytes c.check_initial.new.reader c.skip_section.new.reader (g.S.Source.remaining c.check_initial.new.from) (g.S.Source.remaining c.skip_section.new.from) (Some c.in-Some.fault) (Ok (Some c.in-Some.fault)) first
-    (λ i zs are here. behind_steps (λ sections x. Unit {0}) P n i (c.check_initial.new.reader ++ zs) c.skip_sections.new.reader c.skip_section.new.reader (g.S.Source.remaining c.skip_sections.new.from) (g.S.Source.remaining c.skip_section.new.from) (tt {0}) (Ok (Some c.in-Some.fault)) (c.in_ok-skip_sections.ensures.says zs here)
+    (λ i zs are here. behind_steps (λ sections x. Unit {0}) P n i (c.check_initial.new.reader ++ zs) c.skip_sections.new.reader c.skip_section.new.reader (g.S.Source.remaining c.skip_sections.new.from) (g.S.Source.remaining c.skip_section.new.from) (tt {0}) (Ok (Some c.in-Some.fault)) (rw c.len-count.ensures at (c.in_ok-skip_sections.ensures.says zs here))
     (λ s us any there. bad_found (λ (lines : List Line) x. x ≡ Some c.in-Some.fault) P i s (c.skip_sections.new.reader ++ us) c.skip_section.new.reader (g.S.Source.remaining c.skip_section.new.from) (Ok (Some c.in-Some.fault)) (λ bad x same. subst (λ o. P (i ++ s ++ bad ∷ []) o) (sym same) (initial_first inits steps (bad_case m b c.args.bad) i s bad c.in-Some.fault are))
     (let (bad, rest, is, u, left) = c.in_ok-skip_section.ensures.says us there in (bad, rest, is, refl, left))))
 

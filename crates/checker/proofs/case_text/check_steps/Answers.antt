@@ -1,4 +1,5 @@
 use Rattle.std.proofs.Common.{rules, ◌≡◌, ◌++◌, ◌∷◌, ◌-◌, ◌+◌, [], List, None, Some, Ok, length, map, get_or, subst, sym, ◌∙◌, refl}
+use Rattle.std.proofs.lemmas.List.{get_or_default}
 use Rattle.std.specs.Prelude.{IfNone}
 use Rattle.scan.specs.Lists.{many_at}
 use Rattle.lrat.specs.declared.line.Line.{Line}
@@ -12,7 +13,7 @@ use Rattle.checker.proofs.TextParts.{others_refused}
 use Rattle.checker.proofs.case_text.check_steps.Goals as goal
 
 pub step_units_into-requires-clause-over : goal.step_units_into-requires-clause-over
-step_units_into-requires-clause-over g c = over_here c.args.circuit.now c.args.invariant.now c.loop-k.k c.index-invariant-k.result c.as_slice.result.now c.requires.invariant c.loop-k-test.true c.index-invariant-k.is c.as_slice.ensures
+step_units_into-requires-clause-over g c = over_here c.args.circuit.now c.args.invariant.now c.loop-k.k c.list-clause.result.now c.list-clause.result.now c.requires.invariant (rw c.len-k-end.ensures at c.loop-k-test.true) (c.list-clause.ensures ∙ get_or_default c.args.invariant.now c.loop-k.k [] c.list-clause.result.now (rw c.len-k-end.ensures at c.loop-k-test.true)) refl
 
 pub returns-in_err-step_units_into-clause-says : goal.returns-in_err-step_units_into-clause-says
 returns-in_err-step_units_into-clause-says g c ys known =
@@ -23,7 +24,7 @@ returns-in_err-found-clause-says g c ys known =
     let read = many_at (section_at 115) (length c.args.invariant.now) (c.args.reader.now ++ ys) in
     let (front, are, still) = c.loop-k.invariant.reads ys known in
     err_finds (AreOfCases (map (step_case c.args.circuit.now c.args.refuter.now.base) c.args.invariant.now)) read _ c.in_err-found.field-0.0 c.check_section.new.reader (g.S.Source.remaining c.check_section.new.from) c.from_residual-in_err-found.ensures.1
-    (many_refused (section_at 115) read front (length c.args.invariant.now) c.loop-k.k c.in_err-found.field-0.0 c.loop-k.reader _ c.loop-k-test.true still (λ zs left. c.in_err-found.ensures.says zs left))
+    (many_refused (section_at 115) read front (length c.args.invariant.now) c.loop-k.k c.in_err-found.field-0.0 c.loop-k.reader _ (rw c.len-k-end.ensures at c.loop-k-test.true) still (λ zs left. c.in_err-found.ensures.says zs left))
 
 pub returns-in_err-skip_sections-clause-says : goal.returns-in_err-skip_sections-clause-says
 returns-in_err-skip_sections-clause-says g c ys known =
@@ -31,12 +32,12 @@ returns-in_err-skip_sections-clause-says g c ys known =
     let inv = c.args.invariant.now in
     let one = section_at 115 in
     let read = many_at one (length inv) (c.args.reader.now ++ ys) in
-    let case : Case = record { base = c.loop-k.refuter.base; units = c.as_slice-in-loop-k.result.now } in
+    let case : Case = record { base = c.loop-k.refuter.base; units = c.as_slice.result.now } in
     let (front, are, still) = c.loop-k.invariant.reads ys known in
-    let (p, judged, further) = many_goes_with (IsOfCase case) one read front (length inv) c.loop-k.k (Some c.in-Some.fault) c.loop-k.reader c.check_section.new.reader _ (g.S.Source.remaining c.check_section.new.from) c.loop-k-test.true still
+    let (p, judged, further) = many_goes_with (IsOfCase case) one read front (length inv) c.loop-k.k (Some c.in-Some.fault) c.loop-k.reader c.check_section.new.reader _ (g.S.Source.remaining c.check_section.new.from) (rw c.len-k-end.ensures at c.loop-k-test.true) still
     (λ zs here. subst (λ o. FindsWith (IsOfCase case) (one (c.loop-k.reader ++ zs)) (Ok o) c.check_section.new.reader (g.S.Source.remaining c.check_section.new.from)) c.in-Some.is (c.in_ok-found.ensures.says zs here)) in
     err_finds (AreOfCases (map (step_case m c.args.refuter.now.base) inv)) read _ c.in_err-skip_sections.field-0.0 c.skip_sections.new.reader (g.S.Source.remaining c.skip_sections.new.from) c.from_residual-in_err-skip_sections.ensures.1
-    (others_refused read (front ++ p ∷ []) (many_at one (length inv - (c.loop-k.k + 1))) c.in_err-skip_sections.field-0.0 c.check_section.new.reader _ further (λ zs here. c.in_err-skip_sections.ensures.says zs here))
+    (others_refused read (front ++ p ∷ []) (many_at one (length inv - (c.loop-k.k + 1))) c.in_err-skip_sections.field-0.0 c.check_section.new.reader _ further (λ zs here. rw c.len.ensures at (c.in_err-skip_sections.ensures.says zs here)))
 
 pub returns-in-Some-clause-says : goal.returns-in-Some-clause-says
 returns-in-Some-clause-says g c ys known =
@@ -45,15 +46,15 @@ returns-in-Some-clause-says g c ys known =
     let one = section_at 115 in
     let fault = c.in-Some.fault in
     let read = many_at one (length inv) (c.args.reader.now ++ ys) in
-    let case : Case = record { base = c.loop-k.refuter.base; units = c.as_slice-in-loop-k.result.now } in
-    let is : case ≡ step_case m c.args.refuter.now.base (get_or inv c.loop-k.k c.index-invariant-k.result) =
-    step_here m c.args.refuter.now.base inv c.loop-k.k c.index-invariant-k.result c.as_slice.result.now c.loop-k.refuter.base c.as_slice-in-loop-k.result.now c.index-invariant-k.is c.as_slice.ensures c.loop-k.invariant.base (c.as_slice-in-loop-k.ensures.value ∙ c.in_ok-step_units_into.ensures.units) in
+    let case : Case = record { base = c.loop-k.refuter.base; units = c.as_slice.result.now } in
+    let is : case ≡ step_case m c.args.refuter.now.base (get_or inv c.loop-k.k c.list-clause.result.now) =
+    step_here m c.args.refuter.now.base inv c.loop-k.k c.list-clause.result.now c.list-clause.result.now c.loop-k.refuter.base c.as_slice.result.now (c.list-clause.ensures ∙ get_or_default c.args.invariant.now c.loop-k.k [] c.list-clause.result.now (rw c.len-k-end.ensures at c.loop-k-test.true)) refl c.loop-k.invariant.base (c.as_slice.ensures.value ∙ c.in_ok-step_units_into.ensures.units) in
     let (front, are, still) = c.loop-k.invariant.reads ys known in
-    let (p, judged, further) = many_goes_with (IsOfCase case) one read front (length inv) c.loop-k.k (Some fault) c.loop-k.reader c.check_section.new.reader _ (g.S.Source.remaining c.check_section.new.from) c.loop-k-test.true still
+    let (p, judged, further) = many_goes_with (IsOfCase case) one read front (length inv) c.loop-k.k (Some fault) c.loop-k.reader c.check_section.new.reader _ (g.S.Source.remaining c.check_section.new.from) (rw c.len-k-end.ensures at c.loop-k-test.true) still
     (λ zs here. subst (λ o. FindsWith (IsOfCase case) (one (c.loop-k.reader ++ zs)) (Ok o) c.check_section.new.reader (g.S.Source.remaining c.check_section.new.from)) c.in-Some.is (c.in_ok-found.ensures.says zs here)) in
     others_found (λ (sections : List (List Line)) found. found ≡ Some fault) (AreOfCases (map (step_case m c.args.refuter.now.base) inv)) read (front ++ p ∷ []) (many_at one (length inv - (c.loop-k.k + 1))) c.check_section.new.reader c.skip_sections.new.reader _ (g.S.Source.remaining c.skip_sections.new.from) (Ok (Some fault)) further
-    (λ zs here. let (sections, rest, whole, any, left) = c.in_ok-skip_sections.ensures.says zs here in (sections, rest, whole, refl, left))
-    (λ more x same. subst (λ o. AreOfCases (map (step_case m c.args.refuter.now.base) inv) ((front ++ p ∷ []) ++ more) o) (sym same) (next_refused (step_case m c.args.refuter.now.base) inv c.loop-k.k c.index-invariant-k.result case front more p fault c.loop-k-test.true is are judged))
+    (λ zs here. let (sections, rest, whole, any, left) = rw c.len.ensures at (c.in_ok-skip_sections.ensures.says zs here) in (sections, rest, whole, refl, left))
+    (λ more x same. subst (λ o. AreOfCases (map (step_case m c.args.refuter.now.base) inv) ((front ++ p ∷ []) ++ more) o) (sym same) (next_refused (step_case m c.args.refuter.now.base) inv c.loop-k.k c.list-clause.result.now case front more p fault (rw c.len-k-end.ensures at c.loop-k-test.true) is are judged))
 
 pub loop-k-preserved : goal.loop-k-preserved
 loop-k-preserved g c =
@@ -67,13 +68,13 @@ loop-k-preserved g c =
           let inv = c.args.invariant.now in
           let one = section_at 115 in
           let read = many_at one (length inv) (c.args.reader.now ++ ys) in
-          let case : Case = record { base = c.loop-k.refuter.base; units = c.as_slice-in-loop-k.result.now } in
-          let is : case ≡ step_case m c.args.refuter.now.base (get_or inv c.loop-k.k c.index-invariant-k.result) =
-          step_here m c.args.refuter.now.base inv c.loop-k.k c.index-invariant-k.result c.as_slice.result.now c.loop-k.refuter.base c.as_slice-in-loop-k.result.now c.index-invariant-k.is c.as_slice.ensures c.loop-k.invariant.base (c.as_slice-in-loop-k.ensures.value ∙ c.in_ok-step_units_into.ensures.units) in
+          let case : Case = record { base = c.loop-k.refuter.base; units = c.as_slice.result.now } in
+          let is : case ≡ step_case m c.args.refuter.now.base (get_or inv c.loop-k.k c.list-clause.result.now) =
+          step_here m c.args.refuter.now.base inv c.loop-k.k c.list-clause.result.now c.list-clause.result.now c.loop-k.refuter.base c.as_slice.result.now (c.list-clause.ensures ∙ get_or_default c.args.invariant.now c.loop-k.k [] c.list-clause.result.now (rw c.len-k-end.ensures at c.loop-k-test.true)) refl c.loop-k.invariant.base (c.as_slice.ensures.value ∙ c.in_ok-step_units_into.ensures.units) in
           let (front, are, still) = c.loop-k.invariant.reads ys known in
-          let (p, judged, further) = many_goes_with (IsOfCase case) one read front (length inv) c.loop-k.k None c.loop-k.reader c.check_section.new.reader _ (g.S.Source.remaining c.check_section.new.from) c.loop-k-test.true still
+          let (p, judged, further) = many_goes_with (IsOfCase case) one read front (length inv) c.loop-k.k None c.loop-k.reader c.check_section.new.reader _ (g.S.Source.remaining c.check_section.new.from) (rw c.len-k-end.ensures at c.loop-k-test.true) still
           (λ zs here. subst (λ o. FindsWith (IsOfCase case) (one (c.loop-k.reader ++ zs)) (Ok o) c.check_section.new.reader (g.S.Source.remaining c.check_section.new.from)) none (c.in_ok-found.ensures.says zs here)) in
-          (front ++ p ∷ [], next_proof (step_case m c.args.refuter.now.base) inv c.loop-k.k c.index-invariant-k.result case front p c.loop-k-test.true is are judged, further);
+          (front ++ p ∷ [], next_proof (step_case m c.args.refuter.now.base) inv c.loop-k.k c.list-clause.result.now case front p (rw c.len-k-end.ensures at c.loop-k-test.true) is are judged, further);
     }
 
 pub returns-clause-says : goal.returns-clause-says
@@ -81,5 +82,5 @@ returns-clause-says g c ys known =
     let inv = c.args.invariant.now in
     let read = many_at (section_at 115) (length inv) (c.args.reader.now ++ ys) in
     let (front, are, still) = c.loop-k.invariant.reads ys known in
-    let (rest, is, left) = many_read (section_at 115) read front (length inv) c.loop-k.k c.loop-k.reader (g.S.Source.remaining c.loop-k.from) c.loop-k-test.false still in
-    (front, rest, is, all_proofs (step_case c.args.circuit.now c.args.refuter.now.base) inv c.loop-k.k front c.loop-k-test.false are, left)
+    let (rest, is, left) = many_read (section_at 115) read front (length inv) c.loop-k.k c.loop-k.reader (g.S.Source.remaining c.loop-k.from) (rw c.len-k-end.ensures at c.loop-k-test.false) still in
+    (front, rest, is, all_proofs (step_case c.args.circuit.now c.args.refuter.now.base) inv c.loop-k.k front (rw c.len-k-end.ensures at c.loop-k-test.false) are, left)

@@ -19,4 +19,4 @@ returns-in-Ok-clause-says g c ys p known =
 pub returns-clause-says : goal.returns-clause-says
 returns-clause-says g c ys p known =
     parts_refused c.args.circuit.now c.args.bad c.args.version p c.args.invariant.now (c.args.reader.now ++ ys) c.skip_parts.new.reader (g.S.Source.remaining c.skip_parts.new.from) c.in-Err.error c.skip_parts.result c.requires.few
-    (λ k is counts. c.in-Err.ensures.refused c.args.bad k is counts) (c.skip_parts.ensures.says ys p c.args.invariant.now known)
+    (λ k is counts. c.in-Err.ensures.refused c.args.bad k is counts) (rw c.len.ensures at (c.skip_parts.ensures.says ys p c.args.invariant.now known))

@@ -26,7 +26,7 @@ returns-in-Err-NoProperty-clause-says g c ys known =
     let inv = c.args.invariant.now in
     let none : HasProperty m (Justice n) → ⊥ = search rules in
     refused_here m (NoProperty n) c.args.version (Justice n) (length inv) inv (c.args.reader.now ++ ys) c.skip_parts.new.reader (g.S.Source.remaining c.skip_parts.new.from) c.skip_parts.result
-    (no_such m (Justice n) (NoProperty n) refl none) (c.skip_parts.ensures.says ys (Justice n) inv known)
+    (no_such m (Justice n) (NoProperty n) refl none) (rw c.len-count.ensures at (c.skip_parts.ensures.says ys (Justice n) inv known))
 
 pub returns-in-Err-Limit-clause-says : goal.returns-in-Err-Limit-clause-says
 returns-in-Err-Limit-clause-says g c ys known =
@@ -36,4 +36,4 @@ returns-in-Err-Limit-clause-says g c ys known =
     let there : n < length m.justice = search rules in
     let many : 4194303 < (shadow_of m n).max_var = search rules in
     refused_here m Limit c.args.version (Justice n) (length inv) inv (c.args.reader.now ++ ys) c.skip_parts-in-Err-Limit.new.reader (g.S.Source.remaining c.skip_parts-in-Err-Limit.new.from) c.skip_parts-in-Err-Limit.result
-    (too_many m n there many) (c.skip_parts-in-Err-Limit.ensures.says ys (Justice n) inv known)
+    (too_many m n there many) (rw c.len-count.ensures at (c.skip_parts-in-Err-Limit.ensures.says ys (Justice n) inv known))

@@ -33,7 +33,7 @@ returns-in_err-skip_cases-clause-says g c ys p known =
     let first = subst (λ o. FindsWith (AreTaken m inv b) (lemmas_at v bytes) (Ok o) c.share_lemmas.new.reader (g.S.Source.remaining c.share_lemmas.new.from)) c.in-Some.is (c.in_ok-found.ensures.says ys m inv known c.requires.shared) in
     behind_lemmas (AreTaken m inv b) P v p n inv bytes c.share_lemmas.new.reader c.skip_cases.new.reader (g.S.Source.remaining c.share_lemmas.new.from) (g.S.Source.remaining c.skip_cases.new.from) (Some c.in-Some.fault) c.from_residual-in_err-skip_cases.result first
     (λ l zs are here. err_finds P (then_sections p n inv l (c.share_lemmas.new.reader ++ zs)) _ e c.skip_cases.new.reader (g.S.Source.remaining c.skip_cases.new.from) c.from_residual-in_err-skip_cases.ensures.1
-    (sections_stop p n inv l (c.share_lemmas.new.reader ++ zs) e (c.in_err-skip_cases.ensures.says zs here)))
+    (sections_stop p n inv l (c.share_lemmas.new.reader ++ zs) e (rw c.len.ensures at (c.in_err-skip_cases.ensures.says zs here))))
 
 pub returns-in-Some-clause-says : goal.returns-in-Some-clause-says
 returns-in-Some-clause-says g c ys p known =
@@ -49,7 +49,7 @@ returns-in-Some-clause-says g c ys p known =
     behind_lemmas (AreTaken m inv b) P v p n inv bytes c.share_lemmas.new.reader c.skip_cases.new.reader (g.S.Source.remaining c.share_lemmas.new.from) (g.S.Source.remaining c.skip_cases.new.from) (Some fault) (Ok (Some fault)) first
     (λ l zs are here. sections_made (λ sections x. x ≡ Some fault) P p n inv l (c.share_lemmas.new.reader ++ zs) c.skip_cases.new.reader (g.S.Source.remaining c.skip_cases.new.from) (Ok (Some fault))
     (λ ss x same. subst (λ o. P (made p inv l ss) o) (sym same) (lemmas_refused m c.args.bad (made p inv l ss) b fault are))
-    (let (ss, rest, is, u, left) = c.in_ok-skip_cases.ensures.says zs here in (ss, rest, is, refl, left)))
+    (let (ss, rest, is, u, left) = rw c.len.ensures at (c.in_ok-skip_cases.ensures.says zs here) in (ss, rest, is, refl, left)))
 
 -- ---- the lemmas are shared
 

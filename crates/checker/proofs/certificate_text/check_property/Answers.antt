@@ -14,7 +14,7 @@ returns-then-not-has_property-clause-says g c ys known =
     let e = c.no_property-error.result in
     let none : HasProperty m p → ⊥ = search rules in
     refused_here m e c.args.version p (length inv) inv (c.args.reader.now ++ ys) c.skip_parts.new.reader (g.S.Source.remaining c.skip_parts.new.from) c.skip_parts.result
-    (no_such m p e c.no_property-error.ensures none) (c.skip_parts.ensures.says ys p inv known)
+    (no_such m p e c.no_property-error.ensures none) (rw c.len.ensures at (c.skip_parts.ensures.says ys p inv known))
 
 -- ---- a bad literal
 

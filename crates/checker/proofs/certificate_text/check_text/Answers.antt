@@ -1,8 +1,7 @@
-use Rattle.std.proofs.Common.{◌≡◌, ◌≤◌, ◌++◌, ℕ, List, None, Ok, length, sym, subst}
-use Rattle.graph.specs.declared.circuit.Lit.{Lit}
+use Rattle.std.proofs.Common.{◌≡◌, ◌≤◌, ◌++◌, ℕ, List, Ok, length, sym, subst}
 use Rattle.certificate.specs.declared.certificate.Certificate.{Certificate}
 use Rattle.certificate.specs.Reading.{certificate_at}
-use Rattle.certificate.specs.Streams.{FindsWith, ForText, parts_at}
+use Rattle.certificate.specs.Streams.{parts_at}
 use Rattle.certificate.proofs.StreamLaws.{err_finds}
 use Rattle.checker.specs.declared.certificate_text.Outcome.{Outcome}
 use Rattle.checker.specs.Streamed.{IsFound}
@@ -60,7 +59,7 @@ returns-in_err-invariant-clause-says g c ys known =
 
 pub check_property-requires-clause-few : goal.check_property-requires-clause-few
 check_property-requires-clause-few g c =
-    subst (λ (w : List (List Lit)). length w ≤ 4194303) (sym c.as_slice.ensures) (subst (λ k. k ≤ 4194303) (sym c.in_ok-invariant.ensures.many) c.in_ok-count.ensures.few)
+    subst (λ k. k ≤ 4194303) (sym c.in_ok-invariant.ensures.many) c.in_ok-count.ensures.few
 
 pub returns-in_err-refusal-clause-says : goal.returns-in_err-refusal-clause-says
 returns-in_err-refusal-clause-says g c ys known =
@@ -79,7 +78,7 @@ returns-in_err-refusal-clause-says g c ys known =
     (λ us there. behind_count P v p n (c.property.new.self ++ us) c.count.new.self later (g.S.Source.remaining c.count.new.from) last r (c.in_ok-count.ensures.says us there)
     (λ ws after. behind_clauses P v p n inv (c.count.new.self ++ ws) c.read_clauses.new.reader later (g.S.Source.remaining c.read_clauses.new.from) last r c.in_ok-invariant.ensures.many (c.in_ok-invariant.ensures.says ws after)
     (λ xs end. err_finds P (parts_at v p (length inv) inv (c.read_clauses.new.reader ++ xs)) r e later last c.from_residual-in_err-refusal.ensures.1
-    (subst (λ (w : List (List Lit)). ForText e (parts_at v p (length w) w (c.read_clauses.new.reader ++ xs) ≡ None)) c.as_slice.ensures (c.in_err-refusal.ensures.says xs end))))))
+    (c.in_err-refusal.ensures.says xs end)))))
 
 pub returns-clause-says : goal.returns-clause-says
 returns-clause-says g c ys known =
@@ -99,4 +98,4 @@ returns-clause-says g c ys known =
     (λ us there. behind_count P v p n (c.property.new.self ++ us) c.count.new.self later (g.S.Source.remaining c.count.new.from) last (Ok told) (c.in_ok-count.ensures.says us there)
     (λ ws after. behind_clauses P v p n inv (c.count.new.self ++ ws) c.read_clauses.new.reader later (g.S.Source.remaining c.read_clauses.new.from) last (Ok told) c.in_ok-invariant.ensures.many (c.in_ok-invariant.ensures.says ws after)
     (λ xs end. outcome_found P m v p (length inv) inv (c.read_clauses.new.reader ++ xs) later last found told (λ d both. both)
-    (subst (λ (w : List (List Lit)). FindsWith (IsFound m) (parts_at v p (length w) w (c.read_clauses.new.reader ++ xs)) (Ok found) later last) c.as_slice.ensures (c.in_ok-refusal.ensures.says xs end))))))
+    (c.in_ok-refusal.ensures.says xs end)))))

@@ -1,30 +1,24 @@
-use Rattle.std.proofs.Common.{rules, ◌≡◌, ℕ, ◌+◌, ◌<◌, ◌≤◌, length, drop, [], subst, ◌∙◌, arith}
+use Rattle.std.proofs.Common.{rules, ◌≡◌, length, drop, [], subst, ◌∙◌}
 use Rattle.std.proofs.lemmas.List.{get_or_default, take_all}
-use Rattle.std.proofs.lemmas.List.Elements.{All-more, All-weaker}
+use Rattle.std.proofs.lemmas.List.Elements.{All-more}
+use Rattle.std.proofs.lemmas.Result.{err_from_is_err_and}
 use Rattle.graph.proofs.Tabled.{take_whole}
 use Rattle.checker.specs.Accepted.{IsGood}
-use Rattle.checker.specs.declared.invariant.ClauseFault.TheVariants.{NotLatch, Repeated}
-use Rattle.checker.specs.Causes.{IsClauseFault}
-use Rattle.checker.proofs.Good.{first_fault_at}
 use Rattle.checker.proofs.invariant.check_clauses.Goals as goal
 
-pub returns-in-Some-NotLatch-clause-refused : goal.returns-in-Some-NotLatch-clause-refused
-returns-in-Some-NotLatch-clause-refused c =
-    first_fault_at c.args.circuit.now c.args.invariant.now c.loop-k.k c.index-invariant-k.result c.as_slice.result.now NotLatch c.loop-k-test.true c.loop-k.invariant.good
-    c.index-invariant-k.is c.as_slice.ensures (subst (IsClauseFault c.args.circuit.now c.as_slice.result.now) c.in-Some-NotLatch.field-0-is c.in-Some-NotLatch.ensures.fault)
-
-pub returns-in-Some-Repeated-clause-refused : goal.returns-in-Some-Repeated-clause-refused
-returns-in-Some-Repeated-clause-refused c =
-    first_fault_at c.args.circuit.now c.args.invariant.now c.loop-k.k c.index-invariant-k.result c.as_slice.result.now Repeated c.loop-k-test.true c.loop-k.invariant.good
-    c.index-invariant-k.is c.as_slice.ensures (subst (IsClauseFault c.args.circuit.now c.as_slice.result.now) c.in-Some-Repeated.field-0-is c.in-Some-Repeated.ensures.fault)
+pub returns-in_err-check_clause-clause-refused : goal.returns-in_err-check_clause-clause-refused
+returns-in_err-check_clause-clause-refused c =
+    let p = err_from_is_err_and c.from_residual-in_err-check_clause.result c.from_residual-in_err-check_clause.ensures.1 in
+    rw (p.1, p.2)
+    (c.in_err-check_clause.ensures.refused c.args.invariant.now c.loop-k-test.true (c.as_slice.ensures ∙ c.index-invariant-k.is ∙ get_or_default c.args.invariant.now c.loop-k.k c.index-invariant-k.result [] c.loop-k-test.true) c.loop-k.invariant.good)
 
 pub loop-k-preserved : goal.loop-k-preserved
 loop-k-preserved c =
-    let kept : length c.clause_fault.new.seen ≡ c.loop-k.seen.len = search rules in
-    rw (take_whole c.loop-k.seen.len c.clause_fault.new.seen (drop (length c.clause_fault.new.seen) c.loop-k.seen.items) kept) (record {
+    let kept : length c.check_clause.new.seen ≡ c.loop-k.seen.len = search rules in
+    rw (take_whole c.loop-k.seen.len c.check_clause.new.seen (drop (length c.check_clause.new.seen) c.loop-k.seen.items) kept) (record {
       good = All-more (IsGood c.args.circuit.now) c.args.invariant.now c.loop-k.k [] c.loop-k-test.true c.loop-k.invariant.good
-          (subst (IsGood c.args.circuit.now) (c.as_slice.ensures ∙ c.index-invariant-k.is ∙ get_or_default c.args.invariant.now c.loop-k.k c.index-invariant-k.result [] c.loop-k-test.true) c.in-None.ensures.fault);
-      below = All-weaker (λ (s : ℕ). s ≤ c.loop-k.k + 1) (λ s. s < c.loop-k.k + 1 + 1) (λ s le. omega arith) c.clause_fault.new.seen c.clause_fault.ensures.most;
+          (subst (IsGood c.args.circuit.now) (c.as_slice.ensures ∙ c.index-invariant-k.is ∙ get_or_default c.args.invariant.now c.loop-k.k c.index-invariant-k.result [] c.loop-k-test.true) c.in_ok-check_clause.ensures.good);
+      below = c.check_clause.ensures.below;
       whole = search rules;
     })
 

@@ -1,7 +1,7 @@
 use Rattle.std.proofs.lemmas.Result.{err_from_is_err_and}
 use Rattle.scan.specs.Lists.{many_at}
 use Rattle.scan.proofs.Loops.{many_more, many_fails, many_done}
-use Rattle.scan.proofs.line_kind.lines.Goals as goal
+use Rattle.scan.proofs.line_kind.lines_into.Goals as goal
 
 pub returns-in_err-item : goal.returns-in_err-item
 returns-in_err-item g c =
