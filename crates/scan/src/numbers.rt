@@ -2,18 +2,41 @@
 
 ghost use Rattle.std.specs.Prelude.{◌≡◌, ◌<◌, ◌≤◌, length, IfErr, IfOk};
 ghost use Rattle.scan.specs.Reading.{Gives};
-ghost use Rattle.scan.specs.Numbers.{begins_digit, digits_after, number_at};
+ghost use Rattle.scan.specs.Numbers.{at_most, begins_digit, digits_after, number_at};
 ghost use Rattle.scan.specs.Refusals.{IsPlaced, number_fault};
 
 use crate::fault::{Fault, Kinds};
 
-/// The digits that come next, behind a number. A number past the limit stays what it is.
+/// How many digits are read behind the first without a look at the limit: no number of these passes 64 bits.
+const UNLOOKED: usize = 9;
+
+/// The digits that come next, behind a number. A number past the limit is some number past it.
 #[inline(always)]
 fn digits(text: &[u8], limit: u32, first: u8) -> (u64, &[u8])
-    ensures value { (result.0, result.1.now) ≡ digits_after limit first text.now }
+    requires { first < 10 }
+    ensures value { at_most limit (result.0, result.1.now) ≡ at_most limit (digits_after limit first text.now) }
     ensures shorter { length result.1.now ≤ length text.now }
 {
     let mut value = u64::from(first);
+    let near = text.len().min(UNLOOKED);
+    for (i, c) in text[..near].iter().enumerate() {
+        if !c.is_ascii_digit() {
+            return (value, &text[i..]);
+        }
+        value = value * 10 + u64::from(*c - b'0');
+    }
+    more_digits(&text[near..], limit, value)
+}
+
+/// The digits that come next, behind a number of ten digits. A number past the limit stays what it is.
+#[cold]
+#[inline(never)]
+fn more_digits(text: &[u8], limit: u32, first: u64) -> (u64, &[u8])
+    requires { first < 10000000000 }
+    ensures value { (result.0, result.1.now) ≡ digits_after limit first text.now }
+    ensures shorter { length result.1.now ≤ length text.now }
+{
+    let mut value = first;
     for (i, c) in text.iter().enumerate() {
         if !c.is_ascii_digit() {
             return (value, &text[i..]);
