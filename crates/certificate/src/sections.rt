@@ -60,7 +60,7 @@ fn section_lines(alloc: Global, text: &[u8]) -> Result<(Proof, &[u8]), Fault<Ref
 {
     let mut proof = Proof::new(alloc);
     let mut rest = text;
-    for _ in 0..text.len() + 1 {
+    'reading: loop {
         let (item, after) = line_or_end(alloc, rest)?;
         rest = after;
         let Some(line) = item else {
@@ -68,10 +68,6 @@ fn section_lines(alloc: Global, text: &[u8]) -> Result<(Proof, &[u8]), Fault<Ref
         };
         proof.push_line(line)?;
     }
-    Err(Fault::Text {
-        kind: Refusal::Truncated,
-        left: 0,
-    })
 }
 
 /// The section with this letter, and what follows it.

@@ -337,7 +337,7 @@ fn are_lines_read(alloc: Global) -> Result<bool, Fault<Refusal>> {
 
 /// Whether the items 1 and -2 are read, and what stands behind the line end is left.
 fn are_items_read(alloc: Global) -> Result<bool, Fault<Refusal>> {
-    let (entries, rest) = items::<Entry>(alloc, b"1 -2 0\n3", 9, Refusal::Truncated)?;
+    let (entries, rest) = items::<Entry>(alloc, b"1 -2 0\n3", 9)?;
     Ok(entries.as_slice() == [1, -2].as_slice() && rest == b"3".as_slice())
 }
 
@@ -361,7 +361,7 @@ fn lines_fault(alloc: Global, text: &[u8]) -> Option<Fault<Refusal>> {
 
 /// Why items are not read.
 fn items_fault(alloc: Global, text: &[u8]) -> Option<Fault<Refusal>> {
-    items::<Entry>(alloc, text, 9, Refusal::Truncated).err()
+    items::<Entry>(alloc, text, 9).err()
 }
 
 #[test]

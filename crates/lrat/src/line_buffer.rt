@@ -82,14 +82,8 @@ impl LineBuffer {
     {
         self.id = id;
         self.deletes = false;
-        let rest = items_into::<Literals<K>>(
-            alloc,
-            &mut self.literals,
-            text,
-            kinds,
-            kinds.truncated,
-        )?;
-        let rest = items_into::<Hints<K>>(alloc, &mut self.hints, rest, kinds, kinds.truncated)?;
+        let rest = items_into::<Literals<K>>(alloc, &mut self.literals, text, kinds)?;
+        let rest = items_into::<Hints<K>>(alloc, &mut self.hints, rest, kinds)?;
         Ok(rest)
     }
 
@@ -107,7 +101,7 @@ impl LineBuffer {
         self.id = id;
         self.deletes = true;
         let rest = byte(text, b' ', kinds)?;
-        let rest = items_into::<Ids<K>>(alloc, &mut self.ids, rest, kinds, kinds.truncated)?;
+        let rest = items_into::<Ids<K>>(alloc, &mut self.ids, rest, kinds)?;
         Ok(rest)
     }
 

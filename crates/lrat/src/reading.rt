@@ -129,9 +129,9 @@ fn added<K: Copy>(
 ) -> Result<(Line, &[u8]), Fault<K>>
     ensures { Gives (λ x. (x.0, x.1.now)) result (added_at id text.now) }
 {
-    let (literals, rest) = items::<Literals<K>>(alloc, text, kinds, kinds.truncated)?;
+    let (literals, rest) = items::<Literals<K>>(alloc, text, kinds)?;
     let clause = Clause::from_slice(alloc, literals.as_slice())?;
-    let (hints, rest) = items::<Hints<K>>(alloc, rest, kinds, kinds.truncated)?;
+    let (hints, rest) = items::<Hints<K>>(alloc, rest, kinds)?;
     let hints = Seq::from_vec(hints);
     Ok((Line::Add { id, clause, hints }, rest))
 }
@@ -147,7 +147,7 @@ fn deleted<K: Copy>(
     ensures { Gives (λ x. (x.0, x.1.now)) result (deleted_at id text.now) }
 {
     let rest = byte(text, b' ', kinds)?;
-    let (ids, rest) = items::<Ids<K>>(alloc, rest, kinds, kinds.truncated)?;
+    let (ids, rest) = items::<Ids<K>>(alloc, rest, kinds)?;
     let ids = Seq::from_vec(ids);
     Ok((Line::Delete { id, ids }, rest))
 }

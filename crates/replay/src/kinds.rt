@@ -116,7 +116,7 @@ pub fn line_or_end<'t>(
             Ok((false, rest))
         }
         _ => {
-            let rest = items_into::<Values>(alloc, line, text, (), Refusal::Truncated)?;
+            let rest = items_into::<Values>(alloc, line, text, ())?;
             Ok((true, rest))
         }
     }

@@ -58,7 +58,7 @@ fn values_from<S: Source>(
     ensures others { (IsErrOf result Device → ⊥) → S.failed from.new ≡ S.failed from.old }
 {
     let n = pieces.next(from)?;
-    let left = match items_into::<Values>(alloc, line, pieces.first(n), (), Refusal::Truncated) {
+    let left = match items_into::<Values>(alloc, line, pieces.first(n), ()) {
         Ok(rest) => rest.len(),
         Err(fault) => return Err(TextError::Refused(text_error(before.saturating_add(n), fault))),
     };

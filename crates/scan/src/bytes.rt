@@ -1,6 +1,6 @@
 //! Bytes that a text has to have.
 
-ghost use Rattle.std.specs.Prelude.{◌≡◌, IfErr};
+ghost use Rattle.std.specs.Prelude.{◌≡◌, ◌<◌, length, IfErr, IfOk};
 ghost use Rattle.scan.specs.Reading.{Gives};
 ghost use Rattle.scan.specs.Bytes.{byte_at, tag_at};
 ghost use Rattle.scan.specs.Refusals.{IsPlaced, IsTagFault, byte_fault};
@@ -11,6 +11,7 @@ use crate::fault::{Fault, Kinds};
 #[inline(always)]
 pub fn byte<K: Copy>(text: &[u8], wanted: u8, kinds: Kinds<K>) -> Result<&[u8], Fault<K>>
     ensures value { Gives (λ x. x.now) result (byte_at wanted text.now) }
+    ensures shorter { IfOk result (λ x. length x.now < length text.now) }
     ensures refusal { IfErr result (λ e. e ≡ byte_fault kinds text.now) }
     ensures place { IsPlaced text.now result }
 {

@@ -2,7 +2,7 @@
 
 ghost use Rattle.base.specs.Sizes.{IsItemSize};
 ghost use Rattle.std.specs.Mem.{type_size};
-ghost use Rattle.std.specs.Prelude.{◌≡◌};
+ghost use Rattle.std.specs.Prelude.{◌≡◌, ◌<◌, length, IfOk};
 ghost use Rattle.scan.specs.Reading.{Gives};
 ghost use Rattle.scan.specs.Lists.{items_at};
 
@@ -36,27 +36,26 @@ pub trait ItemKind {
         context: Self::Context,
     ) -> Result<(Option<Self::Item>, &[u8]), Fault<Self::Refusal>>
         requires { allows context }
-        ensures { Gives (λ x. (x.0, x.1.now)) result (at context text.now) };
+        ensures value { Gives (λ x. (x.0, x.1.now)) result (at context text.now) }
+        ensures shorter { IfOk result (λ x. length x.1.now < length text.now) };
 }
 
 /// The items before the first end, put into a list that is emptied first and keeps its memory, and
-/// what follows that end. The list grows item by item. Where each item takes a byte, as it should,
-/// every refusal is one of `item`; items that take none would never come to an end, and `endless`
-/// is reported at the text's end.
+/// what follows that end. The list grows item by item. Every refusal is one of `item`.
 pub fn items_into<'t, L: ItemKind>(
     alloc: Global,
     items: &mut Vec<L::Item>,
     text: &'t [u8],
     context: L::Context,
-    endless: L::Refusal,
 ) -> Result<&'t [u8], Fault<L::Refusal>>
     requires allows { L.allows context }
     requires item { IsItemSize (type_size L.Item.row) }
-    ensures { Gives (λ x. (items.new.items, x.now)) result (items_at (L.at context) text.now) }
+    ensures value { Gives (λ x. (items.new.items, x.now)) result (items_at (L.at context) text.now) }
+    ensures shorter { IfOk result (λ x. length x.now < length text.now) }
 {
     items.clear();
     let mut rest = text;
-    for _ in 0..text.len() + 1 {
+    'reading: loop {
         let (item, after) = L::item(alloc, rest, context)?;
         rest = after;
         match item {
@@ -64,10 +63,6 @@ pub fn items_into<'t, L: ItemKind>(
             Some(item) => push(items, item)?,
         }
     }
-    Err(Fault::Text {
-        kind: endless,
-        left: 0,
-    })
 }
 
 /// As `items_into`, in a list of its own.
@@ -75,13 +70,13 @@ pub fn items<L: ItemKind>(
     alloc: Global,
     text: &[u8],
     context: L::Context,
-    endless: L::Refusal,
 ) -> Result<(Vec<L::Item>, &[u8]), Fault<L::Refusal>>
     requires allows { L.allows context }
     requires item { IsItemSize (type_size L.Item.row) }
-    ensures { Gives (λ x. (x.0.items, x.1.now)) result (items_at (L.at context) text.now) }
+    ensures value { Gives (λ x. (x.0.items, x.1.now)) result (items_at (L.at context) text.now) }
+    ensures shorter { IfOk result (λ x. length x.1.now < length text.now) }
 {
     let mut items = Vec::new(alloc);
-    let rest = items_into::<L>(alloc, &mut items, text, context, endless)?;
+    let rest = items_into::<L>(alloc, &mut items, text, context)?;
     Ok((items, rest))
 }

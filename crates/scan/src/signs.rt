@@ -1,6 +1,6 @@
 //! Numbers with a sign, in a list that a 0 ends.
 
-ghost use Rattle.std.specs.Prelude.{◌≡◌, ◌<◌, length, IfErr};
+ghost use Rattle.std.specs.Prelude.{◌≡◌, ◌<◌, length, IfErr, IfOk};
 ghost use Rattle.scan.specs.Reading.{Gives};
 ghost use Rattle.scan.specs.Refusals.{IsPlaced, IsWithin, fault_behind_minus, signed_fault, word_fault};
 ghost use Rattle.scan.specs.Numbers.{number_at};
@@ -19,6 +19,7 @@ fn negative<K: Copy>(
     kinds: Kinds<K>,
 ) -> Result<(Option<i64>, &[u8]), Fault<K>>
     ensures value { Gives (λ x. (x.0, x.1.now)) result (negative_at limit text.now) }
+    ensures shorter { IfOk result (λ x. length x.1.now < length text.now) }
     ensures refusal { IfErr result (λ e. e ≡ fault_behind_minus kinds left text.now (number_at limit text.now)) }
     ensures place { length text.now < left → IsWithin left result }
 {
@@ -42,6 +43,7 @@ fn positive<K: Copy>(
     kinds: Kinds<K>,
 ) -> Result<(Option<i64>, &[u8]), Fault<K>>
     ensures value { Gives (λ x. (x.0, x.1.now)) result (positive_at limit end text.now) }
+    ensures shorter { IfOk result (λ x. length x.1.now < length text.now) }
     ensures refusal { IfErr result (λ e. e ≡ word_fault kinds limit text.now) }
     ensures place { IsPlaced text.now result }
 {
@@ -65,6 +67,7 @@ pub fn signed<K: Copy>(
     kinds: Kinds<K>,
 ) -> Result<(Option<i64>, &[u8]), Fault<K>>
     ensures value { Gives (λ x. (x.0, x.1.now)) result (signed_at limit end text.now) }
+    ensures shorter { IfOk result (λ x. length x.1.now < length text.now) }
     ensures refusal { IfErr result (λ e. e ≡ signed_fault kinds limit text.now) }
     ensures place { IsPlaced text.now result }
 {

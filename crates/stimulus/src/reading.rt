@@ -168,7 +168,7 @@ impl ItemKind for InputLines {
                 Ok((None, rest))
             }
             _ => {
-                let (values, rest) = items::<Values>(alloc, text, (), Refusal::Truncated)?;
+                let (values, rest) = items::<Values>(alloc, text, ())?;
                 Ok((Some(Seq::from_vec(values)), rest))
             }
         }
@@ -181,8 +181,8 @@ fn violated(alloc: Global, text: &[u8]) -> Result<(Stimulus, &[u8]), Fault<Refus
     ensures { Gives (λ x. (x.0, x.1.now)) result (violated_at text.now) }
 {
     let (property, rest) = heading(text)?;
-    let (initial, rest) = items::<Values>(alloc, rest, (), Refusal::Truncated)?;
-    let (inputs, rest) = items::<InputLines>(alloc, rest, (), Refusal::Truncated)?;
+    let (initial, rest) = items::<Values>(alloc, rest, ())?;
+    let (inputs, rest) = items::<InputLines>(alloc, rest, ())?;
     let violated = Stimulus::Violated {
         property,
         initial: Seq::from_vec(initial),

@@ -15,17 +15,17 @@ returns-in-Err-clause-says g c ys known =
     subst (λ e. ForText (Refused e) P) (sym c.text_error.ensures)
     (for_text c.saturating_add.result c.in-Err.fault P (p first)
     (λ none. stuck_from p values_of_line c.args.pieces.now c.next.new.self ys _ (g.S.Source.remaining c.next.new.from) c.in_ok-n.n known c.in_ok-n.ensures.lies (ap p (sym c.first.ensures) ∙ none))
-    c.in-Err.ensures)
+    c.in-Err.ensures.value)
 
 pub overflow_sub-taken : goal.overflow_sub-taken
 overflow_sub-taken g c =
     let p = items_at value_at in
-    let less = some_taken p values_of_line c.next.new.self c.in-Ok.rest.now c.in_ok-n.n c.items_into.new.items.items c.in_ok-n.ensures.within (ap p (sym c.first.ensures) ∙ c.in-Ok.ensures) in
+    let less = some_taken p values_of_line c.next.new.self c.in-Ok.rest.now c.in_ok-n.n c.items_into.new.items.items c.in_ok-n.ensures.within (ap p (sym c.first.ensures) ∙ c.in-Ok.ensures.value) in
     omega (arith, less)
 
 pub returns-clause-says : goal.returns-clause-says
 returns-clause-says g c ys known =
     let p = items_at value_at in
     let k = c.in_ok-n.n - length c.in-Ok.rest.now in
-    let (rest, is, left) = moves_from p values_of_line c.args.pieces.now c.next.new.self ys c.in-Ok.rest.now _ (g.S.Source.remaining c.next.new.from) c.in_ok-n.n k c.items_into.new.items.items known c.in_ok-n.ensures.lies c.in_ok-n.ensures.within refl (ap p (sym c.first.ensures) ∙ c.in-Ok.ensures) in
+    let (rest, is, left) = moves_from p values_of_line c.args.pieces.now c.next.new.self ys c.in-Ok.rest.now _ (g.S.Source.remaining c.next.new.from) c.in_ok-n.n k c.items_into.new.items.items known c.in_ok-n.ensures.lies c.in_ok-n.ensures.within refl (ap p (sym c.first.ensures) ∙ c.in-Ok.ensures.value) in
     (rest, is, (left.0, left.1, left.2 ∙ ap (λ w. w ++ left.0) (sym c.skip.ensures)))

@@ -10,8 +10,8 @@ overflow_cast-result g c =
     let wide : to_z w64 (of_z w64 z) ≡ z = to_z-of_z w64 z (fits_signed_from_abs w64 z (omega (arith, within))) in
     rw wide (fits_signed_from_abs w32 z within)
 
-pub returns-in-Some-default : goal.returns-in-Some-default
-returns-in-Some-default g c =
+pub returns-in-Some-default-clause-value : goal.returns-in-Some-default-clause-value
+returns-in-Some-default-clause-value g c =
     let z = c.in-Some-default.literal in
     let value = rw c.in-Some-default.is-0 at c.in_ok-rest.ensures.value in
     let within = literal_within c.args.text.now z c.in_ok-rest.field-0.1.now value in
