@@ -1,17 +1,14 @@
 -- Short runs, of which the frames say that they don't set the bad literal.
-use Rattle.std.proofs.Common.{◌≡◌, ◌∙◌, ℕ, ◌+◌, ◌<◌, ◌≤◌, false, List, [], ◌∷◌, length, get_or, Some, All, inl, inr, refl, sym, ap, subst, arith}
-use Rattle.std.specs.List.{slice_get}
+use Rattle.std.proofs.Common.{◌≡◌, ℕ, ◌+◌, ◌≤◌, false, List, [], ◌∷◌, length, get_or, All, inl, inr, sym, subst, arith}
 use Rattle.std.proofs.lemmas.Bool.{cases_lt}
 use Rattle.std.proofs.lemmas.Option.{get_or_from_slice_get}
 use Rattle.std.proofs.lemmas.List.Elements.{All-nil, All-cons, All-head, All-tail, Contains-get_or}
 use Rattle.graph.specs.declared.circuit.Lit.{Lit}
-use Rattle.graph.specs.declared.circuit.Property.TheVariants.{Bad}
 use Rattle.graph.specs.declared.parts.Parts.{Parts}
 use Rattle.graph.specs.Valuation.{Valuation, value_of, state_of, Agrees}
 use Rattle.graph.specs.Runs.{IsRun, KeepsConstraints, Steps, next_state}
 use Rattle.cnf.specs.Formulas.{bad_literal}
 use Rattle.cnf.specs.Meaning.{KeepsNow}
-use Rattle.engine.specs.Bounds.{IsClear}
 use Rattle.ic3_step.specs.States.{IsTime}
 use Rattle.ic3_frames.specs.Frames.{InFrame, AreFrames, Levels, Excludes}
 use Rattle.ic3_frames.proofs.Laws.{onward_from}

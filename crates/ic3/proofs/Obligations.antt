@@ -1,17 +1,74 @@
--- Obligations met, and those put aside.
-use Rattle.std.proofs.Common.{◌≡◌, List, [], ◌∷◌, ◌++◌, All, sym, subst, arith}
-use Rattle.std.proofs.lemmas.List.{get_or_append_left, length-append}
-use Rattle.std.proofs.lemmas.List.Elements.{All-contains, All-push, Contains-push}
+-- Obligations that were found, one more, and the way from one to the bad literal.
+use Rattle.std.proofs.Common.{◌≡◌, ◌<◌, ◌≤◌, ◌∙◌, ℕ, List, [], ◌∷◌, ◌++◌, Bool, Option, None, Some, All, length, map, get_or, refl, sym, subst, arith, below_more}
+use Rattle.std.proofs.lemmas.List.{get_or_append_left, get_or_push, length-append, append_assoc}
+use Rattle.std.proofs.lemmas.List.Elements.{All-cons, All-nil, All-push}
+use Rattle.graph.specs.declared.parts.Parts.{Parts}
+use Rattle.ic3.specs.declared.obligation.Obligation.{Obligation}
+use Rattle.ic3.specs.declared.waiting.Waiting.{Waiting}
+use Rattle.ic3.specs.Waiting.{AreWaiting}
+use Rattle.ic3.specs.Cubes.{LeadsOn, LeadToBad, ArePredecessors, AreBad}
+use Rattle.ic3.specs.Answers.{IsObligation, AreObligations, IsWay}
 
-all_front : {X : Type 0} (P : X → Type 0) (xs ys : List X) → All P (xs ++ ys) → All P xs
-all_front P xs ys h k d k_in = subst P (get_or_append_left xs ys d k k_in) (h k d (omega (arith, length-append xs ys)))
+-- the lines lead from the first obligation to this one: whatever way leads from this one to the bad literal, they are its beginning
+abbrev pub IsBegun : Parts → Obligation → Obligation → List (List Bool) → Type 0
+IsBegun m first o lines = (tail : List Obligation) → LeadToBad m (o ∷ tail) → All (IsObligation m) (o ∷ tail) →
+    (os : List Obligation) × (lines ++ map (λ (p : Obligation). p.inputs) (o ∷ tail) ≡ map (λ (p : Obligation). p.inputs) (first ∷ os)) × All (IsObligation m) (first ∷ os) × LeadToBad m (first ∷ os)
 
--- the last of a list, and those before it
-pub all_popped : {X : Type 0} (P : X → Type 0) (xs rest : List X) (x : X) → xs ≡ rest ++ x ∷ [] → All P xs → P x × All P rest
-all_popped P xs rest x are all =
-    let split : All P (rest ++ x ∷ []) = subst (All P) are all in
-    (All-contains P (rest ++ x ∷ []) x split (Contains-push rest x), all_front P rest (x ∷ []) split)
+pub begun_first : (m : Parts) (o : Obligation) → IsBegun m o o []
+begun_first m o = λ tail leads each. (tail, refl, each, leads)
 
--- one more
-pub all_stacked : {X : Type 0} (P : X → Type 0) (xs rest : List X) (x : X) → xs ≡ rest ++ x ∷ [] → P x → All P rest → All P xs
-all_stacked P xs rest x are here all = subst (All P) (sym are) (All-push P rest x all here)
+pub begun_next : (m : Parts) (first o p : Obligation) (lines : List (List Bool)) → IsObligation m o → ArePredecessors m o.clause o.inputs p.clause → IsBegun m first o lines → IsBegun m first p (lines ++ o.inputs ∷ [])
+begun_next m first o p lines here predecessors begun = λ tail leads each.
+    let way = begun (p ∷ tail) (predecessors, leads) (All-cons (IsObligation m) o (p ∷ tail) here each) in
+    (way.0, append_assoc lines (o.inputs ∷ []) (map (λ (p : Obligation). p.inputs) (p ∷ tail)) ∙ way.1, way.2, way.3)
+
+pub begun_bad : (m : Parts) (first o : Obligation) (lines : List (List Bool)) → IsObligation m o → AreBad m o.clause o.inputs → IsBegun m first o lines → IsWay m first (lines ++ o.inputs ∷ [])
+begun_bad m first o lines here bad begun =
+    let way = begun [] bad (All-cons (IsObligation m) o [] here (All-nil (IsObligation m))) in
+    (way.0, way.1, way.2, way.3)
+
+-- from an obligation at its place to the next one
+pub begun_on : (m : Parts) (os : List Obligation) (first o : Obligation) (at k : ℕ) (lines : List (List Bool)) → at < length os → o ≡ get_or os at o → o.next ≡ Some k → AreObligations m os → IsBegun m first o lines →
+    (k < at) × ((d : Obligation) → IsBegun m first (get_or os k d) (lines ++ o.inputs ∷ []))
+begun_on m os first o at k lines at_in is next all begun =
+    let leads : LeadsOn m os at o (Some k) = subst (LeadsOn m os at o) next (subst (λ (p : Obligation). LeadsOn m os at p p.next) (sym is) (all.lead at o at_in)) in
+    let here : IsObligation m o = subst (IsObligation m) (sym is) (all.each at o at_in) in
+    (leads.0, λ d. begun_next m first o (get_or os k d) lines here (leads.1 d) begun)
+
+-- from a bad one
+pub begun_end : (m : Parts) (os : List Obligation) (first o : Obligation) (at : ℕ) (lines : List (List Bool)) → at < length os → o ≡ get_or os at o → o.next ≡ None → AreObligations m os → IsBegun m first o lines →
+    IsWay m first (lines ++ o.inputs ∷ [])
+begun_end m os first o at lines at_in is next all begun =
+    let bad : LeadsOn m os at o None = subst (LeadsOn m os at o) next (subst (λ (p : Obligation). LeadsOn m os at p p.next) (sym is) (all.lead at o at_in)) in
+    let here : IsObligation m o = subst (IsObligation m) (sym is) (all.each at o at_in) in
+    begun_bad m first o lines here bad begun
+
+-- one more obligation
+leads_still : (m : Parts) (os more : List Obligation) (i : ℕ) (o : Obligation) (next : Option ℕ) → i ≤ length os → LeadsOn m os i o next → LeadsOn m (os ++ more) i o next
+leads_still m os more i o None le leads = leads
+leads_still m os more i o (Some k) le leads = (leads.0, λ d. subst (λ (p : Obligation). ArePredecessors m o.clause o.inputs p.clause) (sym (get_or_append_left os more d k (omega (arith, le, leads.0)))) (leads.1 d))
+
+pub obligations_more : (m : Parts) (os : List Obligation) (o : Obligation) → AreObligations m os → IsObligation m o → LeadsOn m os (length os) o o.next → AreObligations m (os ++ o ∷ [])
+obligations_more m os o all here leads = record {
+  each = All-push (IsObligation m) os o all.each here;
+  lead = λ i d i_in. below_more (λ (k : ℕ). (e : Obligation) → LeadsOn m (os ++ o ∷ []) k (get_or (os ++ o ∷ []) k e) (get_or (os ++ o ∷ []) k e).next) (length os)
+      (λ k k_in e. subst (λ (p : Obligation). LeadsOn m (os ++ o ∷ []) k p p.next) (sym (get_or_append_left os (o ∷ []) e k k_in))
+      (leads_still m os (o ∷ []) k (get_or os k e) (get_or os k e).next (omega (arith, k_in)) (all.lead k e k_in)))
+      (λ e. subst (λ (p : Obligation). LeadsOn m (os ++ o ∷ []) (length os) p p.next) (sym (get_or_push os o e (length os) refl)) (leads_still m os (o ∷ []) (length os) o o.next (omega arith) leads))
+      i (omega (arith, i_in, length-append os (o ∷ []))) d;
+}
+
+-- the first one, which is bad
+pub obligations_bad : (m : Parts) (o : Obligation) → IsObligation m o → AreBad m o.clause o.inputs → o.next ≡ None → AreObligations m (o ∷ [])
+obligations_bad m o here bad next =
+    let none : AreObligations m [] = record { each = All-nil (IsObligation m); lead = λ i d i_in. absurd (omega (arith, i_in)) } in
+    obligations_more m [] o none here (subst (LeadsOn m [] 0 o) (sym next) bad)
+
+-- one whose states are predecessors of those of one that was found
+pub obligations_before : (m : Parts) (os : List Obligation) (o : Obligation) (k : ℕ) → AreObligations m os → k < length os → IsObligation m o → ((d : Obligation) → ArePredecessors m o.clause o.inputs (get_or os k d).clause) →
+    o.next ≡ Some k → AreObligations m (os ++ o ∷ [])
+obligations_before m os o k all k_in here predecessors next = obligations_more m os o all here (subst (LeadsOn m os (length os) o) (sym next) (k_in, predecessors))
+
+-- what waits among fewer obligations waits among more
+pub waiting_more : (n k : ℕ) (w : Waiting) → n ≤ k → AreWaiting n w → AreWaiting k w
+waiting_more n k w le h = λ f d f_in i e i_in. let below = h f d f_in i e i_in in omega (arith, le, below)

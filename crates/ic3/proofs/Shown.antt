@@ -1,8 +1,8 @@
 -- The run of obligations that lead to the bad literal.
-use Rattle.std.proofs.Common.{◌≡◌, ℕ, suc, ◌-◌, Bool, true, false, List, [], ◌∷◌, ◌++◌, length, map, get_or, reverse, arith, All, Some, refl, ◌∙◌, sym, ap, subst}
+use Rattle.std.proofs.Common.{◌≡◌, ℕ, suc, ◌-◌, Bool, true, false, List, [], ◌∷◌, length, map, get_or, arith, All, Some, refl, ◌∙◌, sym, ap, subst}
 use Rattle.std.specs.Prelude.{slice_get}
-use Rattle.std.proofs.lemmas.List.{get_or-map, length-map, reverse-append}
-use Rattle.std.proofs.lemmas.List.Elements.{All-head, All-tail, All-cons, All-push, All-nil}
+use Rattle.std.proofs.lemmas.List.{get_or-map, length-map}
+use Rattle.std.proofs.lemmas.List.Elements.{All-head, All-tail, All-cons, All-nil}
 use Rattle.base.specs.Budget.{Steps as Spent}
 use Rattle.graph.specs.declared.circuit.Latch.{Latch}
 use Rattle.graph.specs.declared.parts.Parts.{Parts}
@@ -18,7 +18,7 @@ use Rattle.engine.specs.Findings.{IsForBad}
 use Rattle.ic3_step.specs.States.{Denies, latch_at}
 use Rattle.ic3_frames.specs.Resets.{HasResets}
 use Rattle.ic3.specs.declared.obligation.Obligation.{Obligation}
-use Rattle.ic3.specs.Cubes.{LeadToBad, ArePredecessors}
+use Rattle.ic3.specs.Cubes.{LeadToBad}
 use Rattle.ic3.specs.Answers.{IsObligation, IsFound}
 
 -- what the obligations play from a state
@@ -95,10 +95,10 @@ bad_there : (m : Parts) → IsForBad m → slice_get m.bad 0 ≡ Some (bad_liter
 bad_there m one = let are = one.one in rw are refl
 
 -- the obligations' run shows the bad literal
-pub run_found : (m : Parts) (order : List ℕ) (o : Obligation) (os : List Obligation) (top : ℕ) (s : List Bool) (lines : List (List Bool)) (after : Spent) → IsModel m order → IsForBad m →
-    All (IsObligation m top) (o ∷ os) → LeadToBad m (o ∷ os) → length s ≡ length m.latches → HasResets m.latches s → Denies s o.clause → lines ≡ map (λ (p : Obligation). p.inputs) (o ∷ os) →
+pub run_found : (m : Parts) (order : List ℕ) (o : Obligation) (os : List Obligation) (s : List Bool) (lines : List (List Bool)) (after : Spent) → IsModel m order → IsForBad m →
+    All (IsObligation m) (o ∷ os) → LeadToBad m (o ∷ os) → length s ≡ length m.latches → HasResets m.latches s → Denies s o.clause → lines ≡ map (λ (p : Obligation). p.inputs) (o ∷ os) →
     IsFound m after (Run s lines)
-run_found m order o os top s lines after model one obligations leads long resets first are =
+run_found m order o os s lines after model one obligations leads long resets first are =
     let run = played m order (o ∷ os) s model long (λ k d k_in. (obligations k d k_in).inputs) leads first in
     let h = run.1 in
     record {
@@ -113,28 +113,3 @@ run_found m order o os top s lines after model one obligations leads long resets
       };
       decided = tt;
     }
-
--- the first of them
-pub first_of : (m : Parts) (top : ℕ) (o : Obligation) (os : List Obligation) → All (IsObligation m top) (o ∷ os) → IsObligation m top o
-first_of m top o os all = All-head (IsObligation m top) o os all
-
--- the obligations that wait, the last first: one more, and one taken up again
-pub leads_stacked : (m : Parts) (now before : Obligation) (xs more : List Obligation) → more ≡ xs ++ now ∷ [] → ArePredecessors m before.clause before.inputs now.clause →
-    LeadToBad m (now ∷ reverse xs) → LeadToBad m (before ∷ reverse more)
-leads_stacked m now before xs more are predecessors leads =
-    let turned : reverse more ≡ now ∷ reverse xs = ap reverse are ∙ reverse-append xs (now ∷ []) in
-    subst (λ (q : List Obligation). LeadToBad m (before ∷ q)) (sym turned) (predecessors, leads)
-
-pub leads_popped : (m : Parts) (now before : Obligation) (xs rest : List Obligation) → xs ≡ rest ++ before ∷ [] → LeadToBad m (now ∷ reverse xs) → LeadToBad m (before ∷ reverse rest)
-leads_popped m now before xs rest are leads =
-    let turned : reverse xs ≡ before ∷ reverse rest = ap reverse are ∙ reverse-append rest (before ∷ []) in
-    (subst (λ (q : List Obligation). LeadToBad m (now ∷ q)) turned leads).1
-
-all_reversed : {X : Type 0} (P : X → Type 0) (xs : List X) → All P xs → All P (reverse xs)
-all_reversed P [] all = All-nil P
-all_reversed P (x ∷ xs) all =
-    subst (All P) (sym (reverse-append (x ∷ []) xs)) (All-push P (reverse xs) x (all_reversed P xs (All-tail P x xs all)) (All-head P x xs all))
-
--- all of them, the last first
-pub all_turned : (m : Parts) (top : ℕ) (now : Obligation) (xs : List Obligation) → IsObligation m top now → All (IsObligation m top) xs → All (IsObligation m top) (now ∷ reverse xs)
-all_turned m top now xs here all = All-cons (IsObligation m top) now (reverse xs) here (all_reversed (IsObligation m top) xs all)

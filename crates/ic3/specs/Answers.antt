@@ -1,5 +1,5 @@
 -- What the search's queries are answered (Bradley 2011).
-use Rattle.std.specs.Prelude.{◌≡◌, ℕ, ◌≤◌, Bool, true, List, [], ◌∷◌, filter, length, All}
+use Rattle.std.specs.Prelude.{◌≡◌, ℕ, ◌<◌, ◌≤◌, Bool, true, List, [], ◌∷◌, filter, length, map, slice_index_or, All}
 use Rattle.base.specs.Budget.{Steps}
 use Rattle.graph.specs.declared.circuit.Property.TheVariants.{Bad}
 use Rattle.graph.specs.declared.parts.Parts.{Parts}
@@ -24,6 +24,7 @@ use Rattle.ic3.specs.declared.bad.AtBad.TheVariants.{Set, Excluded, Spent}
 use Rattle.ic3.specs.declared.blocking.Blocking.{Blocking}
 use Rattle.ic3.specs.declared.blocking.Blocking.TheVariants.{Blocked, Initial, Predecessor, Spent}
 use Rattle.ic3.specs.declared.obligation.Obligation.{Obligation}
+use Rattle.ic3.specs.Cubes.{LeadsOn, LeadToBad}
 
 -- some of the clause's literals, in their order
 abbrev pub IsPicked : List StateLit → List StateLit → Type 0
@@ -54,14 +55,21 @@ IsInductiveAnswer m entries k c after (Held part) = IsInductiveFrom m entries k 
 IsInductiveAnswer m entries k c after (Broken t) = (w : Valuation) × IsAt m (denials_of m.latches c) w t × Denies (next_state m w) c
 IsInductiveAnswer m entries k c after Spent = after.left ≡ 0
 
--- an obligation of the frames up to the top: its clause is over the latches, and false in its state; that and its inputs
--- have the circuit's lengths
-pub record IsObligation (m : Parts) (top : ℕ) (o : Obligation) : Type 0 where
-  pub below : o.level ≤ top
+-- an obligation's clause is over the latches, and false in its state; that and its inputs have the circuit's lengths
+pub record IsObligation (m : Parts) (o : Obligation) : Type 0 where
   pub clause : IsStateClause m o.clause
   pub denies : Denies o.state o.clause
   pub latches : length o.state ≡ length m.latches
   pub inputs : length o.inputs ≡ length m.inputs
+
+-- these obligations, each of which leads to one that was found before it, or is bad
+pub record AreObligations (m : Parts) (os : List Obligation) : Type 0 where
+  pub each : All (IsObligation m) os
+  pub lead : (i : ℕ) (d : Obligation) → i < length os → LeadsOn m os i (slice_index_or os i d) (slice_index_or os i d).next
+
+-- the inputs of this obligation and of others, each of which leads to the next, and the last of which is bad
+abbrev pub IsWay : Parts → Obligation → List (List Bool) → Type 0
+IsWay m o lines = (os : List Obligation) × (lines ≡ map (λ p. p.inputs) (o ∷ os)) × All (IsObligation m) (o ∷ os) × LeadToBad m (o ∷ os)
 
 -- the states in which the clause is false are blocked, or no reset excludes all of them, or this time leads to one of them
 abbrev pub IsBlocking : Parts → List StateLit → Steps → Blocking → Type 0

@@ -1,7 +1,7 @@
 -- Cubes of states, and where each state of one leads (Bradley 2011; Een, Mishchenko, Brayton 2011).
 --
 -- A cube is written as the clause that is false in its states alone.
-use Rattle.std.specs.Prelude.{◌≡◌, ℕ, ◌+◌, ◌<◌, Bool, true, false, not, List, [], ◌∷◌, slice_index_or, length, Contains}
+use Rattle.std.specs.Prelude.{◌≡◌, ℕ, ◌+◌, ◌<◌, Bool, true, false, not, List, [], ◌∷◌, Option, None, Some, slice_index_or, length, Contains}
 use Rattle.graph.specs.declared.circuit.Lit.{Lit}
 use Rattle.graph.specs.declared.circuit.Latch.{Latch}
 use Rattle.graph.specs.declared.parts.Parts.{Parts}
@@ -33,6 +33,12 @@ abbrev pub LeadToBad : Parts → List Obligation → Type 0
 LeadToBad m [] = Unit {0}
 LeadToBad m (o ∷ []) = AreBad m o.clause o.inputs
 LeadToBad m (o ∷ p ∷ os) = ArePredecessors m o.clause o.inputs p.clause × LeadToBad m (p ∷ os)
+
+-- the states of an obligation at this place are bad where none is next, or predecessors of the states of the next one, which has
+-- a place before
+abbrev pub LeadsOn : Parts → List Obligation → ℕ → Obligation → Option ℕ → Type 0
+LeadsOn m os i o None = AreBad m o.clause o.inputs
+LeadsOn m os i o (Some k) = (k < i) × ((d : Obligation) → ArePredecessors m o.clause o.inputs (slice_index_or os k d).clause)
 
 -- the clause denies the value that each marked latch has in the state
 abbrev pub HasMarked : List Latch → List Bool → List Bool → List StateLit → Type 0

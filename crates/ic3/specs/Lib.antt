@@ -1,4 +1,5 @@
 pub mod Sound
+pub mod Waiting
 pub mod Cubes
 pub mod Answers
 pub mod Candidates

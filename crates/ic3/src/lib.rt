@@ -35,7 +35,7 @@ mod ic3;
 mod inductive;
 mod lift;
 mod obligation;
-mod obligation_stack;
+mod obligation_queue;
 mod order;
 mod picked;
 mod propagation;
@@ -43,5 +43,6 @@ mod reduction;
 mod reset;
 mod run;
 mod search;
+mod waiting;
 
 pub use ic3::Ic3;

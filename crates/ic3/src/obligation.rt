@@ -1,6 +1,6 @@
 //! Proof obligations: cubes of states that lead to the bad literal, and are to be blocked.
 
-ghost use Rattle.std.specs.Prelude.{◌≡◌, ◌≤◌, ◌∷◌, [], ℕ, true, IfOk, OnOk};
+ghost use Rattle.std.specs.Prelude.{◌≡◌, ◌∷◌, [], true, None, Some, IfOk, OnOk};
 ghost use Rattle.engine.specs.Findings.{IsForBad};
 ghost use Rattle.graph.specs.Valuation.{Valuation, value_of};
 ghost use Rattle.graph.specs.Runs.{next_state};
@@ -17,7 +17,7 @@ use graph::{Model, Seq};
 use ic3_step::{Assignment, StateLit, denials};
 use std::alloc::Global;
 
-/// A cube of states that lead to the bad literal, and the frame in which it is to be blocked.
+/// A cube of states that lead to the bad literal.
 #[derive(Drop)]
 pub(crate) struct Obligation {
     /// one of the states
@@ -26,23 +26,24 @@ pub(crate) struct Obligation {
     pub inputs: Seq<bool>,
     /// false in the states of the cube alone
     pub clause: Seq<StateLit>,
-    pub level: u32,
+    /// where the obligation is of whose states they are predecessors, if they are not bad
+    pub next: Option<usize>,
 }
 
-/// The states that set the bad literal as the time does, to be blocked in the frame at `level`.
+/// The states that set the bad literal as the time does.
 pub(crate) fn obligation_at(
     alloc: Global,
     circuit: &Model,
     lifting: &mut Lifting,
     time: Assignment,
-    level: u32,
 ) -> Result<Obligation, Refused>
     requires for_bad { IsForBad circuit.now }
     requires ready { IsReady circuit.now lifting.old }
     requires at { (w : Valuation) × IsAt circuit.now (bad_literal circuit.now 0 ∷ []) w time × (value_of w (bad_literal circuit.now 0) ≡ true) }
     ensures ready { OnOk result (IsReady circuit.now lifting.new) }
-    ensures obligation { (top : ℕ) → level ≤ top → IfOk result (IsObligation circuit.now top) }
+    ensures obligation { IfOk result (IsObligation circuit.now) }
     ensures bad { IfOk result (λ o. AreBad circuit.now o.clause o.inputs) }
+    ensures next { IfOk result (λ o. o.next ≡ None) }
 {
     circuit.well_formed();
     let clause = lifting.lift(alloc, circuit, &time, circuit.bad())?;
@@ -51,35 +52,35 @@ pub(crate) fn obligation_at(
         state,
         inputs,
         clause,
-        level,
+        next: None,
     })
 }
 
-/// The states that are predecessors of those of `after` as the state of the time is, to be blocked in
-/// the frame before.
+/// The states that are predecessors of those of an obligation, the one at `next`, as the state of the time is.
 pub(crate) fn obligation_before(
     alloc: Global,
     circuit: &Model,
     lifting: &mut Lifting,
     time: Assignment,
     after: &Obligation,
+    next: usize,
 ) -> Result<Obligation, Refused>
     requires ready { IsReady circuit.now lifting.old }
     requires clause { IsStateClause circuit.now after.now.clause }
     requires at { (w : Valuation) × IsAt circuit.now (denials_of circuit.now.latches after.now.clause) w time × Denies (next_state circuit.now w) after.now.clause }
     ensures ready { OnOk result (IsReady circuit.now lifting.new) }
-    ensures obligation { (top : ℕ) → IsObligation circuit.now top after.now → IfOk result (IsObligation circuit.now top) }
+    ensures obligation { IfOk result (IsObligation circuit.now) }
     ensures predecessors { IfOk result (λ o. ArePredecessors circuit.now o.clause o.inputs after.now.clause) }
+    ensures next { IfOk result (λ o. o.next ≡ Some next) }
 {
     circuit.well_formed();
     let targets = denials(alloc, circuit.latches(), after.clause.as_slice())?;
     let clause = lifting.lift(alloc, circuit, &time, targets.as_slice())?;
-    let level = after.level.saturating_sub(1);
     let Assignment { state, inputs, .. } = time;
     Ok(Obligation {
         state,
         inputs,
         clause,
-        level,
+        next: Some(next),
     })
 }

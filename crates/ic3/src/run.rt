@@ -1,14 +1,15 @@
 //! The run of the obligations, once the states of the last found have an initial one among them.
 
-ghost use Rattle.std.specs.Prelude.{◌≡◌, ◌≢◌, ◌<◌, ◌≤◌, ◌∷◌, ℕ, List, true, false, length, map, reverse, All, IfOk};
+ghost use Rattle.std.specs.Prelude.{◌≡◌, ◌≢◌, ◌<◌, List, true, false, length, slice_index_or, All, IfOk};
 ghost use Rattle.base.specs.Budget.{Steps};
 ghost use Rattle.engine.specs.Findings.{IsForBad};
 ghost use Rattle.ic3_step.specs.declared.state.StateLit.{StateLit as Literal};
 ghost use Rattle.ic3_step.specs.States.{Denies};
 ghost use Rattle.ic3_frames.specs.Clauses.{IsResetLit};
 ghost use Rattle.ic3_frames.specs.Resets.{HasResets};
-ghost use Rattle.ic3.specs.Cubes.{LeadToBad};
-ghost use Rattle.ic3.specs.Answers.{IsObligation, IsFound};
+ghost use Rattle.graph.specs.declared.parts.Parts.{Parts};
+ghost use Rattle.ic3.specs.declared.obligation.Obligation.{Obligation};
+ghost use Rattle.ic3.specs.Answers.{AreObligations, IsWay, IsFound};
 
 use crate::obligation::Obligation;
 use base::Refused;
@@ -44,42 +45,42 @@ fn reset_state(alloc: Global, latches: &[Latch], state: &[bool]) -> Result<Seq<b
     Ok(values)
 }
 
-/// The inputs of the last obligation that was found and of the earlier ones, the last found first.
-fn lines_of(
-    alloc: Global,
-    last: &Obligation,
-    earlier: &[Obligation],
-) -> Result<Seq<Seq<bool>>, Refused>
-    ensures { IfOk result (λ lines. lines ≡ map (λ o. o.inputs) (last.now ∷ reverse earlier.now)) }
+/// The inputs of an obligation and of those to which it leads, one after the other.
+fn lines_of(alloc: Global, found: &[Obligation], from: usize) -> Result<Seq<Seq<bool>>, Refused>
+    requires from { from < length found.now }
+    requires lead { (m : Parts) × AreObligations m found.now }
+    ensures { (m : Parts) (d : Obligation) → AreObligations m found.now → IfOk result (IsWay m (slice_index_or found.now from d)) }
 {
     let mut lines = Seq::new(alloc);
-    lines.push(Seq::from_slice(alloc, last.inputs.as_slice())?)?;
-    let mut place = earlier.len();
-    'listing: while place > 0 {
-        place -= 1;
-        let inputs = earlier[place].inputs.as_slice();
-        lines.push(Seq::from_slice(alloc, inputs)?)?;
+    let mut at = from;
+    'listing: loop {
+        let obligation = &found[at];
+        lines.push(Seq::from_slice(alloc, obligation.inputs.as_slice())?)?;
+        match obligation.next {
+            Some(next) => at = next,
+            None => return Ok(lines),
+        }
     }
-    Ok(lines)
 }
 
-/// The run of obligations that lead to the bad literal, of which the last found has an initial state.
-/// It begins there, and takes the inputs of each. It takes memory by the length of their inputs.
+/// The run of the obligations to which one leads that has an initial state. It begins there, and takes the inputs of
+/// each. It takes memory by the length of their inputs.
 pub(crate) fn run_of(
     alloc: Global,
     circuit: &Model,
-    last: &Obligation,
-    earlier: &[Obligation],
+    found: &[Obligation],
+    from: usize,
 ) -> Result<Finding, Refused>
     requires for_bad { IsForBad circuit.now }
-    requires obligations { (top : ℕ) × All (IsObligation circuit.now top) (last.now ∷ reverse earlier.now) }
-    requires leads { LeadToBad circuit.now (last.now ∷ reverse earlier.now) }
-    requires initial { All (λ a. IsResetLit circuit.now.latches a → ⊥) last.now.clause }
+    requires from { from < length found.now }
+    requires obligations { AreObligations circuit.now found.now }
+    requires initial { (d : Obligation) → All (λ a. IsResetLit circuit.now.latches a → ⊥) (slice_index_or found.now from d).clause }
     ensures { (after : Steps) → IfOk result (IsFound circuit.now after) }
 {
     circuit.well_formed();
     circuit.order();
-    let initial = reset_state(alloc, circuit.latches(), last.state.as_slice())?;
-    let inputs = lines_of(alloc, last, earlier)?;
+    let first = &found[from];
+    let initial = reset_state(alloc, circuit.latches(), first.state.as_slice())?;
+    let inputs = lines_of(alloc, found, from)?;
     Ok(Finding::Run { initial, inputs })
 }

@@ -1,8 +1,15 @@
-use Rattle.std.proofs.Common.{◌≡◌, ◌≤◌, ◌∷◌, map, reverse, drop, length}
+use Rattle.std.proofs.Common.{◌<◌, length, get_or}
+use Rattle.graph.specs.declared.parts.Parts.{Parts}
+use Rattle.ic3.specs.declared.obligation.Obligation.{Obligation}
+use Rattle.ic3.specs.Answers.{AreObligations}
+use Rattle.ic3.proofs.Obligations.{IsBegun}
 use Rattle.ic3.proofs.run.lines_of.Given as goal
 
 abbrev pub invariant-listing : goal.invariant-listing
-invariant-listing l = (l.place ≤ length l.earlier) × (l.lines ≡ l.last.inputs ∷ map (λ o. o.inputs) (reverse (drop l.place l.earlier)))
+invariant-listing l = record {
+  inside : l.at < length l.found;
+  begun : (m : Parts) (d : Obligation) → AreObligations m l.found → IsBegun m (get_or l.found l.from d) (get_or l.found l.at d) l.lines;
+}
 
 abbrev pub decreases-listing : goal.decreases-listing
-decreases-listing l = l.place
+decreases-listing l = l.at

@@ -1,59 +1,89 @@
-use Rattle.std.proofs.Common.{rules, ◌≡◌, ◌∙◌, ◌∷◌, [], reverse, refl, sym, subst, List, All}
-use Rattle.std.proofs.lemmas.List.Elements.{All-nil}
+use Rattle.std.proofs.Common.{rules, ◌≡◌, ◌<◌, ◌+◌, ◌∙◌, ◌++◌, ◌∷◌, [], ℕ, length, get_or, sym, ap, subst, arith, List}
+use Rattle.std.proofs.lemmas.List.{get_or_default, length-append}
+use Rattle.ic3_frames.specs.Frames.{IsStateClause}
+use Rattle.ic3_step.specs.declared.state.StateLit.{StateLit}
 use Rattle.ic3.specs.declared.obligation.Obligation.{Obligation}
-use Rattle.ic3.specs.Cubes.{LeadToBad}
-use Rattle.ic3.specs.Answers.{IsObligation}
-use Rattle.ic3.proofs.Obligations.{all_popped, all_stacked}
-use Rattle.ic3.proofs.Shown.{leads_popped, leads_stacked, all_turned}
+use Rattle.ic3.specs.declared.blocking.Blocking.TheVariants.{Predecessor}
+use Rattle.ic3.specs.Cubes.{ArePredecessors}
+use Rattle.ic3.specs.Waiting.{AreWaiting}
+use Rattle.ic3.specs.Answers.{IsObligation, AreObligations, IsBlocking}
+use Rattle.ic3.proofs.Obligations.{obligations_before, waiting_more}
 use Rattle.ic3.proofs.frame_solver.FrameSolver.block_obligations.Goals as goal
 
-pub blocking-init : goal.blocking-init
-blocking-init g c =
-    let m = c.args.circuit.now in
-    let top = c.args.frames.now.top in
-    let none : [] ≡ c.new-earlier.result.items = sym c.new-earlier.ensures.items in
-    record {
-      spends = search rules;
-      top = refl;
-      sound = c.requires.sound;
-      ready = c.in_ok-now.ensures.ready;
-      leads = subst (λ (q : List Obligation). LeadToBad m (c.in_ok-now.now ∷ reverse q)) none c.in_ok-now.ensures.bad;
-      now = c.in_ok-now.ensures.obligation top c.requires.below;
-      earlier = subst (All (IsObligation m top)) none (All-nil (IsObligation m top));
-    }
-
-pub run_of-requires-clause-obligations : goal.run_of-requires-clause-obligations
-run_of-requires-clause-obligations g c =
-    let m = c.args.circuit.now in
-    let top = c.args.frames.now.top in
+pub block-requires-clause-clause : goal.block-requires-clause-clause
+block-requires-clause-clause g c =
     let h = c.blocking.invariant in
-    (top, subst (λ (xs : List Obligation). All (IsObligation m top) (c.blocking.now ∷ reverse xs)) (sym c.as_slice.ensures.value) (all_turned m top c.blocking.now c.blocking.earlier.items h.now h.earlier))
+    let index_in : c.in-Some.index < length c.blocking.found.items = c.in-Some.ensures.index (length c.blocking.found.items) h.waiting in
+    let here : IsObligation c.args.circuit.now c.index.result.now = subst (IsObligation c.args.circuit.now) (sym c.index.ensures) (h.obligations.each c.in-Some.index c.index.result.now index_in) in
+    subst (IsStateClause c.args.circuit.now) (sym c.as_slice-clause.ensures) here.clause
 
-pub blocking-preserved-in-Some : goal.blocking-preserved-in-Some
-blocking-preserved-in-Some g c =
+pub blocking-preserved-then-level-top : goal.blocking-preserved-then-level-top
+blocking-preserved-then-level-top g c =
     let h = c.blocking.invariant in
-    let met = all_popped (IsObligation c.args.circuit.now c.args.frames.now.top) c.blocking.earlier.items c.pop.new.self.items c.in-Some.before c.in-Some.ensures.items h.earlier in
+    let n = length c.blocking.found.items in
     record {
       spends = search rules;
       top = c.block.ensures.top ∙ h.top;
       sound = c.in_ok-block.ensures.sound;
       ready = h.ready;
-      leads = leads_popped c.args.circuit.now c.blocking.now c.in-Some.before c.blocking.earlier.items c.pop.new.self.items c.in-Some.ensures.items h.leads;
-      now = met.0;
-      earlier = met.1;
+      obligations = h.obligations;
+      frames = c.in_ok-put-in-Blocked.ensures.frames ∙ c.in-Some.ensures.frames ∙ h.frames ∙ ap (λ (k : ℕ). k + 1) (sym c.block.ensures.top);
+      waiting = c.in_ok-put-in-Blocked.ensures.waiting n (c.in-Some.ensures.waiting n h.waiting) (c.in-Some.ensures.index n h.waiting);
     }
+
+pub blocking-preserved-else-level-top : goal.blocking-preserved-else-level-top
+blocking-preserved-else-level-top g c =
+    let h = c.blocking.invariant in
+    record {
+      spends = search rules;
+      top = c.block.ensures.top ∙ h.top;
+      sound = c.in_ok-block.ensures.sound;
+      ready = h.ready;
+      obligations = h.obligations;
+      frames = c.in-Some.ensures.frames ∙ h.frames ∙ ap (λ (k : ℕ). k + 1) (sym c.block.ensures.top);
+      waiting = c.in-Some.ensures.waiting (length c.blocking.found.items) h.waiting;
+    }
+
+pub obligation_before-requires-clause-clause : goal.obligation_before-requires-clause-clause
+obligation_before-requires-clause-clause g c =
+    let h = c.blocking.invariant in
+    let index_in : c.in-Some.index < length c.blocking.found.items = c.in-Some.ensures.index (length c.blocking.found.items) h.waiting in
+    let here : IsObligation c.args.circuit.now c.index-after.result.now = subst (IsObligation c.args.circuit.now) (sym c.index-after.ensures) (h.obligations.each c.in-Some.index c.index-after.result.now index_in) in
+    here.clause
+
+pub obligation_before-requires-clause-at : goal.obligation_before-requires-clause-at
+obligation_before-requires-clause-at g c =
+    let m = c.args.circuit.now in
+    let os = c.blocking.found.items in
+    let index_in : c.in-Some.index < length os = c.in-Some.ensures.index (length os) c.blocking.invariant.waiting in
+    let a = c.index.result.now in
+    let b = c.index-after.result.now in
+    let same : a ≡ b = c.index.ensures ∙ get_or_default os c.in-Some.index a b index_in ∙ sym c.index-after.ensures in
+    let clause : c.as_slice-clause.result.now ≡ b.clause = c.as_slice-clause.ensures ∙ ap (λ (o : Obligation). o.clause) same in
+    subst (λ (cs : List StateLit). IsBlocking m cs c.block.new.budget (Predecessor c.in-Predecessor.time)) clause (subst (IsBlocking m c.as_slice-clause.result.now c.block.new.budget) c.in-Predecessor.is c.in_ok-block.ensures.lawful)
 
 pub blocking-preserved : goal.blocking-preserved
 blocking-preserved g c =
     let h = c.blocking.invariant in
     let m = c.args.circuit.now in
-    let top = c.args.frames.now.top in
+    let os = c.blocking.found.items in
+    let n = length os in
+    let index = c.in-Some.index in
+    let index_in : index < n = c.in-Some.ensures.index n h.waiting in
+    let after = c.index-after.result.now in
+    let before = c.in_ok-before-in-Predecessor.before in
+    let made = c.in_ok-before-in-Predecessor.ensures in
+    let items : c.push-in-Predecessor.new.to.items ≡ os ++ before ∷ [] = c.in_ok-push-in-Predecessor.ensures.items in
+    let lead : (d : Obligation) → ArePredecessors m before.clause before.inputs (get_or os index d).clause =
+    λ d. subst (λ (p : Obligation). ArePredecessors m before.clause before.inputs p.clause) (c.index-after.ensures ∙ get_or_default os index after d index_in) made.predecessors in
+    let first = c.in_ok-put-in-Predecessor.ensures.waiting n (c.in-Some.ensures.waiting n h.waiting) index_in in
+    let second = c.in_ok-put-in-Predecessor-2.ensures.waiting (n + 1) (waiting_more n (n + 1) c.put-in-Predecessor.new.self (omega arith) first) (omega (arith, c.len.ensures)) in
     record {
       spends = search rules;
       top = c.block.ensures.top ∙ h.top;
       sound = c.in_ok-block.ensures.sound;
-      ready = c.in_ok-before-in-Predecessor.ensures.ready;
-      leads = leads_stacked m c.blocking.now c.in_ok-before-in-Predecessor.before c.blocking.earlier.items c.stack.new.earlier.items c.in_ok-stack-in-Predecessor.ensures c.in_ok-before-in-Predecessor.ensures.predecessors h.leads;
-      now = c.in_ok-before-in-Predecessor.ensures.obligation top h.now;
-      earlier = all_stacked (IsObligation m top) c.stack.new.earlier.items c.blocking.earlier.items c.blocking.now c.in_ok-stack-in-Predecessor.ensures h.now h.earlier;
+      ready = made.ready;
+      obligations = subst (AreObligations m) (sym items) (obligations_before m os before index h.obligations index_in made.obligation lead made.next);
+      frames = c.in_ok-put-in-Predecessor-2.ensures.frames ∙ c.in_ok-put-in-Predecessor.ensures.frames ∙ c.in-Some.ensures.frames ∙ h.frames ∙ ap (λ (k : ℕ). k + 1) (sym c.block.ensures.top);
+      waiting = subst (λ (k : ℕ). AreWaiting k c.put-in-Predecessor-2.new.self) (sym (ap length items ∙ length-append os (before ∷ []))) second;
     }

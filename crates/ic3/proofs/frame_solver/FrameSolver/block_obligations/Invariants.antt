@@ -1,8 +1,9 @@
-use Rattle.std.proofs.Common.{◌≡◌, ◌∷◌, reverse, All}
+use Rattle.std.proofs.Common.{◌≡◌, ◌+◌, length}
 use Rattle.base.specs.Budget.{Spends}
 use Rattle.ic3.specs.Sound.{IsSound}
-use Rattle.ic3.specs.Cubes.{IsReady, LeadToBad}
-use Rattle.ic3.specs.Answers.{IsObligation}
+use Rattle.ic3.specs.Cubes.{IsReady}
+use Rattle.ic3.specs.Waiting.{AreWaiting}
+use Rattle.ic3.specs.Answers.{AreObligations}
 use Rattle.ic3.proofs.frame_solver.FrameSolver.block_obligations.Given as goal
 
 abbrev pub invariant-blocking : goal.invariant-blocking
@@ -11,9 +12,9 @@ invariant-blocking g l = record {
   top : l.frames.top ≡ l.initial.frames.top;
   sound : IsSound l.circuit l.self l.frames;
   ready : IsReady l.circuit l.lifting;
-  leads : LeadToBad l.circuit (l.now ∷ reverse l.earlier.items);
-  now : IsObligation l.circuit l.initial.frames.top l.now;
-  earlier : All (IsObligation l.circuit l.initial.frames.top) l.earlier.items;
+  obligations : AreObligations l.circuit l.found.items;
+  frames : length l.waiting.frames.items ≡ l.frames.top + 1;
+  waiting : AreWaiting (length l.found.items) l.waiting;
 }
 
 abbrev pub decreases-blocking : goal.decreases-blocking

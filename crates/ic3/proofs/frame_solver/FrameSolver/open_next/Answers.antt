@@ -1,4 +1,4 @@
-use Rattle.std.proofs.Common.{rules, ◌≡◌, ◌+◌, ◌*◌, ◌<◌, ◌≤◌, arith}
+use Rattle.std.proofs.Common.{◌+◌, ◌<◌, ◌≤◌, arith}
 use Rattle.cnf.specs.Formulas.{bad_literal}
 use Rattle.ic3.proofs.Clear.{is_deep}
 use Rattle.ic3.proofs.Joining.{opened_sound}

@@ -1,6 +1,6 @@
-//! Proof obligations, blocked one after the other.
+//! Proof obligations, blocked those of the lowest frame first.
 
-ghost use Rattle.std.specs.Prelude.{◌≡◌, ◌≤◌, ◌++◌, ◌∷◌, [], true, IfOk, IfSome, OnOk};
+ghost use Rattle.std.specs.Prelude.{◌≡◌, ◌≤◌, ◌∷◌, [], true, IfOk, IfSome, OnOk};
 ghost use Rattle.base.specs.Budget.{Spends};
 ghost use Rattle.engine.specs.Findings.{IsForBad};
 ghost use Rattle.graph.specs.Valuation.{Valuation, value_of};
@@ -15,7 +15,8 @@ use crate::frame_solver::FrameSolver;
 use crate::lift::Lifting;
 use crate::obligation::{Obligation, obligation_at, obligation_before};
 use crate::run::run_of;
-use base::{Refused, push};
+use crate::waiting::Waiting;
+use base::push;
 use engine::{EngineError, Finding, Progress, Reason};
 use graph::{Budget, Model};
 use ic3_frames::Frames;
@@ -23,20 +24,12 @@ use ic3_step::Assignment;
 use solver::PartSat;
 use std::alloc::Global;
 
-/// Puts an obligation aside, until its predecessors are blocked.
-fn stack(earlier: &mut Vec<Obligation>, now: Obligation) -> Result<(), Refused>
-    ensures { OnOk result (earlier.new.items ≡ earlier.old.items ++ now ∷ []) }
-{
-    push(earlier, now)?;
-    Ok(())
-}
-
 impl<S: PartSat> FrameSolver<S> {
     /// Blocks a time of the frame at `level` at which the bad literal is true, and before it its
     /// predecessors, or finds a run. Each time stands for all states that lead on as its own
-    /// does. What is blocked is taken up again in the frames above, so that all of a long way to the
-    /// bad literal is blocked at once (Een, Mishchenko, Brayton 2011). Each obligation that is looked
-    /// at costs a step of the budget.
+    /// does. Those of the lowest frame go first, and of these the one that came last. What is blocked waits in the
+    /// frame above, so that all of a long way to the bad literal is blocked at once (Een, Mishchenko, Brayton 2011). Each
+    /// obligation that is looked at costs a step of the budget.
     pub(crate) fn block_obligations<P: Progress>(
         &mut self,
         alloc: Global,
@@ -58,26 +51,30 @@ impl<S: PartSat> FrameSolver<S> {
         ensures ready { OnOk result (IsReady circuit.now lifting.new) }
         ensures lawful { IfOk result (λ r. IfSome r (IsFound circuit.now budget.new)) }
     {
-        let mut earlier: Vec<Obligation> = Vec::new(alloc);
-        let mut now = obligation_at(alloc, circuit, lifting, time, level)?;
+        let mut found: Vec<Obligation> = Vec::new(alloc);
+        let mut waiting = Waiting::new(alloc, frames.top())?;
+        let bad = obligation_at(alloc, circuit, lifting, time)?;
+        waiting.put(level, 0)?;
+        push(&mut found, bad)?;
         'blocking: while budget.tick() {
+            let Some((level, index)) = waiting.take() else {
+                return Ok(None);
+            };
             progress.asked(budget);
-            let level = now.level;
-            let clause = now.clause.as_slice();
+            let clause = found[index].clause.as_slice();
             match self.block(alloc, circuit, frames, level, clause, budget)? {
                 Blocking::Initial => {
-                    let run = run_of(alloc, circuit, &now, earlier.as_slice())?;
+                    let run = run_of(alloc, circuit, found.as_slice(), index)?;
                     return Ok(Some(run));
                 }
-                Blocking::Blocked if level < frames.top() => now.level = level + 1,
-                Blocking::Blocked => match earlier.pop() {
-                    Some(before) => now = before,
-                    None => return Ok(None),
-                },
+                Blocking::Blocked if level < frames.top() => waiting.put(level + 1, index)?,
+                Blocking::Blocked => {}
                 Blocking::Predecessor(time) => {
-                    let before = obligation_before(alloc, circuit, lifting, time, &now)?;
-                    stack(&mut earlier, now)?;
-                    now = before;
+                    let after = &found[index];
+                    let before = obligation_before(alloc, circuit, lifting, time, after, index)?;
+                    waiting.put(level, index)?;
+                    waiting.put(level.saturating_sub(1), found.len())?;
+                    push(&mut found, before)?;
                 }
                 Blocking::Spent => return Ok(Some(Finding::Unknown(Reason::Budget))),
             }
