@@ -85,7 +85,8 @@ impl Sat for Cdcl {
 }
 
 impl PartSat for Cdcl {
-    /// As `solve`. It decides the part's variables, most active first, and passes clauses over that lead out of the part.
+    /// As `solve`. It decides what gives a false gate of the part a false side, of two open sides the first, then the part's other
+    /// variables, most active first; and passes clauses over that lead out of the part.
     fn solve_part(
         &mut self,
         alloc: Global,

@@ -1,6 +1,7 @@
 //! What steers the search. Nothing here can make an answer wrong.
 
 use crate::heap::Heap;
+use crate::justification::NO_GATE;
 use crate::levels::Levels;
 use crate::reduction::Reductions;
 use crate::restarts::Restarts;
@@ -9,7 +10,7 @@ use crate::trail::Trail;
 use crate::values::Values;
 use crate::watches::Watches;
 use base::{Refused, push};
-use solver::Part;
+use solver::{AndGate, Part};
 use std::alloc::Global;
 
 /// A reason that shows a part of the clause in progress, and its place on the trail.
@@ -69,6 +70,10 @@ pub struct Guide {
     pub(crate) parts: Table<u32>,
     /// the number of the last question about a part
     pub(crate) question: u32,
+    /// of each variable the gate that it is in a part
+    pub(crate) gates: Table<AndGate>,
+    /// how many literals of the trail are no false gates without a false side
+    pub(crate) justified: usize,
     /// whether only variables of its part are decided
     pub(crate) is_part: bool,
     /// whether the heap has the open variables: those of a part come in before the first decision
@@ -102,6 +107,8 @@ impl Guide {
             reductions: Reductions::new(),
             parts: Table::new(alloc),
             question: 0,
+            gates: Table::new(alloc),
+            justified: 0,
             is_part: false,
             is_filled: true,
         }
@@ -127,6 +134,7 @@ impl Guide {
         self.phases.push(false)?;
         self.units.push(0)?;
         self.parts.push(0)?;
+        self.gates.push(NO_GATE)?;
         self.seen.push(false)
     }
 
@@ -208,7 +216,9 @@ impl Guide {
     fn begin_part(&mut self, part: &Part) {
         self.is_part = true;
         self.question = self.question.wrapping_add(1);
+        self.justified = 0;
         for gate in part.gates.iter() {
+            self.gates.put(gate.lhs.unsigned_abs() as usize, *gate);
             self.enter(gate.lhs);
             self.enter(gate.rhs0);
             self.enter(gate.rhs1);
@@ -225,27 +235,43 @@ impl Guide {
             .put(literal.unsigned_abs() as usize, self.question);
     }
 
-    /// Puts the open variables of the part into the heap.
+    /// Puts the open variables of the part that are no gates of it into the heap.
     pub(crate) fn fill(&mut self, part: &Part) -> Result<(), Refused> {
         self.is_filled = true;
         for gate in part.gates.iter() {
-            self.insert_open(gate.lhs)?;
-            self.insert_open(gate.rhs0)?;
-            self.insert_open(gate.rhs1)?;
+            self.insert_leaf(gate.rhs0)?;
+            self.insert_leaf(gate.rhs1)?;
         }
         for literal in part.literals.iter() {
-            self.insert_open(*literal)?;
+            self.insert_leaf(*literal)?;
         }
         Ok(())
     }
 
-    /// Puts the literal's variable into the heap, where it has no value.
+    /// Puts the literal's variable into the heap, where it has no value and is no gate.
     #[inline]
-    fn insert_open(&mut self, literal: i32) -> Result<(), Refused> {
-        if !self.values.is_open(literal) {
+    fn insert_leaf(&mut self, literal: i32) -> Result<(), Refused> {
+        if !self.values.is_open(literal) || self.gate_of(literal).lhs != 0 {
             return Ok(());
         }
         self.heap.insert(literal)
+    }
+
+    /// The gate that the literal's variable is in a part, or else `NO_GATE`.
+    #[inline]
+    fn gate_of(&self, literal: i32) -> AndGate {
+        self.gates.at(literal.unsigned_abs() as usize, NO_GATE)
+    }
+
+    /// The gate of the part in question that is false where this literal is true.
+    #[inline]
+    pub(crate) fn gate_denied_by(&self, literal: i32) -> Option<AndGate> {
+        let gate = self.gate_of(literal);
+        if gate.lhs == literal.wrapping_neg() && self.is_inside(literal) {
+            Some(gate)
+        } else {
+            None
+        }
     }
 
     /// The id of the clause that is the literal of this variable alone, or 0.

@@ -19,11 +19,20 @@ struct Entry {
 /// A variable that was never on the trail.
 const NEVER: Entry = Entry { level: 0, place: 0 };
 
+/// Where a level begins.
+#[derive(Clone, Copy)]
+struct Start {
+    /// on the trail
+    place: usize,
+    /// what `Guide::justified` was then
+    justified: usize,
+}
+
 /// Where each level begins, and the level and the place of each variable that is on the trail.
 #[derive(Drop)]
 pub struct Levels {
-    /// where each level but 0 begins on the trail
-    starts: Vec<usize>,
+    /// where each level but 0 begins
+    starts: Vec<Start>,
     /// of each variable
     entries: Table<Entry>,
     /// of each level the last count of levels that met it
@@ -130,7 +139,7 @@ fn give_up(guide: &mut Guide, level: usize, phases: Phases) -> Result<(), Refuse
     let Some(start) = guide.levels.starts.get(level).copied() else {
         return Ok(());
     };
-    for place in start..guide.trail.len() {
+    for place in start.place..guide.trail.len() {
         if let Some(literal) = guide.trail.literal(place) {
             let phase = phases == Phases::Kept && literal > 0;
             guide.phases.put(literal.unsigned_abs() as usize, phase);
@@ -138,15 +147,20 @@ fn give_up(guide: &mut Guide, level: usize, phases: Phases) -> Result<(), Refuse
             guide.open(literal)?;
         }
     }
-    guide.trail.truncate(start);
+    guide.trail.truncate(start.place);
     guide.levels.starts.truncate(level);
-    guide.head = start;
+    guide.head = start.place;
+    guide.justified = start.justified;
     Ok(())
 }
 
 /// Opens a level and decides the literal, where it is open.
 pub fn open_level(guide: &mut Guide, literal: i32) -> Result<(), Refused> {
-    push(&mut guide.levels.starts, guide.trail.len())?;
+    let start = Start {
+        place: guide.trail.len(),
+        justified: guide.justified,
+    };
+    push(&mut guide.levels.starts, start)?;
     if guide.values.is_open(literal) {
         guide.enqueue(literal, None)?;
     }

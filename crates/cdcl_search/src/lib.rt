@@ -11,6 +11,7 @@ mod attaching;
 mod final_analysis;
 mod guide;
 mod heap;
+mod justification;
 mod learning;
 mod levels;
 mod look;

@@ -13,6 +13,7 @@ use crate::analysis::top_level;
 use crate::attaching::{attach_new, recall};
 use crate::final_analysis::{core_of_denied, empty_core};
 use crate::guide::Guide;
+use crate::justification::unjustified;
 use crate::learning::learn;
 use crate::levels::{go_back, open_level};
 use crate::look::{Found, replacement};
@@ -150,7 +151,8 @@ fn advance(
     }
 }
 
-/// Looks for the next assumption that is not true, or else for the most active open variable.
+/// Looks for the next assumption that is not true, or else, in a part, for a gate without a false side that needs one, or
+/// else for the most active open variable.
 fn choose(guide: &mut Guide, part: Option<&Part>, assume: &[i32]) -> Result<Next, Refused> {
     if let Some(literal) = assume.get(guide.levels.current()) {
         if guide.values.is_false(*literal) {
@@ -158,7 +160,13 @@ fn choose(guide: &mut Guide, part: Option<&Part>, assume: &[i32]) -> Result<Next
         }
         return Ok(Next::Decide(*literal));
     }
-    if let (Some(part), false) = (part, guide.is_filled) {
+    let Some(part) = part else {
+        return Ok(most_active(guide));
+    };
+    if let Some(literal) = unjustified(guide) {
+        return Ok(Next::Decide(literal));
+    }
+    if !guide.is_filled {
         guide.fill(part)?;
     }
     Ok(most_active(guide))

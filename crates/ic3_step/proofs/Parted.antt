@@ -1,8 +1,9 @@
 -- What a part of the circuit says of values.
-use Rattle.std.proofs.Common.{◌≡◌, ◌≢◌, ℕ, zero, suc, ◌+◌, inl, inr, arith, Bool, true, false, not, ◌&&◌, ◌||◌, List, [], ◌∷◌, ◌++◌, Option, map, get_or, All, ℤ, pos, refl, sym, ◌∙◌, subst}
+use Rattle.std.proofs.Common.{◌≡◌, ◌≢◌, ℕ, zero, suc, ◌+◌, inl, inr, arith, Bool, true, false, not, ◌&&◌, ◌||◌, List, [], ◌∷◌, ◌++◌, Option, map, get_or, All, ℤ, pos, refl, sym, ◌∙◌, subst, ◌<◌, length, take}
 use Rattle.std.specs.Prelude.{flat_map}
+use Rattle.std.proofs.Math.Bool.{and_comm}
 use Rattle.std.proofs.lemmas.Bool.{cases_eq, eq-eqb, ne_eqb, false≢true}
-use Rattle.std.proofs.lemmas.List.Elements.{All-cons, All-nil, All-append, Contains-get_or, Contains-append_left, Contains-append_right}
+use Rattle.std.proofs.lemmas.List.Elements.{All-cons, All-nil, All-push, All-append, Contains-get_or, Contains-append_left, Contains-append_right}
 use Rattle.graph.specs.declared.circuit.Lit.{Lit}
 use Rattle.graph.specs.declared.circuit.Gate.{Gate}
 use Rattle.graph.specs.declared.parts.Parts.{Parts}
@@ -13,6 +14,7 @@ use Rattle.lrat.specs.Literals.{is_true, IsSatisfied}
 use Rattle.lrat.specs.Shared.{unit_clauses}
 use Rattle.cnf.specs.Clauses.{signed, is_negated, literal, denial, truth_clause, gate_clauses}
 use Rattle.cnf.specs.Meaning.{AreSatisfied}
+use Rattle.cnf.proofs.Made.{map_more}
 use Rattle.cnf.proofs.Listed.{any-satisfied, unit-satisfied, units-satisfied}
 use Rattle.graph.proofs.Gates.{left}
 use Rattle.cones.specs.Marks.{IsMarked}
@@ -87,7 +89,7 @@ part_satisfied m n lits part assume b own model =
     let v : ℕ → Bool = values b in
     let consts : List ℤ = map (literal m.max_var 0) m.constraints in
     let all : All (λ l. is_true v l ≡ true) (truth_clause m.max_var 0 ++ consts) = subst (λ ls. AreTrue v ls) own.wanted model.wanted in
-    let gates : All (λ (g : Gate). IsAnd v (and_gate m.max_var g)) own.listed = All-unmap (IsAnd v) (and_gate m.max_var) own.listed (subst (All (IsAnd v)) own.gates model.gates) in
+    let gates : All (λ (g : Gate). IsAnd v (and_gate m.max_var g)) own.listed = own.gates v model.gates in
     All-cons (IsSatisfied v) (truth_clause m.max_var 0) (unit_clauses consts ++ flat_map (gate_clauses m.max_var 0) own.listed)
     (unit-satisfied v (pos (0 + m.max_var + 1)) (All-left (λ l. is_true v l ≡ true) (truth_clause m.max_var 0) consts all 0 (pos 0) (omega arith)))
     (All-append (IsSatisfied v) (unit_clauses consts) (flat_map (gate_clauses m.max_var 0) own.listed)
@@ -125,7 +127,7 @@ gate_made g n o x y z first e1 e2 e3 = rw (e1, e2, e3, first) refl
 
 -- what is listed where marks are extended from none is a part
 pub part_from : (m : Parts) (table : List (Option Gate)) (t u w : List Bool) (wanted lits : List Lit) (list : List ℕ) (part : Part) → IsGateTable m table → ((v : ℕ) → place t v ≡ false) →
-    wanted ≡ lits ++ m.constraints → IsExtended m Cone w wanted t u list → part.gates.items ≡ map (and_gate m.max_var) (gates_in table list) →
+    wanted ≡ lits ++ m.constraints → IsExtended m Cone w wanted t u list → ((v : ℕ → Bool) → All (IsAnd v) part.gates.items → All (IsAnd v) (map (and_gate m.max_var) (gates_in table list))) →
     part.literals.items ≡ truth_clause m.max_var 0 ++ map (literal m.max_var 0) m.constraints → IsPartFor m lits part
 part_from m table t u w wanted lits list part is clear are ext gates literals = record {
   cone = u;
@@ -138,6 +140,20 @@ part_from m table t u w wanted lits list part is clear are ext gates literals = 
         | inl before ↦ absurd (false≢true (sym (clear (left g)) ∙ before))
         | inr found ↦ contains_found (gate_at table) list (left g) g found (is.gates k d k_in)
       ];
-  gates = gates;
+  gates = λ v all. All-unmap (IsAnd v) (and_gate m.max_var) (gates_in table list) (gates v all);
   wanted = literals;
 }
+
+-- a gate whose sides change places
+pub and_turned : (v : ℕ → Bool) (a : AndGate) → IsAnd v (record { lhs = a.lhs; rhs0 = a.rhs1; rhs1 = a.rhs0 }) → IsAnd v a
+and_turned v a turned = turned ∙ and_comm (is_true v a.rhs1) (is_true v a.rhs0)
+
+-- one gate more
+pub ands_more : (v : ℕ → Bool) (n : ℕ) (gates : List Gate) (i : ℕ) (d : Gate) (found more : List AndGate) (a b : AndGate) → i < length gates → more ≡ found ++ b ∷ [] → a ≡ and_gate n (get_or gates i d) → (IsAnd v b → IsAnd v a) →
+    (All (IsAnd v) found → All (IsAnd v) (map (and_gate n) (take i gates))) → All (IsAnd v) more → All (IsAnd v) (map (and_gate n) (take (i + 1) gates))
+ands_more v n gates i d found more a b i_in are is law before all =
+    let split : All (IsAnd v) (found ++ b ∷ []) = subst (All (IsAnd v)) are all in
+    let last : IsAnd v (and_gate n (get_or gates i d)) = subst (IsAnd v) is (law (All-right (IsAnd v) found (b ∷ []) split 0 b (omega arith))) in
+    let first = before (All-left (IsAnd v) found (b ∷ []) split) in
+    let done : map (and_gate n) (take i gates) ++ and_gate n (get_or gates i d) ∷ [] ≡ map (and_gate n) (take (i + 1) gates) = map_more (and_gate n) gates i d [] (map (and_gate n) (take i gates)) (map (and_gate n) (take i gates) ++ and_gate n (get_or gates i d) ∷ []) (and_gate n (get_or gates i d)) i_in refl refl refl in
+    subst (All (IsAnd v)) done (All-push (IsAnd v) (map (and_gate n) (take i gates)) (and_gate n (get_or gates i d)) first last)

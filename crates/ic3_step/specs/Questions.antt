@@ -8,6 +8,7 @@ use Rattle.cnf.specs.Clauses.{literal, truth_clause}
 use Rattle.cones.specs.Marks.{IsMarked, IsCone}
 use Rattle.solver.specs.declared.part.AndGate.{AndGate}
 use Rattle.solver.specs.declared.part.Part.{Part}
+use Rattle.solver.specs.Parts.{IsAnd}
 
 -- a mark for each variable, of which none is set
 pub record IsUnasked (m : Parts) (marks : List Bool) : Type 0 where
@@ -18,12 +19,13 @@ pub record IsUnasked (m : Parts) (marks : List Bool) : Type 0 where
 abbrev pub and_gate : ℕ → Gate → AndGate
 and_gate n g = record { lhs = literal n 0 g.lhs; rhs0 = literal n 0 g.rhs0; rhs1 = literal n 0 g.rhs1 }
 
--- the part has the gates of a cone in which the literals and the constraints are; and what is true, and the constraints
+-- the part has the gates of a cone in which the literals and the constraints are: where its gates have their values by their
+-- right sides, so have all gates of the cone; and what is true, and the constraints
 pub record IsPartFor (m : Parts) (lits : List Lit) (part : Part) : Type 0 where
   pub cone : List Bool
   pub closed : IsCone m (IsMarked cone)
   pub asked : All (λ a. IsMarked cone (variable a)) (lits ++ m.constraints)
   pub listed : List Gate
   pub marked : All (λ g. IsMarked cone (variable g.lhs) → Contains listed g) m.gates
-  pub gates : part.gates.items ≡ map (and_gate m.max_var) listed
+  pub gates : (v : ℕ → Bool) → All (IsAnd v) part.gates.items → All (λ g. IsAnd v (and_gate m.max_var g)) listed
   pub wanted : part.literals.items ≡ truth_clause m.max_var 0 ++ map (literal m.max_var 0) m.constraints

@@ -11,6 +11,7 @@ ghost use Rattle.ic3_step.specs.Replies.{IsUsable};
 ghost use Rattle.ic3_step.specs.Contents.{IsGrown, IsMoreOf};
 ghost use Rattle.ic3_step.specs.Questions.{IsUnasked, IsPartFor};
 
+use crate::costs::costs_of;
 use crate::question::part_of;
 use base::{Refused, filled};
 use cnf::TimeFrame;
@@ -27,6 +28,8 @@ pub(crate) struct Cone {
     pub marks: Vec<bool>,
     /// a mark for each variable, of which none is set between two questions
     pub asked: Vec<bool>,
+    /// what each variable costs, by which a gate's sides are ordered
+    pub costs: Vec<u32>,
 }
 
 impl Cone {
@@ -41,10 +44,12 @@ impl Cone {
         let table = GateTable::new(alloc, circuit)?;
         let marks = filled(alloc, false, circuit.max_var() as usize + 1)?;
         let asked = filled(alloc, false, circuit.max_var() as usize + 1)?;
+        let costs = costs_of(alloc, circuit)?;
         Ok(Cone {
             table,
             marks,
             asked,
+            costs,
         })
     }
 
@@ -63,7 +68,14 @@ impl Cone {
         ensures grown { (cs : List (List ℤ)) → IsGrown circuit.now self.old cs → OnOk result (IsGrown circuit.now self.new cs) }
         ensures part { IfOk result (IsPartFor circuit.now lits.now) }
     {
-        part_of(alloc, circuit, &self.table, &mut self.asked, lits)
+        part_of(
+            alloc,
+            circuit,
+            &self.table,
+            &mut self.asked,
+            &self.costs,
+            lits,
+        )
     }
 }
 

@@ -16,6 +16,7 @@
 
 mod asking;
 mod cone;
+mod costs;
 mod encoding;
 mod lookup;
 mod order;

@@ -1,13 +1,15 @@
 //! The part of a circuit that a question is about.
 
-ghost use Rattle.std.specs.Prelude.{◌≡◌, ◌+◌, ◌<◌, ◌^◌, ◌++◌, map, All, IfOk, OnOk};
+ghost use Rattle.std.specs.Prelude.{◌≡◌, ◌+◌, ◌<◌, ◌^◌, ◌++◌, ℕ, Bool, map, All, IfOk, OnOk};
 ghost use Rattle.cnf.specs.Clauses.{literal, truth_clause};
 ghost use Rattle.cnf.specs.Formulas.{IsGateIn};
 ghost use Rattle.cones.specs.Reach.{IsGateTable};
+ghost use Rattle.solver.specs.Parts.{IsAnd};
 ghost use Rattle.ic3_step.specs.Replies.{IsUsable};
 ghost use Rattle.ic3_step.specs.Questions.{IsUnasked, IsPartFor, and_gate};
 
 use crate::asking::push_lits;
+use crate::costs::cheaper_first;
 use base::{Refused, copied, extend, push};
 use cnf::TimeFrame;
 use cones::{GateTable, Reach, gates_of, unmark};
@@ -24,12 +26,17 @@ fn roots_of(alloc: Global, circuit: &Model, lits: &[Lit]) -> Result<Vec<Lit>, Re
     Ok(roots)
 }
 
-/// The gates by literals of clauses.
-fn and_gates(alloc: Global, time: TimeFrame, gates: &[Gate]) -> Result<Vec<AndGate>, Refused>
+/// The gates by literals of clauses, each with the side first that costs less.
+fn and_gates(
+    alloc: Global,
+    time: TimeFrame,
+    costs: &[u32],
+    gates: &[Gate],
+) -> Result<Vec<AndGate>, Refused>
     requires first { time.offset ≡ 0 }
     requires fits { time.max_var + 1 < 2 ^ 31 }
     requires range { All (IsGateIn time.max_var) gates.now }
-    ensures { IfOk result (λ v. v.items ≡ map (and_gate time.max_var) gates.now) }
+    ensures { (v : ℕ → Bool) → IfOk result (λ ands. All (IsAnd v) ands.items → All (IsAnd v) (map (and_gate time.max_var) gates.now)) }
 {
     let mut found = Vec::new(alloc);
     for gate in gates {
@@ -38,7 +45,7 @@ fn and_gates(alloc: Global, time: TimeFrame, gates: &[Gate]) -> Result<Vec<AndGa
             rhs0: time.literal(gate.rhs0),
             rhs1: time.literal(gate.rhs1),
         };
-        push(&mut found, gate)?;
+        push(&mut found, cheaper_first(gate, costs))?;
     }
     Ok(found)
 }
@@ -55,12 +62,13 @@ fn wanted(alloc: Global, circuit: &Model) -> Result<Vec<i32>, Refused>
 }
 
 /// The gates of which the literals and the constraints are made, and the literals that are true at every
-/// time. It costs these. After an `Err` the marks are worth nothing.
+/// time. Of a gate's sides the one that costs less is the first. It costs these. After an `Err` the marks are worth nothing.
 pub(crate) fn part_of(
     alloc: Global,
     circuit: &Model,
     table: &GateTable,
     asked: &mut [bool],
+    costs: &[u32],
     lits: &[Lit],
 ) -> Result<Part, Refused>
     requires table { IsGateTable circuit.now table.now }
@@ -74,7 +82,7 @@ pub(crate) fn part_of(
     let list = cones::extend(alloc, circuit, table, Reach::Cone, &[], &roots, asked)?;
     let gates = gates_of(alloc, table, &list)?;
     unmark(asked, &list);
-    let gates = and_gates(alloc, TimeFrame::first(circuit), &gates)?;
+    let gates = and_gates(alloc, TimeFrame::first(circuit), costs, &gates)?;
     let literals = wanted(alloc, circuit)?;
     Ok(Part { gates, literals })
 }

@@ -4,6 +4,7 @@ use Rattle.cnf.specs.Formulas.{IsGateIn}
 use Rattle.cnf.proofs.Formed.{IsKnown}
 use Rattle.cones.specs.Reach.{gates_in}
 use Rattle.cones.proofs.Grown.{full, full_domain, full_inside, full_all, listed_gates}
+use Rattle.solver.specs.Parts.{IsAnd}
 use Rattle.ic3_step.specs.Questions.{and_gate}
 use Rattle.ic3_step.proofs.Loaded.{known_small, constraints_known, listed_in_range}
 use Rattle.ic3_step.proofs.Parted.{part_from}
@@ -37,5 +38,5 @@ returns-clause-part c =
     let are : c.deref.result.now ≡ c.args.lits.now ++ m.constraints = c.deref.ensures.value ∙ c.in_ok-roots.ensures in
     let is : c.deref-4.result.now ≡ gates_in c.args.table.now c.in_ok-list.list.items = c.deref-4.ensures.value ∙ c.in_ok-gates.ensures ∙ ap (gates_in c.args.table.now) c.deref-2.ensures.value in
     part_from m c.args.table.now c.args.asked.now c.extend.new.marks _ c.deref.result.now c.args.lits.now c.in_ok-list.list.items _ c.requires.table c.requires.unasked.clear are c.in_ok-list.ensures
-    (c.in_ok-gates-2.ensures ∙ ap (λ n. map (and_gate n) c.deref-4.result.now) c.first.ensures.max_var ∙ ap (map (and_gate m.max_var)) is)
+    (λ v all. subst (All (IsAnd v)) (ap (λ n. map (and_gate n) c.deref-4.result.now) c.first.ensures.max_var ∙ ap (map (and_gate m.max_var)) is) (c.in_ok-gates-2.ensures v all))
     c.in_ok-literals.ensures
