@@ -189,3 +189,39 @@ def credits(places, properties=1):
             circuit.set_next(latch, circuit.choice(less, lowered, raised))
     over = [circuit.conjunction(credit[k], filled[places - 1 - k]) for k in range(properties - 1)]
     return circuit.text(circuit.conjunction(sends, filled[-1]), *over)
+
+
+# Circuits without a violation, by their names.
+SAFE = [
+    ("counter of 8 bits, back after 199", safe_counter(8, 199, 220)),
+    ("counter of 12 bits, back after 2,000", safe_counter(12, 2000, 3000)),
+    ("shift registers of 64 stages", safe_shift(64)),
+    ("shift registers of 256 stages", safe_shift(256)),
+    ("ring of 16 latches", ring(16)),
+    ("ring of 64 latches", ring(64)),
+    ("arbiter of 16 clients", safe_arbiter(16)),
+    ("arbiter of 64 clients", safe_arbiter(64)),
+    ("arbiter of 96 clients", safe_arbiter(96)),
+    ("arbiter of 200 clients", safe_arbiter(200)),
+    ("twins of 8 latches", twins(8)),
+    ("twins of 16 latches", twins(16)),
+    ("twins of 64 latches", twins(64)),
+    ("twin registers of 100 latches beside 5,000 gates", twins_beside(100, 5000)),
+    ("credits for 4 places", credits(4)),
+    ("credits for 8 places", credits(8)),
+    ("credits for 16 places", credits(16)),
+    ("credits for 18 places", credits(18)),
+    ("credits for 32 places", credits(32)),
+    ("credits for 64 places", credits(64)),
+]
+
+# Circuits with a violation within 100 times, by their names.
+UNSAFE = [
+    ("shift register of 90 stages", shift(90)),
+    ("counter of 8 bits up to 60", counter(8, 60)),
+    ("counter of 8 bits up to 90", counter(8, 90)),
+    ("counter of 16 bits up to 90", counter(16, 90)),
+    ("counter of 32 bits up to 60", counter(32, 60)),
+    ("arbiter of 8 clients with a violation", arbiter(8)),
+    ("arbiter of 64 clients with a violation", arbiter(64)),
+]
