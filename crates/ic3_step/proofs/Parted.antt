@@ -3,7 +3,7 @@ use Rattle.std.proofs.Common.{◌≡◌, ◌≢◌, ℕ, zero, suc, ◌+◌, inl
 use Rattle.std.specs.Prelude.{flat_map}
 use Rattle.std.proofs.Math.Bool.{and_comm}
 use Rattle.std.proofs.lemmas.Bool.{cases_eq, eq-eqb, ne_eqb, false≢true}
-use Rattle.std.proofs.lemmas.List.Elements.{All-cons, All-nil, All-push, All-append, Contains-get_or, Contains-append_left, Contains-append_right}
+use Rattle.std.proofs.lemmas.List.Elements.{All-map, All-cons, All-nil, All-push, All-append, Contains-get_or, Contains-append_left, Contains-append_right}
 use Rattle.graph.specs.declared.circuit.Lit.{Lit}
 use Rattle.graph.specs.declared.circuit.Gate.{Gate}
 use Rattle.graph.specs.declared.parts.Parts.{Parts}
@@ -128,8 +128,9 @@ gate_made g n o x y z first e1 e2 e3 = rw (e1, e2, e3, first) refl
 -- what is listed where marks are extended from none is a part
 pub part_from : (m : Parts) (table : List (Option Gate)) (t u w : List Bool) (wanted lits : List Lit) (list : List ℕ) (part : Part) → IsGateTable m table → ((v : ℕ) → place t v ≡ false) →
     wanted ≡ lits ++ m.constraints → IsExtended m Cone w wanted t u list → ((v : ℕ → Bool) → All (IsAnd v) part.gates.items → All (IsAnd v) (map (and_gate m.max_var) (gates_in table list))) →
+    ((v : ℕ → Bool) → All (IsAnd v) (map (and_gate m.max_var) (gates_in table list)) → All (IsAnd v) part.gates.items) →
     part.literals.items ≡ truth_clause m.max_var 0 ++ map (literal m.max_var 0) m.constraints → IsPartFor m lits part
-part_from m table t u w wanted lits list part is clear are ext gates literals = record {
+part_from m table t u w wanted lits list part is clear are ext gates same literals = record {
   cone = u;
   closed = ext.closed;
   asked = subst (All (λ (a : Lit). IsMarked u (variable a))) are ext.marked;
@@ -141,6 +142,7 @@ part_from m table t u w wanted lits list part is clear are ext gates literals = 
         | inr found ↦ contains_found (gate_at table) list (left g) g found (is.gates k d k_in)
       ];
   gates = λ v all. All-unmap (IsAnd v) (and_gate m.max_var) (gates_in table list) (gates v all);
+  same = λ v all. same v (All-map (IsAnd v) (and_gate m.max_var) (gates_in table list) all);
   wanted = literals;
 }
 
@@ -157,3 +159,13 @@ ands_more v n gates i d found more a b i_in are is law before all =
     let first = before (All-left (IsAnd v) found (b ∷ []) split) in
     let done : map (and_gate n) (take i gates) ++ and_gate n (get_or gates i d) ∷ [] ≡ map (and_gate n) (take (i + 1) gates) = map_more (and_gate n) gates i d [] (map (and_gate n) (take i gates)) (map (and_gate n) (take i gates) ++ and_gate n (get_or gates i d) ∷ []) (and_gate n (get_or gates i d)) i_in refl refl refl in
     subst (All (IsAnd v)) done (All-push (IsAnd v) (map (and_gate n) (take i gates)) (and_gate n (get_or gates i d)) first last)
+
+pub ands_back : (v : ℕ → Bool) (n : ℕ) (gates : List Gate) (i : ℕ) (d : Gate) (found more : List AndGate) (a b : AndGate) → i < length gates → more ≡ found ++ b ∷ [] → a ≡ and_gate n (get_or gates i d) → (IsAnd v a → IsAnd v b) →
+    (All (IsAnd v) (map (and_gate n) (take i gates)) → All (IsAnd v) found) → All (IsAnd v) (map (and_gate n) (take (i + 1) gates)) → All (IsAnd v) more
+ands_back v n gates i d found more a b i_in are is law before all =
+    let g : AndGate = and_gate n (get_or gates i d) in
+    let first : List AndGate = map (and_gate n) (take i gates) in
+    let done : first ++ g ∷ [] ≡ map (and_gate n) (take (i + 1) gates) = map_more (and_gate n) gates i d [] first (first ++ g ∷ []) g i_in refl refl refl in
+    let split : All (IsAnd v) (first ++ g ∷ []) = subst (All (IsAnd v)) (sym done) all in
+    let last : IsAnd v b = law (subst (IsAnd v) (sym is) (All-right (IsAnd v) first (g ∷ []) split 0 g (omega arith))) in
+    subst (All (IsAnd v)) (sym are) (All-push (IsAnd v) found b (before (All-left (IsAnd v) first (g ∷ []) split)) last)

@@ -19,8 +19,8 @@ pub record IsUnasked (m : Parts) (marks : List Bool) : Type 0 where
 abbrev pub and_gate : ℕ → Gate → AndGate
 and_gate n g = record { lhs = literal n 0 g.lhs; rhs0 = literal n 0 g.rhs0; rhs1 = literal n 0 g.rhs1 }
 
--- the part has the gates of a cone in which the literals and the constraints are: where its gates have their values by their
--- right sides, so have all gates of the cone; and what is true, and the constraints
+-- the part has the gates of a cone in which the literals and the constraints are: its gates have their values by their right
+-- sides exactly where the gates of the cone have; and what is true, and the constraints
 pub record IsPartFor (m : Parts) (lits : List Lit) (part : Part) : Type 0 where
   pub cone : List Bool
   pub closed : IsCone m (IsMarked cone)
@@ -28,4 +28,5 @@ pub record IsPartFor (m : Parts) (lits : List Lit) (part : Part) : Type 0 where
   pub listed : List Gate
   pub marked : All (λ g. IsMarked cone (variable g.lhs) → Contains listed g) m.gates
   pub gates : (v : ℕ → Bool) → All (IsAnd v) part.gates.items → All (λ g. IsAnd v (and_gate m.max_var g)) listed
+  pub same : (v : ℕ → Bool) → All (λ g. IsAnd v (and_gate m.max_var g)) listed → All (IsAnd v) part.gates.items
   pub wanted : part.literals.items ≡ truth_clause m.max_var 0 ++ map (literal m.max_var 0) m.constraints

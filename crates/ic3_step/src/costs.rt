@@ -59,7 +59,8 @@ pub(crate) fn costs_of(alloc: Global, circuit: &Model) -> Result<Vec<u32>, Refus
 
 /// The gate with the side first that costs less.
 pub(crate) fn cheaper_first(gate: AndGate, costs: &[u32]) -> AndGate
-    ensures { (v : ℕ → Bool) → IsAnd v result → IsAnd v gate }
+    ensures gate { (v : ℕ → Bool) → IsAnd v result → IsAnd v gate }
+    ensures same { (v : ℕ → Bool) → IsAnd v gate → IsAnd v result }
 {
     let first = cost_at(costs, gate.rhs0.unsigned_abs());
     if first <= cost_at(costs, gate.rhs1.unsigned_abs()) {

@@ -36,7 +36,8 @@ fn and_gates(
     requires first { time.offset ≡ 0 }
     requires fits { time.max_var + 1 < 2 ^ 31 }
     requires range { All (IsGateIn time.max_var) gates.now }
-    ensures { (v : ℕ → Bool) → IfOk result (λ ands. All (IsAnd v) ands.items → All (IsAnd v) (map (and_gate time.max_var) gates.now)) }
+    ensures gates { (v : ℕ → Bool) → IfOk result (λ ands. All (IsAnd v) ands.items → All (IsAnd v) (map (and_gate time.max_var) gates.now)) }
+    ensures same { (v : ℕ → Bool) → IfOk result (λ ands. All (IsAnd v) (map (and_gate time.max_var) gates.now) → All (IsAnd v) ands.items) }
 {
     let mut found = Vec::new(alloc);
     for gate in gates {

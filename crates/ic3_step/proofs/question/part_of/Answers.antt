@@ -38,5 +38,6 @@ returns-clause-part c =
     let are : c.deref.result.now ≡ c.args.lits.now ++ m.constraints = c.deref.ensures.value ∙ c.in_ok-roots.ensures in
     let is : c.deref-4.result.now ≡ gates_in c.args.table.now c.in_ok-list.list.items = c.deref-4.ensures.value ∙ c.in_ok-gates.ensures ∙ ap (gates_in c.args.table.now) c.deref-2.ensures.value in
     part_from m c.args.table.now c.args.asked.now c.extend.new.marks _ c.deref.result.now c.args.lits.now c.in_ok-list.list.items _ c.requires.table c.requires.unasked.clear are c.in_ok-list.ensures
-    (λ v all. subst (All (IsAnd v)) (ap (λ n. map (and_gate n) c.deref-4.result.now) c.first.ensures.max_var ∙ ap (map (and_gate m.max_var)) is) (c.in_ok-gates-2.ensures v all))
+    (λ v all. subst (All (IsAnd v)) (ap (λ n. map (and_gate n) c.deref-4.result.now) c.first.ensures.max_var ∙ ap (map (and_gate m.max_var)) is) (c.in_ok-gates-2.ensures.gates v all))
+    (λ v all. c.in_ok-gates-2.ensures.same v (subst (All (IsAnd v)) (sym (ap (λ n. map (and_gate n) c.deref-4.result.now) c.first.ensures.max_var ∙ ap (map (and_gate m.max_var)) is)) all))
     c.in_ok-literals.ensures
