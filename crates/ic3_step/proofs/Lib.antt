@@ -7,3 +7,4 @@ pub mod Found
 pub mod Refused
 pub mod Denied
 pub mod Looked
+pub mod Entered

@@ -24,7 +24,7 @@ use Rattle.cones.proofs.Assigned.{contains_flat}
 use Rattle.ic3_step.specs.declared.state.StateLit.{StateLit}
 use Rattle.ic3_step.specs.declared.cone.Cone.{Cone}
 use Rattle.ic3_step.specs.States.{Guarded}
-use Rattle.ic3_step.specs.Questions.{IsUnasked}
+use Rattle.ic3_step.specs.Questions.{IsUnasked, ArePartGates}
 use Rattle.ic3_step.specs.Contents.{Contents, guard_literal, latch_literal, state_literal, guarded_clause, IsGrown, IsMoreOf, IsLoaded, HasGuards}
 use Rattle.ic3_step.specs.Readings.{assumptions_of}
 use Rattle.ic3_step.proofs.Valued.{known_in_range}
@@ -188,13 +188,14 @@ grown_of m room gs t cone loaded is = subst (λ (c : Cone). IsGrown m c t.clause
 
 -- nothing is marked yet
 pub none_grown : (m : Parts) (cone : Cone) (cs : List (List ℤ)) → IsGateTable m cone.table → length cone.marks.items ≡ m.max_var + 1 → ((v : ℕ) → place cone.marks.items v ≡ false) →
-    IsUnasked m cone.asked.items → Contains cs (truth_clause m.max_var 0) → IsGrown m cone cs
-none_grown m cone cs table places clear unasked truth = record {
+    IsUnasked m cone.asked.items → ArePartGates m cone.part_gates → Contains cs (truth_clause m.max_var 0) → IsGrown m cone cs
+none_grown m cone cs table places clear unasked part_gates truth = record {
   table = table;
   places = places;
   closed = λ k d k_in on. absurd (false≢true (sym (clear (variable (get_or m.gates k d).lhs)) ∙ on));
   gates = record { truth = truth; gates = λ k d k_in on. absurd (false≢true (sym (clear (variable (get_or m.gates k d).lhs)) ∙ on)) };
   unasked = unasked;
+  part_gates = part_gates;
 }
 
 -- a solver that has what is true, the constraints, and what these are made of, is loaded
@@ -247,6 +248,7 @@ loaded_more m room gs g t u loaded same_vars same_cone are =
         closed = loaded.grown.closed;
         gates = subst (HasGates m marked) (sym are) (gates_more m marked t.clauses one loaded.grown.gates);
         unasked = loaded.grown.unasked;
+        part_gates = loaded.grown.part_gates;
       };
       constraints = subst (HasConstraints m marked) (sym are) (constraints_more m marked marked t.clauses one (λ v on. on) loaded.constraints);
       guarded = subst (λ (ds : List (List ℤ)). All (λ (x : Guarded). Contains ds (guarded_clause m x)) (gs ++ g ∷ [])) (sym are)

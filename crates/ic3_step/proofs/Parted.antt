@@ -1,20 +1,19 @@
 -- What a part of the circuit says of values.
-use Rattle.std.proofs.Common.{◌≡◌, ◌≢◌, ℕ, zero, suc, ◌+◌, inl, inr, arith, Bool, true, false, not, ◌&&◌, ◌||◌, List, [], ◌∷◌, ◌++◌, Option, map, get_or, All, ℤ, pos, refl, sym, ◌∙◌, subst, ◌<◌, length, take}
+use Rattle.std.proofs.Common.{◌≡◌, ◌≢◌, ℕ, zero, suc, ◌+◌, inl, inr, arith, Bool, true, false, not, ◌&&◌, ◌||◌, List, [], ◌∷◌, ◌++◌, Option, map, get_or, All, ℤ, pos, refl, sym, ◌∙◌, subst}
 use Rattle.std.specs.Prelude.{flat_map}
 use Rattle.std.proofs.Math.Bool.{and_comm}
 use Rattle.std.proofs.lemmas.Bool.{cases_eq, eq-eqb, ne_eqb, false≢true}
-use Rattle.std.proofs.lemmas.List.Elements.{All-map, All-cons, All-nil, All-push, All-append, Contains-get_or, Contains-append_left, Contains-append_right}
+use Rattle.std.proofs.lemmas.List.Elements.{All-cons, All-nil, All-append, Contains-get_or, Contains-append_left, Contains-append_right}
 use Rattle.graph.specs.declared.circuit.Lit.{Lit}
 use Rattle.graph.specs.declared.circuit.Gate.{Gate}
 use Rattle.graph.specs.declared.parts.Parts.{Parts}
 use Rattle.graph.specs.Valuation.{variable, place}
-use Rattle.graph.proofs.Evaluation.{All-left, All-right, All-unmap}
+use Rattle.graph.proofs.Evaluation.{All-left, All-right}
 use Rattle.graph.proofs.Shape.{All-flat_map}
 use Rattle.lrat.specs.Literals.{is_true, IsSatisfied}
 use Rattle.lrat.specs.Shared.{unit_clauses}
 use Rattle.cnf.specs.Clauses.{signed, is_negated, literal, denial, truth_clause, gate_clauses}
 use Rattle.cnf.specs.Meaning.{AreSatisfied}
-use Rattle.cnf.proofs.Made.{map_more}
 use Rattle.cnf.proofs.Listed.{any-satisfied, unit-satisfied, units-satisfied}
 use Rattle.graph.proofs.Gates.{left}
 use Rattle.cones.specs.Marks.{IsMarked}
@@ -26,7 +25,8 @@ use Rattle.solver.specs.Answers.{values, AreTrue}
 use Rattle.solver.specs.declared.part.AndGate.{AndGate}
 use Rattle.solver.specs.declared.part.Part.{Part}
 use Rattle.solver.specs.Parts.{IsAnd, IsPartModel}
-use Rattle.ic3_step.specs.Questions.{and_gate, IsPartFor}
+use Rattle.ic3_step.specs.Questions.{and_gate, ands_in, ArePartGates, IsPartFor}
+use Rattle.ic3_step.proofs.Entered.{ands_to, ands_from}
 use Rattle.ic3_step.proofs.Latched.{to_map}
 
 twice : (b : Bool) → b ≡ not (not b)
@@ -126,11 +126,10 @@ pub gate_made : (g : Gate) (n o : ℕ) (x y z : ℤ) → o ≡ 0 → x ≡ liter
 gate_made g n o x y z first e1 e2 e3 = rw (e1, e2, e3, first) refl
 
 -- what is listed where marks are extended from none is a part
-pub part_from : (m : Parts) (table : List (Option Gate)) (t u w : List Bool) (wanted lits : List Lit) (list : List ℕ) (part : Part) → IsGateTable m table → ((v : ℕ) → place t v ≡ false) →
-    wanted ≡ lits ++ m.constraints → IsExtended m Cone w wanted t u list → ((v : ℕ → Bool) → All (IsAnd v) part.gates.items → All (IsAnd v) (map (and_gate m.max_var) (gates_in table list))) →
-    ((v : ℕ → Bool) → All (IsAnd v) (map (and_gate m.max_var) (gates_in table list)) → All (IsAnd v) part.gates.items) →
+pub part_from : (m : Parts) (table : List (Option Gate)) (ands : List (Option AndGate)) (t u w : List Bool) (wanted lits : List Lit) (list : List ℕ) (part : Part) → IsGateTable m table → ArePartGates m ands →
+    ((v : ℕ) → place t v ≡ false) → wanted ≡ lits ++ m.constraints → IsExtended m Cone w wanted t u list → part.gates.items ≡ ands_in ands list →
     part.literals.items ≡ truth_clause m.max_var 0 ++ map (literal m.max_var 0) m.constraints → IsPartFor m lits part
-part_from m table t u w wanted lits list part is clear are ext gates same literals = record {
+part_from m table ands t u w wanted lits list part is have clear are ext gates literals = record {
   cone = u;
   closed = ext.closed;
   asked = subst (All (λ (a : Lit). IsMarked u (variable a))) are ext.marked;
@@ -141,31 +140,11 @@ part_from m table t u w wanted lits list part is clear are ext gates same litera
         | inl before ↦ absurd (false≢true (sym (clear (left g)) ∙ before))
         | inr found ↦ contains_found (gate_at table) list (left g) g found (is.gates k d k_in)
       ];
-  gates = λ v all. All-unmap (IsAnd v) (and_gate m.max_var) (gates_in table list) (gates v all);
-  same = λ v all. same v (All-map (IsAnd v) (and_gate m.max_var) (gates_in table list) all);
+  gates = λ v all. ands_to m table ands list v is have (subst (All (IsAnd v)) gates all);
+  same = λ v all. subst (All (IsAnd v)) (sym gates) (ands_from m table ands list v is have all);
   wanted = literals;
 }
 
 -- a gate whose sides change places
 pub and_turned : (v : ℕ → Bool) (a : AndGate) → IsAnd v (record { lhs = a.lhs; rhs0 = a.rhs1; rhs1 = a.rhs0 }) → IsAnd v a
 and_turned v a turned = turned ∙ and_comm (is_true v a.rhs1) (is_true v a.rhs0)
-
--- one gate more
-pub ands_more : (v : ℕ → Bool) (n : ℕ) (gates : List Gate) (i : ℕ) (d : Gate) (found more : List AndGate) (a b : AndGate) → i < length gates → more ≡ found ++ b ∷ [] → a ≡ and_gate n (get_or gates i d) → (IsAnd v b → IsAnd v a) →
-    (All (IsAnd v) found → All (IsAnd v) (map (and_gate n) (take i gates))) → All (IsAnd v) more → All (IsAnd v) (map (and_gate n) (take (i + 1) gates))
-ands_more v n gates i d found more a b i_in are is law before all =
-    let split : All (IsAnd v) (found ++ b ∷ []) = subst (All (IsAnd v)) are all in
-    let last : IsAnd v (and_gate n (get_or gates i d)) = subst (IsAnd v) is (law (All-right (IsAnd v) found (b ∷ []) split 0 b (omega arith))) in
-    let first = before (All-left (IsAnd v) found (b ∷ []) split) in
-    let done : map (and_gate n) (take i gates) ++ and_gate n (get_or gates i d) ∷ [] ≡ map (and_gate n) (take (i + 1) gates) = map_more (and_gate n) gates i d [] (map (and_gate n) (take i gates)) (map (and_gate n) (take i gates) ++ and_gate n (get_or gates i d) ∷ []) (and_gate n (get_or gates i d)) i_in refl refl refl in
-    subst (All (IsAnd v)) done (All-push (IsAnd v) (map (and_gate n) (take i gates)) (and_gate n (get_or gates i d)) first last)
-
-pub ands_back : (v : ℕ → Bool) (n : ℕ) (gates : List Gate) (i : ℕ) (d : Gate) (found more : List AndGate) (a b : AndGate) → i < length gates → more ≡ found ++ b ∷ [] → a ≡ and_gate n (get_or gates i d) → (IsAnd v a → IsAnd v b) →
-    (All (IsAnd v) (map (and_gate n) (take i gates)) → All (IsAnd v) found) → All (IsAnd v) (map (and_gate n) (take (i + 1) gates)) → All (IsAnd v) more
-ands_back v n gates i d found more a b i_in are is law before all =
-    let g : AndGate = and_gate n (get_or gates i d) in
-    let first : List AndGate = map (and_gate n) (take i gates) in
-    let done : first ++ g ∷ [] ≡ map (and_gate n) (take (i + 1) gates) = map_more (and_gate n) gates i d [] first (first ++ g ∷ []) g i_in refl refl refl in
-    let split : All (IsAnd v) (first ++ g ∷ []) = subst (All (IsAnd v)) (sym done) all in
-    let last : IsAnd v b = law (subst (IsAnd v) (sym is) (All-right (IsAnd v) first (g ∷ []) split 0 g (omega arith))) in
-    subst (All (IsAnd v)) (sym are) (All-push (IsAnd v) found b (before (All-left (IsAnd v) first (g ∷ []) split)) last)

@@ -10,7 +10,7 @@ use Rattle.cones.specs.Reach.{IsGateTable}
 use Rattle.cones.specs.Partial.{HasGates, HasConstraints}
 use Rattle.ic3_step.specs.declared.cone.Cone.{Cone}
 use Rattle.ic3_step.specs.declared.state.StateLit.{StateLit}
-use Rattle.ic3_step.specs.Questions.{IsUnasked}
+use Rattle.ic3_step.specs.Questions.{IsUnasked, ArePartGates}
 use Rattle.ic3_step.specs.States.{Guarded}
 
 -- a solver's greatest variable, its clauses, and the cone that it was asked about
@@ -35,13 +35,14 @@ state_literal m a = if a.value then literal m.max_var 0 (latch_literal m a.latch
 abbrev pub guarded_clause : Parts → Guarded → List ℤ
 guarded_clause m g = neg_ℤ (guard_literal m g.guard) ∷ map (state_literal m) g.clause
 
--- the table of the circuit's gates, marks of a cone, and among the clauses those of the cone's gates
+-- the tables of the circuit's gates, marks of a cone, and among the clauses those of the cone's gates
 pub record IsGrown (m : Parts) (c : Cone) (cs : List (List ℤ)) : Type 0 where
   pub table : IsGateTable m c.table
   pub places : length c.marks.items ≡ m.max_var + 1
   pub closed : IsCone m (IsMarked c.marks.items)
   pub gates : HasGates m (IsMarked c.marks.items) cs
   pub unasked : IsUnasked m c.asked.items
+  pub part_gates : ArePartGates m c.part_gates
 
 -- each of the clauses after is one before, or one of these
 pub record IsMoreOf (all before after : List (List ℤ)) : Type 0 where

@@ -1,5 +1,5 @@
 -- The part of a circuit that a question is about.
-use Rattle.std.specs.Prelude.{◌≡◌, ℕ, ◌+◌, Bool, false, List, ◌++◌, length, map, All, Contains}
+use Rattle.std.specs.Prelude.{◌≡◌, ℕ, ◌+◌, Bool, false, Option, None, Some, List, ◌++◌, length, slice_index_or, filter_map, map, All, Contains}
 use Rattle.graph.specs.declared.circuit.Lit.{Lit}
 use Rattle.graph.specs.declared.circuit.Gate.{Gate}
 use Rattle.graph.specs.declared.parts.Parts.{Parts}
@@ -18,6 +18,28 @@ pub record IsUnasked (m : Parts) (marks : List Bool) : Type 0 where
 -- the gate by literals of clauses
 abbrev pub and_gate : ℕ → Gate → AndGate
 and_gate n g = record { lhs = literal n 0 g.lhs; rhs0 = literal n 0 g.rhs0; rhs1 = literal n 0 g.rhs1 }
+
+-- the first gate has its value by its right sides exactly where the second has
+pub record IsSameAnd (a b : AndGate) : Type 0 where
+  pub gate : (v : ℕ → Bool) → IsAnd v a → IsAnd v b
+  pub same : (v : ℕ → Bool) → IsAnd v b → IsAnd v a
+
+-- the gate of a variable, by literals of clauses
+abbrev pub and_at : List (Option AndGate) → ℕ → Option AndGate
+and_at table v = slice_index_or table v None
+
+-- the gates of those of the variables that are gates'
+abbrev pub ands_in : List (Option AndGate) → List ℕ → List AndGate
+ands_in table list = filter_map (and_at table) list
+
+-- at the gate's variable stands one that has its value exactly where the gate has
+abbrev pub HasAnd : ℕ → List (Option AndGate) → Gate → Type 0
+HasAnd n table g = (a : AndGate) × (and_at table (variable g.lhs) ≡ Some a) × IsSameAnd a (and_gate n g)
+
+-- the table has such a one for each gate, and nothing else
+pub record ArePartGates (m : Parts) (table : List (Option AndGate)) : Type 0 where
+  pub gates : All (HasAnd m.max_var table) m.gates
+  pub only : (v : ℕ) (a : AndGate) → and_at table v ≡ Some a → (g : Gate) × Contains m.gates g × (variable g.lhs ≡ v)
 
 -- the part has the gates of a cone in which the literals and the constraints are: its gates have their values by their right
 -- sides exactly where the gates of the cone have; and what is true, and the constraints

@@ -9,9 +9,9 @@ ghost use Rattle.cones.specs.Marks.{IsMarked};
 ghost use Rattle.cones.specs.Reach.{IsGateTable};
 ghost use Rattle.ic3_step.specs.Replies.{IsUsable};
 ghost use Rattle.ic3_step.specs.Contents.{IsGrown, IsMoreOf};
-ghost use Rattle.ic3_step.specs.Questions.{IsUnasked, IsPartFor};
+ghost use Rattle.ic3_step.specs.Questions.{IsUnasked, ArePartGates, IsPartFor};
 
-use crate::costs::costs_of;
+use crate::part_gates::PartGates;
 use crate::question::part_of;
 use base::{Refused, filled};
 use cnf::TimeFrame;
@@ -28,8 +28,8 @@ pub(crate) struct Cone {
     pub marks: Vec<bool>,
     /// a mark for each variable, of which none is set between two questions
     pub asked: Vec<bool>,
-    /// what each variable costs, by which a gate's sides are ordered
-    pub costs: Vec<u32>,
+    /// the gates as a part has them
+    pub part_gates: PartGates,
 }
 
 impl Cone {
@@ -39,17 +39,18 @@ impl Cone {
         ensures places { IfOk result (λ c. length c.marks.items ≡ circuit.now.max_var + 1) }
         ensures clear { IfOk result (λ c. (v : ℕ) → place c.marks.items v ≡ false) }
         ensures unasked { IfOk result (λ c. IsUnasked circuit.now c.asked.items) }
+        ensures part_gates { IfOk result (λ c. ArePartGates circuit.now c.part_gates) }
     {
         circuit.well_formed();
         let table = GateTable::new(alloc, circuit)?;
         let marks = filled(alloc, false, circuit.max_var() as usize + 1)?;
         let asked = filled(alloc, false, circuit.max_var() as usize + 1)?;
-        let costs = costs_of(alloc, circuit)?;
+        let part_gates = PartGates::new(alloc, circuit)?;
         Ok(Cone {
             table,
             marks,
             asked,
-            costs,
+            part_gates,
         })
     }
 
@@ -63,6 +64,7 @@ impl Cone {
     ) -> Result<Part, Refused>
         requires table { IsGateTable circuit.now self.old.table }
         requires unasked { IsUnasked circuit.now self.old.asked.items }
+        requires part_gates { ArePartGates circuit.now self.old.part_gates }
         requires lits { All (IsUsable circuit.now) lits.now }
         ensures marks { self.new.marks ≡ self.old.marks }
         ensures grown { (cs : List (List ℤ)) → IsGrown circuit.now self.old cs → OnOk result (IsGrown circuit.now self.new cs) }
@@ -73,7 +75,7 @@ impl Cone {
             circuit,
             &self.table,
             &mut self.asked,
-            &self.costs,
+            &self.part_gates,
             lits,
         )
     }

@@ -20,6 +20,7 @@ mod costs;
 mod encoding;
 mod lookup;
 mod order;
+mod part_gates;
 mod question;
 mod reading;
 mod reply;

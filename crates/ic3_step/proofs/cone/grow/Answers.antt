@@ -37,6 +37,7 @@ returns-clause-grown g c =
       gates = subst (λ (t : List Bool). HasGates m (IsMarked t) (g.S.Sat.clauses c.add_gates.new.solver)) (sym whole)
           (subst (HasGates m (IsMarked new)) (sym is) (c.in_ok-gates.ensures.clauses old before));
       unasked = c.requires.grown.unasked;
+      part_gates = c.requires.grown.part_gates;
     }
 
 pub returns-clause-added : goal.returns-clause-added

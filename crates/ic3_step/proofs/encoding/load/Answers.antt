@@ -19,7 +19,7 @@ grow-requires-clause-grown g c =
     let first : List (List ℤ) = truth_clause m.max_var 0 ∷ unit_clauses (map (literal m.max_var 0) m.constraints) in
     let is : g.S.Sat.clauses c.add_constraints.new.solver ≡ first =
     c.in_ok-add_constraints.ensures.clauses ∙ ap (λ (cs : List (List ℤ)). cs ++ first) c.in_ok-reset.ensures.clauses in
-    none_grown m c.in_ok-cone.cone (g.S.Sat.clauses c.add_constraints.new.solver) c.in_ok-cone.ensures.table c.in_ok-cone.ensures.places c.in_ok-cone.ensures.clear c.in_ok-cone.ensures.unasked
+    none_grown m c.in_ok-cone.cone (g.S.Sat.clauses c.add_constraints.new.solver) c.in_ok-cone.ensures.table c.in_ok-cone.ensures.places c.in_ok-cone.ensures.clear c.in_ok-cone.ensures.unasked c.in_ok-cone.ensures.part_gates
     (subst (λ (cs : List (List ℤ)). Contains cs (truth_clause m.max_var 0)) (sym is) (0, omega arith, refl))
 
 pub returns : goal.returns
