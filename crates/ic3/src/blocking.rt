@@ -73,7 +73,7 @@ impl<S: PartSat> FrameSolver<S> {
         let Some(first) = reset_literal(circuit.latches(), clause) else {
             return Ok(Blocking::Initial);
         };
-        if level == 0 || frames.implies(level, clause) {
+        if level == 0 || frames.implies(alloc, level, clause)? {
             return Ok(Blocking::Blocked);
         }
         let before = level - 1;

@@ -4,3 +4,4 @@ pub mod Sifting
 pub mod Begun
 pub mod Translated
 pub mod Fixed
+pub mod Marking

@@ -1,3 +1,4 @@
 pub mod Frames
 pub mod Resets
 pub mod Clauses
+pub mod Marks

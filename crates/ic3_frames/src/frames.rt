@@ -1,6 +1,6 @@
 //! Frames, kept as clauses with levels.
 
-ghost use Rattle.std.specs.Prelude.{◌≡◌, ◌≢◌, ◌+◌, ◌<◌, ◌≤◌, ◌⊎◌, ℕ, Bool, false, List, None, length, set, slice_index_or, All, Contains, IsTrue, OnOk, OnErr, IfOk, IfSome};
+ghost use Rattle.std.specs.Prelude.{◌≡◌, ◌≢◌, ◌+◌, ◌<◌, ◌≤◌, ◌⊎◌, ℕ, Bool, true, false, List, None, length, set, slice_index_or, All, Contains, OnOk, OnErr, IfOk, IfSome};
 ghost use Rattle.graph.specs.declared.circuit.Lit.{Lit};
 ghost use Rattle.graph.specs.declared.parts.Parts.{Parts};
 ghost use Rattle.cnf.specs.Formulas.{bad_literal};
@@ -12,8 +12,9 @@ ghost use Rattle.ic3_frames.specs.Resets.{IsInitialState};
 
 use crate::activities::Activities;
 use crate::invariant::{clauses_above, is_left};
+use crate::marks::Marks;
 use crate::resets::reset_entries;
-use crate::subsumption::{insert, is_part};
+use crate::subsumption::insert;
 use base::Refused;
 use graph::{Lit, Model, Seq};
 use ic3_step::StateLit;
@@ -81,19 +82,15 @@ impl Frames {
         self.activities.values()
     }
 
-    /// Whether a clause of the frame at `level` is part of this one, which then holds in each of its states.
-    /// This one is taken to be in rising order. It costs a step for each clause of all frames, and a search that takes the
-    /// logarithm of this one's length for each of the clauses of the frame; more only where first literals are in this one.
-    pub fn implies(&self, level: u32, clause: &[StateLit]) -> bool
-        ensures sound { IsTrue result → (s : List Bool) → InFrame self.now.entries level s → Holds s clause.now }
-        ensures complete { result ≡ false → IsRising clause.now → All (λ e. level ≤ e.level → IsPartOf e.clause clause.now → ⊥) self.now.entries }
+    /// Whether a clause of the frame at `level` is part of this one, which then holds in each of its states. It costs a step
+    /// for each clause of all frames, and one look for each literal of a clause of the frame, up to the first that is
+    /// not in this one. It takes two bits for each latch up to this one's greatest.
+    pub fn implies(&self, alloc: Global, level: u32, clause: &[StateLit]) -> Result<bool, Refused>
+        ensures sound { IfOk result (λ b. b ≡ true → (s : List Bool) → InFrame self.now.entries level s → Holds s clause.now) }
+        ensures complete { IfOk result (λ b. b ≡ false → All (λ e. level ≤ e.level → IsPartOf e.clause clause.now → ⊥) self.now.entries) }
     {
-        'looking: for entry in self.entries.as_slice() {
-            if level <= entry.level && is_part(entry.clause.as_slice(), clause) {
-                return true;
-            }
-        }
-        false
+        let marks = Marks::new(alloc, clause)?;
+        Ok(marks.have_one(self.entries.as_slice(), level))
     }
 
     /// Adds a clause to the frames up to `level`, and drops the clauses that it subsumes

@@ -11,6 +11,7 @@
 mod activities;
 mod frames;
 mod invariant;
+mod marks;
 mod resets;
 mod subsumption;
 

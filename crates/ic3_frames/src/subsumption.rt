@@ -23,7 +23,7 @@ fn has(clause: &[StateLit], lit: StateLit) -> bool
 
 /// Whether each literal of the first clause is one of the second, which is in rising order. The
 /// first literal that is missing ends it; each one before costs the logarithm of the second's length.
-pub(crate) fn is_part(part: &[StateLit], clause: &[StateLit]) -> bool
+fn is_part(part: &[StateLit], clause: &[StateLit]) -> bool
     ensures sound { IsTrue result → IsPartOf part.now clause.now }
     ensures complete { IsRising clause.now → IsPartOf part.now clause.now → IsTrue result }
 {

@@ -1,0 +1,56 @@
+-- Marks of a clause's literals, set one after the other.
+use Rattle.std.proofs.Common.{◌≡◌, ◌≢◌, ◌∙◌, ℕ, ◌+◌, ◌*◌, ◌/◌, ◌%◌, ◌^◌, ◌<◌, Bool, true, false, if◌then◌else◌, List, length, get_or, set, replicate, w64, bit_or, inl, inr, arith, refl, sym, ap, subst, ◌≤◌, All, Any}
+use Rattle.std.specs.Int.{bit_at}
+use Rattle.std.proofs.lemmas.Bool.{cases_eq, cases_lt}
+use Rattle.std.proofs.lemmas.List.{get_or-set_same, get_or-set_other, get_or-replicate, get_or_past, get_or_default, length-replicate}
+use Rattle.std.proofs.lemmas.Nat.Bits.{bit_at_set_same, bit_at_set_other, bit_at-zero}
+use Rattle.ic3_step.specs.declared.state.StateLit.{StateLit}
+use Rattle.std.proofs.lemmas.List.Elements.{All-contains, Contains-get_or}
+use Rattle.ic3_step.specs.States.{IsPartOf}
+use Rattle.ic3_frames.specs.declared.frames.Entry.{Entry}
+use Rattle.ic3_frames.specs.Marks.{mark_of, mark_at, IsMarked, AreMarks}
+
+-- the word with one bit more
+abbrev pub with_bit : List ℕ → ℕ → List ℕ
+with_bit words p = set words (p / 64) (bit_or (get_or words (p / 64) 0) (1 * 2 ^ (p % 64) % 18446744073709551616))
+
+pub bit_set : (words : List ℕ) (p : ℕ) → p / 64 < length words → mark_at (with_bit words p) p ≡ 1
+bit_set words p inside =
+    ap (λ x. bit_at x (p % 64)) (get_or-set_same words (p / 64) _ 0 inside) ∙ bit_at_set_same w64 (get_or words (p / 64) 0) (p % 64) (omega arith)
+
+pub bit_other : (words : List ℕ) (p q : ℕ) → p / 64 < length words → q ≢ p → mark_at (with_bit words p) q ≡ mark_at words q
+bit_other words p q inside differ = elim (cases_eq (q / 64) (p / 64)) [
+  | inl same ↦
+      ap (λ i. bit_at (get_or (with_bit words p) i 0) (q % 64)) same ∙ ap (λ x. bit_at x (q % 64)) (get_or-set_same words (p / 64) _ 0 inside)
+      ∙ bit_at_set_other w64 (get_or words (p / 64) 0) (p % 64) (omega arith) (q % 64) (λ e. differ (omega (arith, e, same)))
+      ∙ ap (λ i. bit_at (get_or words i 0) (q % 64)) (sym same)
+  | inr other ↦ ap (λ x. bit_at x (q % 64)) (get_or-set_other words (p / 64) (q / 64) _ 0 other)
+]
+
+-- no bit is set yet
+pub unmarked : (n p : ℕ) → mark_at (replicate n 0) p ≡ 0
+unmarked n p = elim (cases_lt (p / 64) n) [
+  | inl inside ↦ ap (λ x. bit_at x (p % 64)) (get_or-replicate n (p / 64) 0 0 inside) ∙ bit_at-zero (p % 64)
+  | inr past ↦ ap (λ x. bit_at x (p % 64)) (get_or_past (replicate n 0) (p / 64) 0 (subst (λ m. m ≤ p / 64) (sym (length-replicate n 0)) past)) ∙ bit_at-zero (p % 64)
+]
+
+-- a place is of one literal
+one_place : (m n : ℕ) (v w : Bool) → 2 * m + (if v then 1 else 0) ≡ 2 * n + (if w then 1 else 0) → (m ≡ n) × (v ≡ w)
+one_place m n true true e = (omega (arith, e), refl)
+one_place m n true false e = absurd (omega (arith, e))
+one_place m n false true e = absurd (omega (arith, e))
+one_place m n false false e = (omega (arith, e), refl)
+
+pub one_literal : (a b : StateLit) → mark_of a ≡ mark_of b → a ≡ b
+one_literal a b e =
+    let h = one_place a.latch b.latch a.value b.value e in
+    let first : a ≡ record { latch = b.latch; value = a.value } = ap (λ m. record { latch = m; value = a.value }) h.0 in
+    first ∙ ap (λ v. record { latch = b.latch; value = v }) h.1
+
+-- a clause that is part of the marked one has marked literals alone
+pub not_implied : (clause : List StateLit) (words : List ℕ) (entries : List Entry) (level : ℕ) → AreMarks clause words → (Any (λ (e : Entry). (level ≤ e.level) × All (IsMarked words) e.clause) entries → ⊥) →
+    All (λ (e : Entry). level ≤ e.level → IsPartOf e.clause clause → ⊥) entries
+not_implied clause words entries level marks none k d k_in above part =
+    let e : Entry = get_or entries k d in
+    let marked : All (IsMarked words) e.clause = λ j a j_in. All-contains (IsMarked words) clause (get_or e.clause j a) marks.each (part (get_or e.clause j a) (Contains-get_or e.clause j a j_in)) in
+    none (k, e, k_in, get_or_default entries k e d k_in, (above, marked))

@@ -1,0 +1,90 @@
+//! The literals of a clause, marked, so that whether a literal is one of them is one look.
+
+ghost use Rattle.std.specs.Prelude.{◌≡◌, ◌≢◌, ◌↔◌, ◌<◌, ◌≤◌, ◌/◌, ℕ, length, All, Any, IsTrue, IfOk};
+ghost use Rattle.ic3_frames.specs.Marks.{mark_of as place_of_mark, mark_at, IsMarked, AreMarks};
+
+use crate::frames::Entry;
+use base::{Refused, filled};
+use ic3_step::StateLit;
+use std::alloc::Global;
+
+/// The place of a literal's mark.
+fn mark_of(lit: StateLit) -> usize
+    ensures is { result ≡ place_of_mark lit }
+    ensures few { result < 8589934592 }
+{
+    let first = 2 * lit.latch as usize;
+    if lit.value { first + 1 } else { first }
+}
+
+/// Sets the bit at a place.
+fn mark(words: &mut [u64], place: usize)
+    requires { place / 64 < length words.old }
+    ensures places { length words.new ≡ length words.old }
+    ensures set { mark_at words.new place ≡ 1 }
+    ensures others { (p : ℕ) → p ≢ place → mark_at words.new p ≡ mark_at words.old p }
+{
+    words[place / 64] |= 1 << (place % 64);
+}
+
+/// Whether the bit at a place is set.
+fn is_set(words: &[u64], place: usize) -> bool
+    ensures { IsTrue result ↔ (mark_at words.now place ≡ 1) }
+{
+    match words.get(place / 64) {
+        Some(word) => (*word >> (place % 64)) & 1 == 1,
+        None => false,
+    }
+}
+
+/// How many words reach as far as the clause's literals.
+fn words_for(clause: &[StateLit]) -> usize
+    ensures reach { All (λ a. place_of_mark a / 64 < result) clause.now }
+    ensures few { result < 134217729 }
+{
+    let mut words = 0;
+    'looking: for lit in clause {
+        words = words.max(mark_of(*lit) / 64 + 1);
+    }
+    words
+}
+
+/// The literals of a clause, of which each has its bit.
+#[derive(Drop)]
+pub(crate) struct Marks {
+    words: Vec<u64>,
+}
+
+impl Marks {
+    /// Marks the clause's literals. It takes two bits for each latch up to the clause's greatest.
+    pub(crate) fn new(alloc: Global, clause: &[StateLit]) -> Result<Marks, Refused>
+        ensures { IfOk result (λ m. AreMarks clause.now m.words.items) }
+    {
+        let mut words = filled(alloc, 0u64, words_for(clause))?;
+        'marking: for lit in clause {
+            mark(words.as_mut_slice(), mark_of(*lit));
+        }
+        Ok(Marks { words })
+    }
+
+    /// Whether the literal is marked.
+    fn has(&self, lit: StateLit) -> bool
+        ensures { IsTrue result ↔ IsMarked self.now.words.items lit }
+    {
+        is_set(self.words.as_slice(), mark_of(lit))
+    }
+
+    /// Whether each literal of a clause is marked. The first that is not ends it.
+    fn have(&self, part: &[StateLit]) -> bool
+        ensures { IsTrue result ↔ All (IsMarked self.now.words.items) part.now }
+    {
+        part.iter().all(|lit| self.has(*lit))
+    }
+
+    /// Whether one of the clauses at the level or above has marked literals alone.
+    pub(crate) fn have_one(&self, entries: &[Entry], level: u32) -> bool
+        ensures { IsTrue result ↔ Any (λ e. (level ≤ e.level) × All (IsMarked self.now.words.items) e.clause) entries.now }
+    {
+        entries.iter().any(|entry| level <= entry.level && self.have(entry.clause.as_slice()))
+    }
+}
