@@ -100,12 +100,7 @@ impl<S: PartSat> FrameSolver<S> {
         ensures sound { OnOk result (IsSound circuit.now self.new frames.now) }
         ensures inductive { IfOk result (IsInductiveFrom circuit.now frames.now.entries level) }
     {
-        let latches = rarest_first(
-            alloc,
-            circuit.latches(),
-            frames.entries(),
-            clause.as_slice(),
-        )?;
+        let latches = rarest_first(alloc, frames.uses(), clause.as_slice())?;
         let mut kept = clause;
         'dropping: for latch in &latches {
             if !budget.tick() {

@@ -15,6 +15,7 @@ use crate::invariant::{clauses_above, is_left};
 use crate::marks::Marks;
 use crate::resets::reset_entries;
 use crate::subsumption::insert;
+use crate::uses::Uses;
 use base::Refused;
 use graph::{Lit, Model, Seq};
 use ic3_step::StateLit;
@@ -33,6 +34,7 @@ pub struct Frames {
     entries: Vec<Entry>,
     top: u32,
     activities: Activities,
+    uses: Uses,
 }
 
 impl std::marker::Model for Frames {
@@ -55,10 +57,12 @@ impl Frames {
         circuit.well_formed();
         let entries = reset_entries(alloc, circuit.latches())?;
         let activities = Activities::new(alloc, circuit.latches())?;
+        let uses = Uses::new(alloc, circuit.latches(), entries.as_slice())?;
         Ok(Frames {
             entries,
             top: 0,
             activities,
+            uses,
         })
     }
 
@@ -80,6 +84,12 @@ impl Frames {
     /// about a clause assumes the most active first. Nothing else rests on it.
     pub fn activities(&self) -> &[u64] {
         self.activities.values()
+    }
+
+    /// In how many clauses of the frames each latch is, by its position. A clause is made shorter by the latches of the fewest
+    /// first. Nothing else rests on it.
+    pub fn uses(&self) -> &[u32] {
+        self.uses.values()
     }
 
     /// Whether a clause of the frame at `level` is part of this one, which then holds in each of its states. It costs a step
@@ -107,7 +117,7 @@ impl Frames {
             HoldsOnward m self.old.entries k clause → OnOk result (AreFrames m bad self.new) }
     {
         self.activities.bump(clause.as_slice());
-        insert(&mut self.entries, clause, level)
+        insert(&mut self.entries, &mut self.uses, clause, level)
     }
 
     /// Propagates the clause at a place to the next frame.

@@ -14,5 +14,6 @@ mod invariant;
 mod marks;
 mod resets;
 mod subsumption;
+mod uses;
 
 pub use frames::{Entry, Frames};

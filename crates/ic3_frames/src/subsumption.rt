@@ -6,6 +6,7 @@ ghost use Rattle.ic3_step.specs.States.{IsPartOf};
 ghost use Rattle.ic3_frames.specs.Frames.{IsRising, IsSubsumed, IsNotSubsumed, IsAdded};
 
 use crate::frames::Entry;
+use crate::uses::Uses;
 use base::{Refused, push, reserve_one};
 use graph::Seq;
 use ic3_step::StateLit;
@@ -38,8 +39,8 @@ fn is_subsumed(entry: &Entry, clause: &[StateLit], level: u32) -> bool
     entry.level <= level && is_part(clause, entry.clause.as_slice())
 }
 
-/// Leaves the entries that the clause does not subsume.
-fn remove_subsumed(entries: &mut Vec<Entry>, clause: &[StateLit], level: u32)
+/// Leaves the entries that the clause does not subsume, and counts the others out.
+fn remove_subsumed(entries: &mut Vec<Entry>, uses: &mut Uses, clause: &[StateLit], level: u32)
     ensures only { All (Contains entries.old.items) entries.new.items }
     ensures each { All (λ e. Contains entries.new.items e ⊎ IsSubsumed clause.now level e) entries.old.items }
     ensures lean { All (IsNotSubsumed clause.now level) entries.new.items }
@@ -48,7 +49,9 @@ fn remove_subsumed(entries: &mut Vec<Entry>, clause: &[StateLit], level: u32)
 {
     let mut kept = 0;
     'sifting: for i in 0..entries.len() {
-        if !is_subsumed(&entries[i], clause, level) {
+        if is_subsumed(&entries[i], clause, level) {
+            uses.remove(entries[i].clause.as_slice());
+        } else {
             entries.swap(kept, i);
             kept += 1;
         }
@@ -59,6 +62,7 @@ fn remove_subsumed(entries: &mut Vec<Entry>, clause: &[StateLit], level: u32)
 /// Adds a clause, and drops those that it subsumes.
 pub(crate) fn insert(
     entries: &mut Vec<Entry>,
+    uses: &mut Uses,
     clause: Seq<StateLit>,
     level: u32,
 ) -> Result<(), Refused>
@@ -66,7 +70,8 @@ pub(crate) fn insert(
     ensures err { OnErr result (entries.new.items ≡ entries.old.items) }
 {
     reserve_one(entries)?;
-    remove_subsumed(entries, clause.as_slice(), level);
+    remove_subsumed(entries, uses, clause.as_slice(), level);
+    uses.add(clause.as_slice());
     push(entries, Entry { clause, level })?;
     Ok(())
 }

@@ -4,7 +4,7 @@ use Rattle.ic3_frames.specs.declared.frames.Entry.{Entry}
 use Rattle.ic3_frames.specs.Frames.{IsSubsumed, IsNotSubsumed}
 use Rattle.ic3_frames.proofs.Sifting.{sifted_kept, sifted_gone, sifted_only, sifted_lean, sifted_each}
 use Rattle.ic3_frames.proofs.subsumption.remove_subsumed.Goals as goal
-use Rattle.ic3_frames.proofs.subsumption.remove_subsumed.Goals.{then-not-is_subsumed, else-not-is_subsumed}
+use Rattle.ic3_frames.proofs.subsumption.remove_subsumed.Goals.{then-is_subsumed, else-is_subsumed}
 
 pub sifting-preserved : goal.sifting-preserved
 sifting-preserved c =
@@ -13,15 +13,15 @@ sifting-preserved c =
     let Gone : Entry → Type 0 = IsSubsumed c.args.clause.now c.args.level in
     let Kept : Entry → Type 0 = IsNotSubsumed c.args.clause.now c.args.level in
     let x : Entry = c.index.result.now in
-    elim c.if-not-is_subsumed.branch [
-      | then-not-is_subsumed w ↦
+    elim c.if-is_subsumed.branch [
+      | then-is_subsumed w ↦
+          rw (w.entries-is, w.kept-is)
+          (sifted_gone Gone Kept old now c.sifting.kept c.sifting.i x (omega arith) c.index.ensures (w.if-is_subsumed.ensures.sound refl) c.sifting.invariant)
+      | else-is_subsumed w ↦
           rw (w.entries-is, w.kept-is)
           (sifted_kept Gone Kept old now w.swap.new.self.items c.sifting.kept c.sifting.i x (omega arith) c.index.ensures
-          (λ rising entry_rising subsumption. false≢true (w.if-not-is_subsumed.ensures.complete rising entry_rising subsumption))
+          (λ rising entry_rising subsumption. false≢true (w.if-is_subsumed.ensures.complete rising entry_rising subsumption))
           w.swap.ensures.by_index c.sifting.invariant)
-      | else-not-is_subsumed w ↦
-          rw (w.entries-is, w.kept-is)
-          (sifted_gone Gone Kept old now c.sifting.kept c.sifting.i x (omega arith) c.index.ensures (w.if-not-is_subsumed.ensures.sound refl) c.sifting.invariant)
     ]
 
 pub returns-clause-only : goal.returns-clause-only
