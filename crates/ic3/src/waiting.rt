@@ -1,7 +1,7 @@
 //! Obligations that wait to be blocked.
 
-ghost use Rattle.std.specs.Prelude.{◌≡◌, ◌+◌, ◌<◌, ℕ, length, IfOk, IfSome, OnOk};
-ghost use Rattle.ic3.specs.Waiting.{AreWaiting};
+ghost use Rattle.std.specs.Prelude.{◌≡◌, ◌+◌, ◌<◌, ℕ, [], length, replicate, IfOk, IfSome, OnOk, OnErr};
+ghost use Rattle.ic3.specs.Waiting.{AreWaiting, waiting_in, IsPut, IsTaken};
 
 use base::{Refused, push};
 use std::alloc::Global;
@@ -17,6 +17,7 @@ impl Waiting {
     pub(crate) fn new(alloc: Global, top: u32) -> Result<Waiting, Refused>
         ensures frames { IfOk result (λ w. length w.frames.items ≡ top + 1) }
         ensures none { (count : ℕ) → IfOk result (AreWaiting count) }
+        ensures empty { IfOk result (λ w. waiting_in w ≡ replicate (top + 1) []) }
     {
         let mut frames = Vec::new(alloc);
         'opening: for _ in 0..top as usize + 1 {
@@ -25,22 +26,25 @@ impl Waiting {
         Ok(Waiting { frames })
     }
 
-    /// The obligation with this index waits in a frame, and is the first there to be taken.
+    /// The obligation with this index waits in a frame, and is the first there to be taken. A refusal changes nothing.
     pub(crate) fn put(&mut self, level: u32, index: usize) -> Result<(), Refused>
         requires { level < length self.old.frames.items }
         ensures frames { length self.new.frames.items ≡ length self.old.frames.items }
         ensures waiting { (count : ℕ) → AreWaiting count self.old → index < count → OnOk result (AreWaiting count self.new) }
+        ensures put { OnOk result (IsPut (waiting_in self.old) (waiting_in self.new) level index) }
+        ensures err { OnErr result (waiting_in self.new ≡ waiting_in self.old) }
     {
         push(&mut self.frames[level as usize], index)
     }
 
-    /// Takes the obligation that came last of those in the lowest frame in which one waits.
+    /// Takes the obligation that came last of those in the lowest frame in which one waits. There is none only where nothing waits.
     pub(crate) fn take(&mut self) -> Option<(u32, usize)>
         requires { length self.old.frames.items < 4294967296 }
         ensures frames { length self.new.frames.items ≡ length self.old.frames.items }
         ensures level { IfSome result (λ r. r.0 < length self.old.frames.items) }
         ensures waiting { (count : ℕ) → AreWaiting count self.old → AreWaiting count self.new }
         ensures index { (count : ℕ) → AreWaiting count self.old → IfSome result (λ r. r.1 < count) }
+        ensures taken { IsTaken (waiting_in self.old) (waiting_in self.new) result }
     {
         'looking: for level in 0..self.frames.len() {
             if let Some(index) = self.frames[level].pop() {
