@@ -1,8 +1,10 @@
 -- What waits, where one frame changes.
-use Rattle.std.proofs.Common.{◌≡◌, ℕ, ◌<◌, ◌≤◌, ◌∙◌, List, [], ◌∷◌, ◌++◌, Vec, Global, if◌then◌else◌, length, get_or, set, map, Some, None, Result, Ok, Err, OnOk, OnErr, is_ok, ◌+◌, inl, inr, sym, ap, subst, arith}
+use Rattle.std.proofs.Common.{◌≡◌, ℕ, ◌<◌, ◌≤◌, ◌∙◌, List, [], ◌∷◌, ◌++◌, Vec, Global, if◌then◌else◌, length, get_or, set, map, All, Some, None, Result, Ok, Err, OnOk, OnErr, is_ok, ◌+◌, inl, inr, sym, ap, subst, arith}
 use Rattle.std.proofs.lemmas.Bool.{cases_lt}
 use Rattle.std.proofs.lemmas.List.{get_or-map, get_or-set_same, get_or_default, set-set, set-get_or, map-set, length-map}
+use Rattle.std.proofs.lemmas.List.Elements.{All-set, All-contains, Contains-push}
 use Rattle.std.proofs.Math.Seq.{map-set_same}
+use Rattle.graph.proofs.Evaluation.{All-left}
 use Rattle.ic3.specs.Waiting.{IsPut, IsLowest, IsTaken}
 
 -- the indices in each frame
@@ -74,3 +76,13 @@ lowest_more before frames i old same inside at empty lowest k k_in =
           let here : k ≡ i = omega arith in
           ap (λ n. get_or before n []) here ∙ ap (λ ws. get_or ws i []) (sym same) ∙ get_or-map Items frames i old [] inside ∙ sym (ap Items at) ∙ empty
     ]
+
+-- what is below a number without its last one, and that one
+pub below_taken : (count : ℕ) (frames : List (Vec ℕ Global)) (i index : ℕ) (old new : Vec ℕ Global) → i < length frames → old ≡ get_or frames i old → old.items ≡ new.items ++ index ∷ [] →
+    All (λ frame. All (λ k. k < count) frame.items) frames → All (λ frame. All (λ k. k < count) frame.items) (set frames i new) × (index < count)
+below_taken count frames i index old new inside at fewer each =
+    let IsBelow : ℕ → Type 0 = λ k. k < count in
+    let Below : Vec ℕ Global → Type 0 = λ frame. All IsBelow frame.items in
+    let here : Below old = subst Below (sym at) (each i old inside) in
+    let both : All IsBelow (new.items ++ index ∷ []) = subst (All IsBelow) fewer here in
+    (All-set Below frames i new (All-left IsBelow new.items (index ∷ []) both) each, All-contains IsBelow (new.items ++ index ∷ []) index both (Contains-push new.items index))

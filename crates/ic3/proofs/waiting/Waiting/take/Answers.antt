@@ -2,7 +2,7 @@ use Rattle.std.proofs.Common.{◌≡◌, ◌<◌, ◌∙◌, ℕ, [], Vec, Globa
 use Rattle.std.proofs.lemmas.List.{append-nil, length-set, nil_from_length}
 use Rattle.std.proofs.lemmas.List.Elements.{All-set}
 use Rattle.ic3.specs.Waiting.{waiting_in}
-use Rattle.ic3.proofs.Waits.{last_taken, none_taken, lowest_more, same_items}
+use Rattle.ic3.proofs.Waits.{last_taken, none_taken, lowest_more, same_items, below_taken}
 use Rattle.ic3.proofs.waiting.Waiting.take.Goals as goal
 
 pub returns-in-Some-clause-taken : goal.returns-in-Some-clause-taken
@@ -12,6 +12,22 @@ returns-in-Some-clause-taken c =
     let long = c.len-level-end.ensures in
     let inside : c.looking.level < length frames = omega (arith, c.looking-test.true, long, h.frames) in
     last_taken (waiting_in c.args.self.now) frames c.looking.level c.in-Some.index c.index_mut.result.now c.pop.new.self h.same inside c.index_mut.ensures.value c.in-Some.ensures.items h.lowest
+
+pub returns-in-Some-clause-waiting : goal.returns-in-Some-clause-waiting
+returns-in-Some-clause-waiting c = λ count first.
+    let h = c.looking.invariant in
+    let frames = c.looking.self.frames.items in
+    let long = c.len-level-end.ensures in
+    let inside : c.looking.level < length frames = omega (arith, c.looking-test.true, long, h.frames) in
+    (below_taken count frames c.looking.level c.in-Some.index c.index_mut.result.now c.pop.new.self inside c.index_mut.ensures.value c.in-Some.ensures.items (h.waiting count first)).0
+
+pub returns-in-Some-clause-index : goal.returns-in-Some-clause-index
+returns-in-Some-clause-index c = λ count first.
+    let h = c.looking.invariant in
+    let frames = c.looking.self.frames.items in
+    let long = c.len-level-end.ensures in
+    let inside : c.looking.level < length frames = omega (arith, c.looking-test.true, long, h.frames) in
+    (below_taken count frames c.looking.level c.in-Some.index c.index_mut.result.now c.pop.new.self inside c.index_mut.ensures.value c.in-Some.ensures.items (h.waiting count first)).1
 
 pub looking-preserved : goal.looking-preserved
 looking-preserved c =
