@@ -19,6 +19,7 @@ pub fn attach_new(kernel: &Kernel, guide: &mut Guide) -> Result<(), Refused> {
             attach(kernel, guide, index as u32 + 1)?;
         }
     }
+    guide.watches.compact()?;
     bring_single(kernel, guide)
 }
 

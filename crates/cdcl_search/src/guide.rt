@@ -45,6 +45,12 @@ pub struct Guide {
     pub(crate) units: Table<u32>,
     /// which variables the analysis has seen
     pub(crate) seen: Table<bool>,
+    /// which variables lead to a decision, or to a level without a literal of the clause in progress
+    pub(crate) failed: Table<bool>,
+    /// literals of these variables
+    failures: Vec<i32>,
+    /// of each literal that the minimization saw the number of the one to whose reason it belongs
+    pub(crate) parents: Vec<usize>,
     /// literals of the variables that are seen
     pub(crate) marked: Vec<i32>,
     /// how many literals of the trail were propagated
@@ -74,6 +80,8 @@ pub struct Guide {
     pub(crate) gates: Table<AndGate>,
     /// how many literals of the trail are no false gates without a false side
     pub(crate) justified: usize,
+    /// the variables of the part in question that are no gates of it
+    leaves: Vec<i32>,
     /// whether only variables of its part are decided
     pub(crate) is_part: bool,
     /// whether the heap has the open variables: those of a part come in before the first decision
@@ -94,6 +102,9 @@ impl Guide {
             phases: Table::new(alloc),
             units: Table::new(alloc),
             seen: Table::new(alloc),
+            failed: Table::new(alloc),
+            failures: Vec::new(alloc),
+            parents: Vec::new(alloc),
             marked: Vec::new(alloc),
             head: 0,
             settled: 0,
@@ -109,6 +120,7 @@ impl Guide {
             question: 0,
             gates: Table::new(alloc),
             justified: 0,
+            leaves: Vec::new(alloc),
             is_part: false,
             is_filled: true,
         }
@@ -135,6 +147,7 @@ impl Guide {
         self.units.push(0)?;
         self.parts.push(0)?;
         self.gates.push(NO_GATE)?;
+        self.failed.push(false)?;
         self.seen.push(false)
     }
 
@@ -189,10 +202,7 @@ impl Guide {
     /// Only the variables of the part are decided from now on, or all where there is none.
     pub(crate) fn begin(&mut self, part: Option<&Part>) -> Result<(), Refused> {
         match part {
-            Some(part) => {
-                self.begin_part(part);
-                Ok(())
-            }
+            Some(part) => self.begin_part(part),
             None => self.begin_whole(),
         }
     }
@@ -213,19 +223,16 @@ impl Guide {
     }
 
     /// Only the variables of the part are decided from now on.
-    fn begin_part(&mut self, part: &Part) {
+    fn begin_part(&mut self, part: &Part) -> Result<(), Refused> {
         self.is_part = true;
         self.question = self.question.wrapping_add(1);
         self.justified = 0;
+        self.leaves.clear();
         for gate in part.gates.iter() {
             self.gates.put(gate.lhs.unsigned_abs() as usize, *gate);
             self.enter(gate.lhs);
-            self.enter(gate.rhs0);
-            self.enter(gate.rhs1);
         }
-        for literal in part.literals.iter() {
-            self.enter(*literal);
-        }
+        self.enter_leaves(part)
     }
 
     /// The literal's variable is one of the part.
@@ -235,26 +242,37 @@ impl Guide {
             .put(literal.unsigned_abs() as usize, self.question);
     }
 
-    /// Puts the open variables of the part that are no gates of it into the heap.
-    pub(crate) fn fill(&mut self, part: &Part) -> Result<(), Refused> {
-        self.is_filled = true;
+    /// The variables of the part that are no gates of it are its leaves, each once, in the order of the gates.
+    fn enter_leaves(&mut self, part: &Part) -> Result<(), Refused> {
         for gate in part.gates.iter() {
-            self.insert_leaf(gate.rhs0)?;
-            self.insert_leaf(gate.rhs1)?;
+            self.enter_leaf(gate.rhs0)?;
+            self.enter_leaf(gate.rhs1)?;
         }
         for literal in part.literals.iter() {
-            self.insert_leaf(*literal)?;
+            self.enter_leaf(*literal)?;
         }
         Ok(())
     }
 
-    /// Puts the literal's variable into the heap, where it has no value and is no gate.
+    /// The literal's variable is a leaf of the part, unless the part has it already.
     #[inline]
-    fn insert_leaf(&mut self, literal: i32) -> Result<(), Refused> {
-        if !self.values.is_open(literal) || self.gate_of(literal).lhs != 0 {
-            return Ok(());
+    fn enter_leaf(&mut self, literal: i32) -> Result<(), Refused> {
+        if !self.is_inside(literal) {
+            self.enter(literal);
+            push(&mut self.leaves, literal.wrapping_abs())?;
         }
-        self.heap.insert(literal)
+        Ok(())
+    }
+
+    /// Puts the open leaves of the part into the heap.
+    pub(crate) fn fill(&mut self) -> Result<(), Refused> {
+        self.is_filled = true;
+        for variable in self.leaves.iter() {
+            if self.values.is_open(*variable) {
+                self.heap.insert(*variable)?;
+            }
+        }
+        Ok(())
     }
 
     /// The gate that the literal's variable is in a part, or else `NO_GATE`.
@@ -301,6 +319,27 @@ impl Guide {
         push(&mut self.marked, literal)?;
         self.seen.put(literal.unsigned_abs() as usize, true);
         Ok(())
+    }
+
+    /// Whether the literal's variable leads to a decision, or to a level without a literal of the clause in progress.
+    #[inline]
+    pub(crate) fn is_failed(&self, literal: i32) -> bool {
+        self.failed.at(literal.unsigned_abs() as usize, false)
+    }
+
+    /// Marks the literal's variable as failed.
+    pub(crate) fn fail(&mut self, literal: i32) -> Result<(), Refused> {
+        push(&mut self.failures, literal)?;
+        self.failed.put(literal.unsigned_abs() as usize, true);
+        Ok(())
+    }
+
+    /// No variable is failed any more.
+    pub(crate) fn forget_failed(&mut self) {
+        for literal in self.failures.iter() {
+            self.failed.put(literal.unsigned_abs() as usize, false);
+        }
+        self.failures.clear();
     }
 
     /// Leaves only the first `len` of the variables that are seen.

@@ -3,7 +3,8 @@
 //! A literal is left out where its reason, the reasons of that reason's literals and so on lead
 //! only to literals of the clause and of level 0 (Sörensson and Biere 2009). What is still to be
 //! followed stands in a list and not on the machine's stack. As in MiniSat a literal whose level
-//! has none of the clause's literals ends the search at once.
+//! has none of the clause's literals ends the search at once, and what led there is marked, so that it ends the next
+//! literals' searches too.
 //!
 //! Of a clause that is still short those go as well whose negation a binary clause has beside the first literal
 //! (Audemard and Simon 2009), but for questions about a part, which learn little.
@@ -39,6 +40,7 @@ pub fn minimize(kernel: &Kernel, guide: &mut Guide) -> Result<(), Refused> {
         }
     }
     guide.clause.truncate(kept);
+    guide.forget_failed();
     Ok(())
 }
 
@@ -90,36 +92,60 @@ fn levels_of(guide: &Guide) -> u64 {
 }
 
 /// Whether the reasons behind the literal lead only to what is seen. The literals between are
-/// seen from then on.
+/// seen from then on, and have numbers from 1 on; the literal itself has 0. Where they lead elsewhere those on the way there
+/// are marked as failed.
 fn is_implied(
     kernel: &Kernel,
     guide: &mut Guide,
     literal: i32,
     levels: u64,
 ) -> Result<bool, Refused> {
-    let mut next = guide.marked.len();
-    if !see_reason(kernel, guide, literal, levels)? {
+    let first = guide.marked.len();
+    guide.parents.clear();
+    if !see_reason(kernel, guide, literal, levels, 0)? {
+        guide.fail(literal)?;
         return Ok(false);
     }
-    for _ in 0..guide.trail.len() {
-        let Some(literal) = guide.marked.get(next).copied() else {
+    for at in 0..guide.trail.len() {
+        let Some(between) = guide.marked.get(first.saturating_add(at)).copied() else {
             return Ok(true);
         };
-        if !see_reason(kernel, guide, literal, levels)? {
+        let number = at.saturating_add(1);
+        if !see_reason(kernel, guide, between, levels, number)? {
+            guide.fail(literal)?;
+            fail_way(guide, first, number)?;
             return Ok(false);
         }
-        next = next.saturating_add(1);
     }
     Ok(true)
 }
 
-/// Sees the literals of the literal's reason that are above level 0. Answers false where there is
-/// no reason, or one of them has none or is of a level that has none of the clause's literals.
+/// Marks the literals as failed that were seen from the place `first` on and lead to the one with this number, counted from
+/// 1 on: it, the one to whose reason it belongs, and so on.
+fn fail_way(guide: &mut Guide, first: usize, number: usize) -> Result<(), Refused> {
+    let mut number = number;
+    for _ in 0..guide.parents.len() {
+        let index = number.wrapping_sub(1);
+        let Some(parent) = guide.parents.get(index).copied() else {
+            return Ok(());
+        };
+        if let Some(literal) = guide.marked.get(first.saturating_add(index)).copied() {
+            guide.fail(literal)?;
+        }
+        number = parent;
+    }
+    Ok(())
+}
+
+/// Sees the literals of the literal's reason that are above level 0, and notes that they belong to the reason of the
+/// literal with this number. Answers false where there is no reason, or one of them has none, or is of a level that has none of
+/// the clause's literals, or has failed.
 fn see_reason(
     kernel: &Kernel,
     guide: &mut Guide,
     literal: i32,
     levels: u64,
+    number: usize,
 ) -> Result<bool, Refused> {
     let Some(reason) = guide.trail.reason(guide.levels.place_of(literal)) else {
         return Ok(false);
@@ -131,13 +157,14 @@ fn see_reason(
         if guide.is_seen(*other) || guide.levels.level_of(*other) == 0 {
             continue;
         }
-        if level_bit(guide, *other) & levels == 0 {
+        if guide.is_failed(*other) || level_bit(guide, *other) & levels == 0 {
             return Ok(false);
         }
         if guide.trail.reason(guide.levels.place_of(*other)).is_none() {
             return Ok(false);
         }
         guide.see(*other)?;
+        push(&mut guide.parents, number)?;
     }
     Ok(true)
 }

@@ -138,7 +138,7 @@ fn advance(
     ensures ends { IfOk result (λ r. IfSome r (EndsWith kernel.old kernel.new assume.now)) }
     ensures limit { IfErr result (λ e. e ≡ Limit full → IsFull kernel.new) }
 {
-    match choose(guide, part, assume)? {
+    match choose(guide, assume)? {
         Next::Decide(literal) => {
             open_level(guide, literal)?;
             Ok(None)
@@ -153,21 +153,21 @@ fn advance(
 
 /// Looks for the next assumption that is not true, or else, in a part, for a gate without a false side that needs one, or
 /// else for the most active open variable.
-fn choose(guide: &mut Guide, part: Option<&Part>, assume: &[i32]) -> Result<Next, Refused> {
+fn choose(guide: &mut Guide, assume: &[i32]) -> Result<Next, Refused> {
     if let Some(literal) = assume.get(guide.levels.current()) {
         if guide.values.is_false(*literal) {
             return Ok(Next::Denied(*literal));
         }
         return Ok(Next::Decide(*literal));
     }
-    let Some(part) = part else {
+    if !guide.is_part {
         return Ok(most_active(guide));
-    };
+    }
     if let Some(literal) = unjustified(guide) {
         return Ok(Next::Decide(literal));
     }
     if !guide.is_filled {
-        guide.fill(part)?;
+        guide.fill()?;
     }
     Ok(most_active(guide))
 }

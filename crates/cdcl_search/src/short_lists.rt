@@ -2,7 +2,8 @@
 //!
 //! All of them lie in one list, and each literal has a span of it, with some room to grow. A span that is full moves to
 //! the end of the list, where it has twice the room; the places that it had are not used again. A span keeps its room where
-//! clauses are taken out of it.
+//! clauses are taken out of it. Where a third of the list is room, all spans are copied, without it, to a list of their own, one
+//! literal's behind the other's: the search waits for memory more than for anything else.
 
 use crate::table::Table;
 use base::Refused;
@@ -11,6 +12,9 @@ use std::alloc::Global;
 
 /// For how many clauses a span has room when its first one comes.
 const FIRST_ROOM: u32 = 4;
+
+/// How many places of room are no reason to copy the spans.
+const FEWEST: usize = 1000;
 
 /// A clause of two or three literals that has a literal, and its other ones. Of a clause of two the second is that of
 /// variable 0, which does not exist and is always false.
@@ -58,6 +62,8 @@ pub const EMPTY: Span = Span {
 #[derive(Drop)]
 pub struct ShortLists {
     items: Table<Short>,
+    /// how many of the places are used
+    used: usize,
 }
 
 impl ShortLists {
@@ -65,6 +71,7 @@ impl ShortLists {
     pub fn new(alloc: Global) -> ShortLists {
         ShortLists {
             items: Table::new(alloc),
+            used: 0,
         }
     }
 
@@ -92,6 +99,7 @@ impl ShortLists {
             self.items
                 .put(span.start as usize + span.len as usize, clause);
             span.len += 1;
+            self.used = self.used.saturating_add(1);
         }
         Ok(span)
     }
@@ -124,6 +132,31 @@ impl ShortLists {
                 kept.len = kept.len.saturating_add(1);
             }
         }
+        self.used = self
+            .used
+            .saturating_sub(span.len.saturating_sub(kept.len) as usize);
         kept
+    }
+
+    /// Whether more than a third of a list that isn't short is room.
+    pub fn is_sparse(&self) -> bool {
+        self.items.len() / 3 * 2 > self.used.saturating_add(FEWEST)
+    }
+
+    /// Copies a span of another list behind all spans, without its room, and answers where it lies.
+    pub fn copy(&mut self, others: &ShortLists, span: Span) -> Result<Span, Refused> {
+        let start = self.items.len();
+        let Ok(start) = u32::try_from(start) else {
+            return Ok(EMPTY);
+        };
+        for clause in others.of(span) {
+            self.items.push(*clause)?;
+        }
+        self.used = self.used.saturating_add(span.len as usize);
+        Ok(Span {
+            start,
+            len: span.len,
+            room: span.len,
+        })
     }
 }

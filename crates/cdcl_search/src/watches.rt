@@ -174,6 +174,21 @@ impl Watches {
         Ok(())
     }
 
+    /// Copies the short clauses to a list without room, where the one that they are in has much. After an `Err` the
+    /// lists are worth nothing.
+    pub fn compact(&mut self) -> Result<(), Refused> {
+        if !self.shorts.is_sparse() {
+            return Ok(());
+        }
+        let mut shorts = ShortLists::new(self.alloc);
+        for index in 0..self.lists.len() {
+            let span = shorts.copy(&self.shorts, self.lists[index].short)?;
+            self.lists[index].short = span;
+        }
+        self.shorts = shorts;
+        Ok(())
+    }
+
     /// Watches two literals of a clause that has its place, or all three where it has no more.
     pub fn attach(
         &mut self,
