@@ -5,3 +5,4 @@ pub mod Begun
 pub mod Translated
 pub mod Fixed
 pub mod Marking
+pub mod Signed

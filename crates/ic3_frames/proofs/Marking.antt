@@ -6,8 +6,9 @@ use Rattle.std.proofs.lemmas.List.{get_or-set_same, get_or-set_other, get_or-rep
 use Rattle.std.proofs.lemmas.Nat.Bits.{bit_at_set_same, bit_at_set_other, bit_at-zero}
 use Rattle.ic3_step.specs.declared.state.StateLit.{StateLit}
 use Rattle.std.proofs.lemmas.List.Elements.{All-contains, Contains-get_or}
-use Rattle.ic3_step.specs.States.{IsPartOf}
+use Rattle.ic3_step.specs.States.{Holds, IsPartOf}
 use Rattle.ic3_frames.specs.declared.frames.Entry.{Entry}
+use Rattle.ic3_frames.specs.Frames.{InFrame}
 use Rattle.ic3_frames.specs.Marks.{mark_of, mark_at, IsMarked, AreMarks}
 
 -- the word with one bit more
@@ -47,6 +48,15 @@ one_literal a b e =
     let first : a ≡ record { latch = b.latch; value = a.value } = ap (λ m. record { latch = m; value = a.value }) h.0 in
     first ∙ ap (λ v. record { latch = b.latch; value = v }) h.1
 
+-- where a clause of marked literals alone holds, the marked one does
+pub implied : (clause : List StateLit) (words : List ℕ) (entries : List Entry) (level : ℕ) → AreMarks clause words → Any (λ (e : Entry). (level ≤ e.level) × All (IsMarked words) e.clause) entries →
+    (s : List Bool) → InFrame entries level s → Holds s clause
+implied clause words entries level marks any s frame =
+    let e : Entry = get_or entries any.0 any.1 in
+    let h = subst (λ (x : Entry). (level ≤ x.level) × All (IsMarked words) x.clause) (sym any.3) any.4 in
+    let holds : Holds s e.clause = frame any.0 any.1 any.2 h.0 in
+    (holds.0, marks.only holds.0 (All-contains (IsMarked words) e.clause holds.0 h.1 holds.1), holds.2)
+
 -- a clause that is part of the marked one has marked literals alone
 pub not_implied : (clause : List StateLit) (words : List ℕ) (entries : List Entry) (level : ℕ) → AreMarks clause words → (Any (λ (e : Entry). (level ≤ e.level) × All (IsMarked words) e.clause) entries → ⊥) →
     All (λ (e : Entry). level ≤ e.level → IsPartOf e.clause clause → ⊥) entries
@@ -54,3 +64,7 @@ not_implied clause words entries level marks none k d k_in above part =
     let e : Entry = get_or entries k d in
     let marked : All (IsMarked words) e.clause = λ j a j_in. All-contains (IsMarked words) clause (get_or e.clause j a) marks.each (part (get_or e.clause j a) (Contains-get_or e.clause j a j_in)) in
     none (k, e, k_in, get_or_default entries k e d k_in, (above, marked))
+
+-- a clause of marked literals alone is part of the marked one
+pub marked_part : (clause part : List StateLit) (words : List ℕ) → AreMarks clause words → All (IsMarked words) part → IsPartOf part clause
+marked_part clause part words marks marked = λ a has. marks.only a (All-contains (IsMarked words) part a marked has)

@@ -2,3 +2,4 @@ pub mod Frames
 pub mod Resets
 pub mod Clauses
 pub mod Marks
+pub mod Signatures

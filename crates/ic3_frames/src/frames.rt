@@ -14,6 +14,7 @@ use crate::activities::Activities;
 use crate::invariant::{clauses_above, is_left};
 use crate::marks::Marks;
 use crate::resets::reset_entries;
+use crate::signature::signatures_of;
 use crate::subsumption::insert;
 use crate::uses::Uses;
 use base::Refused;
@@ -32,6 +33,8 @@ pub struct Entry {
 #[derive(Drop)]
 pub struct Frames {
     entries: Vec<Entry>,
+    /// of the entries' clauses, by the entries' places
+    signatures: Vec<u64>,
     top: u32,
     activities: Activities,
     uses: Uses,
@@ -39,10 +42,13 @@ pub struct Frames {
 
 impl std::marker::Model for Frames {
     ghost use Rattle.ic3_frames.specs.Frames.{Levels};
+    ghost use Rattle.ic3_frames.specs.Signatures.{AreSignatures};
 
     ghost Value = { Levels };
 
     ghost view = { λ f. record { entries = f.entries.items; top = f.top } };
+
+    ghost invariant = { λ f. AreSignatures f.entries.items f.signatures.items };
 }
 
 impl Frames {
@@ -56,10 +62,12 @@ impl Frames {
     {
         circuit.well_formed();
         let entries = reset_entries(alloc, circuit.latches())?;
+        let signatures = signatures_of(alloc, entries.as_slice())?;
         let activities = Activities::new(alloc, circuit.latches())?;
         let uses = Uses::new(alloc, circuit.latches(), entries.as_slice())?;
         Ok(Frames {
             entries,
+            signatures,
             top: 0,
             activities,
             uses,
@@ -92,20 +100,22 @@ impl Frames {
         self.uses.values()
     }
 
-    /// Whether a clause of the frame at `level` is part of this one, which then holds in each of its states. It costs a step
-    /// for each clause of all frames, and one look for each literal of a clause of the frame, up to the first that is
-    /// not in this one. It takes two bits for each latch up to this one's greatest.
+    /// Whether a clause of the frame at `level` is part of this one, which then holds in each of its states. It costs a look at
+    /// the signature of each clause of all frames, and one look for each literal, up to the first that is not in this one, of a
+    /// clause of the frame whose signature's bits are all in this one's. It takes two bits for each latch up to this one's greatest.
     pub fn implies(&self, alloc: Global, level: u32, clause: &[StateLit]) -> Result<bool, Refused>
         ensures sound { IfOk result (λ b. b ≡ true → (s : List Bool) → InFrame self.now.entries level s → Holds s clause.now) }
         ensures complete { IfOk result (λ b. b ≡ false → All (λ e. level ≤ e.level → IsPartOf e.clause clause.now → ⊥) self.now.entries) }
     {
         let marks = Marks::new(alloc, clause)?;
-        Ok(marks.have_one(self.entries.as_slice(), level))
+        let entries = self.entries.as_slice();
+        Ok(marks.have_one(entries, self.signatures.as_slice(), level))
     }
 
     /// Adds a clause to the frames up to `level`, and drops the clauses that it subsumes
-    /// there: those of a level no greater that have all its literals. It takes a search for each such
-    /// clause, and more only where first literals agree. A refusal changes nothing.
+    /// there: those of a level no greater that have all its literals. It takes a look at the signature
+    /// of each clause, and a search only in a clause of such a level whose signature has all bits of
+    /// this one's. A refusal changes nothing.
     pub fn add(&mut self, clause: Seq<StateLit>, level: u32) -> Result<(), Refused>
         ensures top { self.new.top ≡ self.old.top }
         ensures newest { OnOk result (Contains self.new.entries (record { clause = clause; level = level })) }
@@ -117,7 +127,13 @@ impl Frames {
             HoldsOnward m self.old.entries k clause → OnOk result (AreFrames m bad self.new) }
     {
         self.activities.bump(clause.as_slice());
-        insert(&mut self.entries, &mut self.uses, clause, level)
+        insert(
+            &mut self.entries,
+            &mut self.signatures,
+            &mut self.uses,
+            clause,
+            level,
+        )
     }
 
     /// Propagates the clause at a place to the next frame.

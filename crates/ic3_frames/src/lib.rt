@@ -13,6 +13,7 @@ mod frames;
 mod invariant;
 mod marks;
 mod resets;
+mod signature;
 mod subsumption;
 mod uses;
 

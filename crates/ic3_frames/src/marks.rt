@@ -1,15 +1,19 @@
-//! The literals of a clause, marked, so that whether a literal is one of them is one look.
+//! The literals of a clause, marked, so that whether a literal is one of them is one look. The clause's signature is kept with
+//! them: where another clause's signature has a bit more, that clause is no part of this one, and its literals are not read.
 
-ghost use Rattle.std.specs.Prelude.{◌≡◌, ◌≢◌, ◌↔◌, ◌<◌, ◌≤◌, ◌/◌, ℕ, length, All, Any, IsTrue, IfOk};
+ghost use Rattle.std.specs.Prelude.{◌≡◌, ◌≢◌, ◌↔◌, ◌<◌, ◌≤◌, ◌/◌, ℕ, length, List, All, Any, IsTrue, IfOk};
+ghost use Rattle.ic3_step.specs.declared.state.StateLit.{StateLit as Lit};
 ghost use Rattle.ic3_frames.specs.Marks.{mark_of as place_of_mark, mark_at, IsMarked, AreMarks};
+ghost use Rattle.ic3_frames.specs.Signatures.{IsSignature, AreSignatures};
 
 use crate::frames::Entry;
+use crate::signature::{covers, signature_of};
 use base::{Refused, filled};
 use ic3_step::StateLit;
 use std::alloc::Global;
 
 /// The place of a literal's mark.
-fn mark_of(lit: StateLit) -> usize
+pub(crate) fn mark_of(lit: StateLit) -> usize
     ensures is { result ≡ place_of_mark lit }
     ensures few { result < 8589934592 }
 {
@@ -49,22 +53,27 @@ fn words_for(clause: &[StateLit]) -> usize
     words
 }
 
-/// The literals of a clause, of which each has its bit.
+/// The literals of a clause, of which each has its bit, and the clause's signature.
 #[derive(Drop)]
 pub(crate) struct Marks {
     words: Vec<u64>,
+    signature: u64,
 }
 
 impl Marks {
     /// Marks the clause's literals. It takes two bits for each latch up to the clause's greatest.
     pub(crate) fn new(alloc: Global, clause: &[StateLit]) -> Result<Marks, Refused>
-        ensures { IfOk result (λ m. AreMarks clause.now m.words.items) }
+        ensures marks { IfOk result (λ m. AreMarks clause.now m.words.items) }
+        ensures signature { IfOk result (λ m. IsSignature clause.now m.signature) }
     {
         let mut words = filled(alloc, 0u64, words_for(clause))?;
         'marking: for lit in clause {
             mark(words.as_mut_slice(), mark_of(*lit));
         }
-        Ok(Marks { words })
+        Ok(Marks {
+            words,
+            signature: signature_of(clause),
+        })
     }
 
     /// Whether the literal is marked.
@@ -81,10 +90,29 @@ impl Marks {
         part.iter().all(|lit| self.has(*lit))
     }
 
-    /// Whether one of the clauses at the level or above has marked literals alone.
-    pub(crate) fn have_one(&self, entries: &[Entry], level: u32) -> bool
-        ensures { IsTrue result ↔ Any (λ e. (level ≤ e.level) × All (IsMarked self.now.words.items) e.clause) entries.now }
+    /// Whether the entry, whose clause has this signature, is at the level or above and has marked literals alone.
+    fn have_entry(&self, entry: &Entry, signature: u64, level: u32) -> bool
+        ensures sound { IsTrue result → (level ≤ entry.now.level) × All (IsMarked self.now.words.items) entry.now.clause }
+        ensures complete { (c : List Lit) → AreMarks c self.now.words.items → IsSignature c self.now.signature → IsSignature entry.now.clause signature →
+            (level ≤ entry.now.level) × All (IsMarked self.now.words.items) entry.now.clause → IsTrue result }
     {
-        entries.iter().any(|entry| level <= entry.level && self.have(entry.clause.as_slice()))
+        covers(self.signature, signature)
+            && level <= entry.level
+            && self.have(entry.clause.as_slice())
+    }
+
+    /// Whether one of the clauses at the level or above, which have these signatures, has marked literals alone.
+    pub(crate) fn have_one(&self, entries: &[Entry], signatures: &[u64], level: u32) -> bool
+        requires { AreSignatures entries.now signatures.now }
+        ensures sound { IsTrue result → Any (λ e. (level ≤ e.level) × All (IsMarked self.now.words.items) e.clause) entries.now }
+        ensures complete { (c : List Lit) → AreMarks c self.now.words.items → IsSignature c self.now.signature →
+            Any (λ e. (level ≤ e.level) × All (IsMarked self.now.words.items) e.clause) entries.now → IsTrue result }
+    {
+        'looking: for (i, signature) in signatures.iter().enumerate() {
+            if self.have_entry(&entries[i], *signature, level) {
+                return true;
+            }
+        }
+        false
     }
 }

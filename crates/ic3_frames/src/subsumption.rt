@@ -1,11 +1,14 @@
 //! A clause more, and those that it subsumes.
 
-ghost use Rattle.std.specs.Prelude.{◌≡◌, ◌⊎◌, ◌≤◌, IsTrue, All, Contains, OnOk, OnErr};
+ghost use Rattle.std.specs.Prelude.{◌≡◌, ◌⊎◌, ◌<◌, ◌≤◌, length, IsTrue, All, Contains, OnOk, OnErr};
 ghost use Rattle.std.specs.Vec.{vec_len, vec_capacity};
+ghost use Rattle.std.specs.List.{SwappedAt};
 ghost use Rattle.ic3_step.specs.States.{IsPartOf};
 ghost use Rattle.ic3_frames.specs.Frames.{IsRising, IsSubsumed, IsNotSubsumed, IsAdded};
+ghost use Rattle.ic3_frames.specs.Signatures.{IsSignature, AreSignatures};
 
 use crate::frames::Entry;
+use crate::signature::{covers, signature_of};
 use crate::uses::Uses;
 use base::{Refused, push, reserve_one};
 use graph::Seq;
@@ -31,47 +34,102 @@ fn is_part(part: &[StateLit], clause: &[StateLit]) -> bool
     part.iter().all(|lit| has(clause, *lit))
 }
 
-/// Whether the entry is of no greater level and has all the clause's literals.
-fn is_subsumed(entry: &Entry, clause: &[StateLit], level: u32) -> bool
+/// Whether the entry is of no greater level and has all the clause's literals. Where the two signatures show that it has not,
+/// nothing else is read.
+fn is_subsumed(
+    entry: &Entry,
+    entry_signature: u64,
+    clause: &[StateLit],
+    signature: u64,
+    level: u32,
+) -> bool
+    requires entry { IsSignature entry.now.clause entry_signature }
+    requires clause { IsSignature clause.now signature }
     ensures sound { IsTrue result → IsSubsumed clause.now level entry.now }
     ensures complete { IsRising clause.now → IsRising entry.now.clause → IsSubsumed clause.now level entry.now → IsTrue result }
 {
-    entry.level <= level && is_part(clause, entry.clause.as_slice())
+    covers(entry_signature, signature)
+        && entry.level <= level
+        && is_part(clause, entry.clause.as_slice())
+}
+
+/// Moves an entry and its signature to a place further in front, unless they are there already.
+fn keep(entries: &mut Vec<Entry>, signatures: &mut Vec<u64>, kept: usize, i: usize)
+    requires behind { kept ≤ i }
+    requires entry { i < length entries.old.items }
+    requires signature { i < length signatures.old.items }
+    ensures entries { SwappedAt entries.old.items entries.new.items kept i }
+    ensures signatures { SwappedAt signatures.old.items signatures.new.items kept i }
+    ensures len { vec_len entries.new ≡ vec_len entries.old }
+    ensures capacity { vec_capacity entries.new ≡ vec_capacity entries.old }
+    ensures signatures_len { vec_len signatures.new ≡ vec_len signatures.old }
+    ensures signatures_capacity { vec_capacity signatures.new ≡ vec_capacity signatures.old }
+{
+    if kept < i {
+        entries.swap(kept, i);
+        signatures.swap(kept, i);
+    }
 }
 
 /// Leaves the entries that the clause does not subsume, and counts the others out.
-fn remove_subsumed(entries: &mut Vec<Entry>, uses: &mut Uses, clause: &[StateLit], level: u32)
+fn remove_subsumed(
+    entries: &mut Vec<Entry>,
+    signatures: &mut Vec<u64>,
+    uses: &mut Uses,
+    clause: &[StateLit],
+    signature: u64,
+    level: u32,
+)
+    requires signatures { AreSignatures entries.old.items signatures.old.items }
+    requires clause { IsSignature clause.now signature }
+    ensures signatures { AreSignatures entries.new.items signatures.new.items }
     ensures only { All (Contains entries.old.items) entries.new.items }
     ensures each { All (λ e. Contains entries.new.items e ⊎ IsSubsumed clause.now level e) entries.old.items }
     ensures lean { All (IsNotSubsumed clause.now level) entries.new.items }
     ensures len { vec_len entries.new ≤ vec_len entries.old }
     ensures capacity { vec_capacity entries.new ≡ vec_capacity entries.old }
+    ensures signatures_len { vec_len signatures.new ≤ vec_len signatures.old }
+    ensures signatures_capacity { vec_capacity signatures.new ≡ vec_capacity signatures.old }
 {
     let mut kept = 0;
     'sifting: for i in 0..entries.len() {
-        if is_subsumed(&entries[i], clause, level) {
+        if is_subsumed(&entries[i], signatures[i], clause, signature, level) {
             uses.remove(entries[i].clause.as_slice());
         } else {
-            entries.swap(kept, i);
+            keep(entries, signatures, kept, i);
             kept += 1;
         }
     }
     entries.truncate(kept);
+    signatures.truncate(kept);
 }
 
 /// Adds a clause, and drops those that it subsumes.
 pub(crate) fn insert(
     entries: &mut Vec<Entry>,
+    signatures: &mut Vec<u64>,
     uses: &mut Uses,
     clause: Seq<StateLit>,
     level: u32,
 ) -> Result<(), Refused>
+    requires { AreSignatures entries.old.items signatures.old.items }
+    ensures signatures { AreSignatures entries.new.items signatures.new.items }
     ensures added { OnOk result (IsAdded entries.old.items entries.new.items (record { clause = clause; level = level })) }
     ensures err { OnErr result (entries.new.items ≡ entries.old.items) }
 {
     reserve_one(entries)?;
-    remove_subsumed(entries, uses, clause.as_slice(), level);
+    reserve_one(signatures)?;
+    let signature = signature_of(clause.as_slice());
+    remove_subsumed(
+        entries,
+        signatures,
+        uses,
+        clause.as_slice(),
+        signature,
+        level,
+    );
     uses.add(clause.as_slice());
+    push(signatures, signature)?;
     push(entries, Entry { clause, level })?;
     Ok(())
 }
