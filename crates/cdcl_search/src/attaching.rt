@@ -1,4 +1,7 @@
 //! Clauses that were added since the last call.
+//!
+//! They are gone through twice: once for their variables and for how many short ones each literal gets, so that there is room for
+//! all of them, and then each of them is watched.
 
 use crate::guide::Guide;
 use crate::levels::go_back;
@@ -9,26 +12,34 @@ use cdcl_kernel::Kernel;
 
 /// Watches the clauses that were added since the last call. For a clause with fewer than two literals that
 /// are not false the search goes back to level 0, but for clauses of a single literal: those are
-/// brought on the trail in each call, until one begins at level 0. All have their places first.
+/// brought on the trail in each call, until one begins at level 0. All have their places and room first.
 pub fn attach_new(kernel: &Kernel, guide: &mut Guide) -> Result<(), Refused> {
     let first = guide.watches.len();
     let last = kernel.clauses();
     guide.watches.place(last)?;
     for index in first..last {
-        if index < 4_294_967_295 {
-            attach(kernel, guide, index as u32 + 1)?;
-        }
+        take_in(kernel, guide, index as u32 + 1)?;
+    }
+    guide.watches.reserve()?;
+    for index in first..last {
+        attach(kernel, guide, index as u32 + 1)?;
     }
     guide.watches.compact()?;
     bring_single(kernel, guide)
 }
 
+/// Makes room for a clause's variables, and counts it where it is short.
+fn take_in(kernel: &Kernel, guide: &mut Guide, id: u32) -> Result<(), Refused> {
+    if let Some(clause) = kernel.clause(id) {
+        guide.take_in(clause)?;
+        guide.watches.count(clause)?;
+    }
+    Ok(())
+}
+
 /// Watches a clause. One of a single literal is kept to be brought on the trail; any other that can't be
 /// watched is looked at at level 0.
 fn attach(kernel: &Kernel, guide: &mut Guide, id: u32) -> Result<(), Refused> {
-    if let Some(clause) = kernel.clause(id) {
-        guide.take_in(clause)?;
-    }
     if watch(kernel, guide, id)? {
         return Ok(());
     }

@@ -8,6 +8,7 @@
 
 mod analysis;
 mod attaching;
+mod counts;
 mod final_analysis;
 mod guide;
 mod heap;

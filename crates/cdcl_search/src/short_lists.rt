@@ -1,16 +1,18 @@
 //! The clauses of two or three literals, by each of their literals.
 //!
-//! All of them lie in one list, and each literal has a span of it, with some room to grow. A span that is full moves to
-//! the end of the list, where it has twice the room; the places that it had are not used again. A span keeps its room where
-//! clauses are taken out of it. Where a third of the list is room, all spans are copied, without it, to a list of their own, one
-//! literal's behind the other's: the search waits for memory more than for anything else.
+//! All of them lie in one list, and each literal has a span of it, with some room to grow. Where many clauses come at once
+//! they are counted first, and a span without enough room for those that it is to get moves to the end of the list, where it
+//! has just that room (`reserve`). Where they come one by one a span that is full moves to the end, where it has twice the
+//! room. The places that a span had are not used again. A span keeps its room where clauses are taken out of it. Where a third
+//! of the list is room, all spans are copied, without it, to a list of their own, one literal's behind the other's: the
+//! search waits for memory more than for anything else.
 
 use crate::table::Table;
 use base::Refused;
 use cdcl_kernel::Kernel;
 use std::alloc::Global;
 
-/// For how many clauses a span has room when its first one comes.
+/// For how many clauses a span has room when its first one comes, and was not counted.
 const FIRST_ROOM: u32 = 4;
 
 /// How many places of room are no reason to copy the spans.
@@ -93,7 +95,7 @@ impl ShortLists {
     pub fn add(&mut self, span: Span, clause: Short) -> Result<Span, Refused> {
         let mut span = span;
         if span.len == span.room {
-            span = self.enlarge(span)?;
+            span = self.enlarge(span, span.room.saturating_mul(2).max(FIRST_ROOM))?;
         }
         if span.len < span.room {
             self.items
@@ -104,12 +106,21 @@ impl ShortLists {
         Ok(span)
     }
 
-    /// Copies a span to the end of the list, where it has twice the room.
-    fn enlarge(&mut self, span: Span) -> Result<Span, Refused> {
+    /// Answers a span with room for this many clauses more: the same one, or its copy at the end of the list. One whose
+    /// new place would be no number of 32 bits stays as it is.
+    pub fn reserve(&mut self, span: Span, more: u32) -> Result<Span, Refused> {
+        let room = span.len.saturating_add(more);
+        if room <= span.room {
+            return Ok(span);
+        }
+        self.enlarge(span, room)
+    }
+
+    /// Copies a span to the end of the list, where it has this room.
+    fn enlarge(&mut self, span: Span, room: u32) -> Result<Span, Refused> {
         let Ok(start) = u32::try_from(self.items.len()) else {
             return Ok(span);
         };
-        let room = span.room.saturating_mul(2).max(FIRST_ROOM);
         for at in 0..room as usize {
             let clause = self.of(span).get(at).copied().unwrap_or(NONE);
             self.items.push(clause)?;

@@ -11,6 +11,7 @@
 //! No proof rests on what is watched: a clause that is missed is found when a model is looked
 //! through.
 
+use crate::counts::Counts;
 use crate::short_lists::{EMPTY, Short, ShortLists, Span};
 use crate::table::Table;
 use crate::values::code_of;
@@ -66,6 +67,8 @@ pub struct Watches {
     lists: Vec<Lists>,
     /// the clauses of two or three literals
     shorts: ShortLists,
+    /// in how many clauses to come of two or three literals each literal is
+    counts: Counts,
     /// the longer ones, by literals, which are read only of a literal that has some
     longs: Vec<Vec<Watch>>,
     /// the watched literals of each clause, by ids from 1 on
@@ -95,6 +98,7 @@ impl Watches {
             alloc,
             lists: Vec::new(alloc),
             shorts: ShortLists::new(alloc),
+            counts: Counts::new(alloc),
             longs: Vec::new(alloc),
             pairs: Table::new(alloc),
         }
@@ -109,6 +113,7 @@ impl Watches {
     /// Makes room for the next literal.
     fn grow_literal(&mut self) -> Result<(), Refused> {
         push(&mut self.lists, NO_LISTS)?;
+        self.counts.grow()?;
         push(&mut self.longs, Vec::new(self.alloc))
     }
 
@@ -171,6 +176,30 @@ impl Watches {
             let span = self.lists[index].short;
             self.lists[index].short = self.shorts.add(span, clause)?;
         }
+        Ok(())
+    }
+
+    /// Counts a clause that is to be attached, where it is one of two or three literals.
+    pub fn count(&mut self, clause: &[i32]) -> Result<(), Refused> {
+        if clause.len() < 2 || clause.len() > 3 {
+            return Ok(());
+        }
+        for literal in clause {
+            self.counts.add(code_of(*literal))?;
+        }
+        Ok(())
+    }
+
+    /// Makes room for the clauses that were counted.
+    pub fn reserve(&mut self) -> Result<(), Refused> {
+        for code in self.counts.counted() {
+            let index = *code as usize;
+            if index < self.lists.len() {
+                let span = self.lists[index].short;
+                self.lists[index].short = self.shorts.reserve(span, self.counts.of(*code))?;
+            }
+        }
+        self.counts.clear();
         Ok(())
     }
 
