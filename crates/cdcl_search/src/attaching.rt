@@ -12,11 +12,11 @@ use cdcl_kernel::Kernel;
 
 /// Watches the clauses that were added since the last call. For a clause with fewer than two literals that
 /// are not false the search goes back to level 0, but for clauses of a single literal: those are
-/// brought on the trail in each call, until one begins at level 0. All have their places and room first.
+/// brought on the trail in each call, until one begins at level 0. There is room for all first.
 pub fn attach_new(kernel: &Kernel, guide: &mut Guide) -> Result<(), Refused> {
-    let first = guide.watches.len();
+    let first = guide.watches.attached();
     let last = kernel.clauses();
-    guide.watches.place(last)?;
+    guide.watches.reach(last);
     for index in first..last {
         take_in(kernel, guide, index as u32 + 1)?;
     }

@@ -68,7 +68,7 @@ fn lead(guide: &mut Guide, place: usize) -> usize {
 /// Watches the first two literals of the clause in progress.
 fn attach(guide: &mut Guide, id: u32) -> Result<(), Refused> {
     let len = guide.clause.len();
-    guide.watches.place(id as usize)?;
+    guide.watches.reach(id as usize);
     if let [first, second, ..] = guide.clause.as_slice() {
         guide
             .watches

@@ -15,6 +15,7 @@ mod heap;
 mod justification;
 mod learning;
 mod levels;
+mod long_clauses;
 mod look;
 mod minimization;
 mod propagation;

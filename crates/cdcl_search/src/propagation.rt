@@ -9,9 +9,8 @@
 ghost use Rattle.base.specs.Budget.{Spends};
 
 use crate::guide::Guide;
-use crate::look::{Found, replacement};
+use crate::long_clauses::Look;
 use crate::short_lists::Short;
-use crate::units::imply;
 use crate::values::{Value, code_of, literal_of};
 use crate::watches::Watch;
 use base::{Budget, Refused};
@@ -32,11 +31,11 @@ pub enum Propagated {
 #[derive(Clone, Copy)]
 enum Visit {
     /// the clause goes on watching the literal, beside this blocker
-    Stays(i32),
-    /// the clause watches another literal, or is gone
+    Stays(u32),
+    /// the clause watches another literal
     Goes,
-    /// the clause is false
-    Conflict,
+    /// the clause is false, and goes on watching the literal, beside this blocker
+    Conflict(u32),
 }
 
 /// What the values leave of a short clause beside a literal that is false.
@@ -62,7 +61,7 @@ pub fn propagate(
         let Some(literal) = guide.trail.literal(guide.head) else {
             return Ok(Propagated::Quiet);
         };
-        match propagate_literal(kernel, guide, budget, literal.wrapping_neg())? {
+        match propagate_literal(guide, budget, literal.wrapping_neg())? {
             Propagated::Quiet => guide.head = guide.head.saturating_add(1),
             Propagated::Conflict(id) => return Ok(Propagated::Conflict(id)),
             Propagated::Spent => return Ok(Propagated::Spent),
@@ -73,7 +72,6 @@ pub fn propagate(
 
 /// Looks at the clauses that watch a literal, which is false.
 fn propagate_literal(
-    kernel: &Kernel,
     guide: &mut Guide,
     budget: &mut Budget,
     denied: i32,
@@ -87,7 +85,7 @@ fn propagate_literal(
     let Some(mut list) = guide.watches.take(denied) else {
         return Ok(Propagated::Quiet);
     };
-    let outcome = visit_long(kernel, guide, budget, denied, &mut list);
+    let outcome = visit_long(guide, budget, code_of(denied), &mut list);
     guide.watches.put(denied, list);
     outcome
 }
@@ -152,13 +150,12 @@ fn visit_short(guide: &mut Guide, budget: &mut Budget, denied: i32) -> Result<Pr
     Ok(Propagated::Quiet)
 }
 
-/// Looks at the longer clauses that watch the literal. Those that go on watching it stay in the
+/// Looks at the longer clauses that watch the literal with this code. Those that go on watching it stay in the
 /// list, in order.
 fn visit_long(
-    kernel: &Kernel,
     guide: &mut Guide,
     budget: &mut Budget,
-    denied: i32,
+    denied: u32,
     list: &mut Vec<Watch>,
 ) -> Result<Propagated, Refused>
     ensures { Spends budget.old budget.new }
@@ -175,18 +172,16 @@ fn visit_long(
             close_gap(list, kept, at);
             return Ok(Propagated::Spent);
         }
-        match look_at(kernel, guide, denied, watch.id)? {
+        match look_at(guide, watch.place, denied)? {
             Visit::Goes => {}
             Visit::Stays(blocker) => {
-                list[kept] = Watch {
-                    id: watch.id,
-                    blocker: code_of(blocker),
-                };
+                list[kept] = Watch { blocker, ..watch };
                 kept += 1;
             }
-            Visit::Conflict => {
+            Visit::Conflict(blocker) => {
+                list[at] = Watch { blocker, ..watch };
                 close_gap(list, kept, at);
-                return Ok(Propagated::Conflict(watch.id));
+                return Ok(Propagated::Conflict(guide.watches.id(watch.place)));
             }
         }
     }
@@ -210,22 +205,17 @@ fn close_gap(list: &mut Vec<Watch>, to: usize, from: usize) {
     list.truncate(kept);
 }
 
-/// Looks at a clause that watches a literal which is false.
-fn look_at(kernel: &Kernel, guide: &mut Guide, denied: i32, id: u32) -> Result<Visit, Refused> {
-    let other = guide.watches.other(id, denied);
-    if guide.values.is_true(other) {
-        return Ok(Visit::Stays(other));
-    }
-    if let Some(next) = replacement(kernel, &guide.values, id, other) {
-        if guide.values.is_true(next) {
-            return Ok(Visit::Stays(next));
+/// Looks at the long clause at a place, of which a watched literal is false. What it leaves comes on the trail.
+#[inline]
+fn look_at(guide: &mut Guide, place: u32, denied: u32) -> Result<Visit, Refused> {
+    match guide.watches.look(&guide.values, place, denied)? {
+        Look::Satisfied(literal) => Ok(Visit::Stays(literal)),
+        Look::Moved { .. } | Look::Missing => Ok(Visit::Goes),
+        Look::Unit(other) => {
+            let id = guide.watches.id(place);
+            guide.enqueue(literal_of(other), Some(id))?;
+            Ok(Visit::Stays(other))
         }
-        guide.watches.replace(id, other, next)?;
-        return Ok(Visit::Goes);
-    }
-    match imply(kernel, guide, id)? {
-        Found::Missing => Ok(Visit::Goes),
-        Found::Conflict => Ok(Visit::Conflict),
-        _ => Ok(Visit::Stays(other)),
+        Look::Conflict(other) => Ok(Visit::Conflict(other)),
     }
 }

@@ -74,7 +74,7 @@ pub fn reduce(kernel: &mut LoggedKernel, guide: &mut Guide) -> Result<(), SatErr
     guide
         .learned
         .retain(|learned| kernel.known().clause(learned.id).is_some());
-    guide.watches.sweep(kernel.known());
+    guide.watches.sweep(kernel.known())?;
     Ok(())
 }
 

@@ -6,7 +6,7 @@
 ghost use Rattle.std.specs.Mem.{type_size};
 ghost use Rattle.base.specs.Sizes.{IsItemSize};
 
-use base::{Refused, push};
+use base::{Refused, extend, push};
 use std::alloc::Global;
 
 /// A list that gives a default past its end.
@@ -61,5 +61,12 @@ impl<T: Copy> Table<T> {
         requires { IsItemSize (type_size T.row) }
     {
         push(&mut self.items, item)
+    }
+
+    /// Adds items at the end.
+    pub fn extend(&mut self, items: &[T]) -> Result<(), Refused>
+        requires { IsItemSize (type_size T.row) }
+    {
+        extend(&mut self.items, items)
     }
 }

@@ -63,7 +63,7 @@ fn settle(kernel: &mut LoggedKernel, guide: &mut Guide, place: usize) -> Result<
     push(&mut guide.hints, id)?;
     if kernel.learn(guide.alloc, &[literal], guide.hints.as_slice())? {
         let unit = last_id(kernel.known());
-        guide.watches.place(kernel.known().clauses())?;
+        guide.watches.reach(kernel.known().clauses());
         guide.units.put(variable, unit);
     }
     Ok(())

@@ -1,20 +1,20 @@
 //! Which clauses to look at when a literal becomes false.
 //!
 //! Of each clause two literals are watched, and only where one of them becomes false the clause
-//! is looked at (Moskewicz, Madigan, Zhao, Zhang, Malik 2001). Beside the clause's id a watch has
+//! is looked at (Moskewicz, Madigan, Zhao, Zhang, Malik 2001). Beside the clause a watch has
 //! its blocker, another literal of the clause: where that one is true the clause is left alone.
-//! The literals of a clause stay as they were added; which two are watched stands in a table by
-//! ids. Clauses of two or three literals lie apart, under each of their literals (`short_lists`): a watch of one has all
-//! the others, so that the clause is fetched only where a literal follows or it is false. The lists of the longer ones
-//! lie apart too, and are read only of literals that have some.
+//! The search has a copy of the clause, with the two watched literals first (`long_clauses`), and the watch has its place.
+//! Clauses of two or three literals lie apart, under each of their literals (`short_lists`): a watch of one has its id and all
+//! the others, and no more is read of it. The lists of the longer ones lie apart too, and are read only of literals that
+//! have some.
 //!
 //! No proof rests on what is watched: a clause that is missed is found when a model is looked
 //! through.
 
 use crate::counts::Counts;
+use crate::long_clauses::{LongClauses, Look};
 use crate::short_lists::{EMPTY, Short, ShortLists, Span};
-use crate::table::Table;
-use crate::values::code_of;
+use crate::values::{Values, code_of};
 use base::{Refused, push};
 use cdcl_kernel::Kernel;
 use std::alloc::Global;
@@ -23,23 +23,11 @@ use std::mem;
 /// A clause that watches a literal, and another literal of the clause.
 #[derive(Clone, Copy)]
 pub struct Watch {
-    pub id: u32,
-    /// its code
+    /// the clause's place among the long ones
+    pub place: u32,
+    /// the other literal's code
     pub blocker: u32,
 }
-
-/// The two watched literals of a clause.
-#[derive(Clone, Copy)]
-struct Pair {
-    first: i32,
-    second: i32,
-}
-
-/// A clause that isn't watched.
-const NONE: Pair = Pair {
-    first: 0,
-    second: 0,
-};
 
 /// Where the clauses of a literal are to be found.
 #[derive(Clone, Copy)]
@@ -69,10 +57,12 @@ pub struct Watches {
     shorts: ShortLists,
     /// in how many clauses to come of two or three literals each literal is
     counts: Counts,
-    /// the longer ones, by literals, which are read only of a literal that has some
+    /// the watches of the longer ones, by literals, which are read only of a literal that has some
     longs: Vec<Vec<Watch>>,
-    /// the watched literals of each clause, by ids from 1 on
-    pairs: Table<Pair>,
+    /// the longer ones
+    clauses: LongClauses,
+    /// the greatest id of a clause that was attached
+    attached: usize,
 }
 
 /// The place of a literal's lists.
@@ -91,6 +81,21 @@ fn third_of(clause: &[i32], first: i32, second: i32) -> Option<i32> {
     None
 }
 
+/// Gives the watches the new places of their clauses, and takes those of clauses out that are gone.
+fn move_watches(list: &mut Vec<Watch>, clauses: &LongClauses) {
+    let mut kept = 0;
+    for at in 0..list.len() {
+        let watch = list[at];
+        if let Some(place) = clauses.new_place(watch.place)
+            && kept < list.len()
+        {
+            list[kept] = Watch { place, ..watch };
+            kept += 1;
+        }
+    }
+    list.truncate(kept);
+}
+
 impl Watches {
     /// No lists, which take no memory.
     pub fn new(alloc: Global) -> Watches {
@@ -100,7 +105,8 @@ impl Watches {
             shorts: ShortLists::new(alloc),
             counts: Counts::new(alloc),
             longs: Vec::new(alloc),
-            pairs: Table::new(alloc),
+            clauses: LongClauses::new(alloc),
+            attached: 0,
         }
     }
 
@@ -117,9 +123,9 @@ impl Watches {
         push(&mut self.longs, Vec::new(self.alloc))
     }
 
-    /// How many clauses have a place, which is the greatest of their ids.
-    pub fn len(&self) -> usize {
-        self.pairs.len()
+    /// The greatest id of a clause that was attached. All below it were too, or need no watches.
+    pub fn attached(&self) -> usize {
+        self.attached
     }
 
     /// Where the clauses of two or three literals lie that have this one.
@@ -158,10 +164,10 @@ impl Watches {
         }
     }
 
-    /// Adds a longer clause to those that watch the literal.
+    /// Adds a longer clause to those that watch the literal with this code.
     #[inline]
-    fn watch(&mut self, literal: i32, watch: Watch) -> Result<(), Refused> {
-        let index = index_of(literal);
+    fn watch(&mut self, code: u32, watch: Watch) -> Result<(), Refused> {
+        let index = code as usize;
         if index < self.lists.len() && index < self.longs.len() {
             push(&mut self.longs[index], watch)?;
             self.lists[index].has_long = true;
@@ -218,7 +224,7 @@ impl Watches {
         Ok(())
     }
 
-    /// Watches two literals of a clause that has its place, or all three where it has no more.
+    /// Watches two literals of a clause, or all three where it has no more.
     pub fn attach(
         &mut self,
         id: u32,
@@ -227,7 +233,7 @@ impl Watches {
         clause: &[i32],
     ) -> Result<(), Refused> {
         if clause.len() > 3 {
-            return self.attach_long(id, first, second);
+            return self.attach_long(id, first, second, clause);
         }
         match third_of(clause, first, second) {
             Some(third) => {
@@ -258,50 +264,70 @@ impl Watches {
         self.watch_short(literal, clause)
     }
 
-    /// Watches two literals of a long clause.
-    fn attach_long(&mut self, id: u32, first: i32, second: i32) -> Result<(), Refused> {
-        self.pairs
-            .put((id as usize).wrapping_sub(1), Pair { first, second });
+    /// Watches two literals of a long clause, unless there is no place for it.
+    fn attach_long(
+        &mut self,
+        id: u32,
+        first: i32,
+        second: i32,
+        clause: &[i32],
+    ) -> Result<(), Refused> {
+        let Some(place) = self.clauses.add(id, first, second, clause)? else {
+            return Ok(());
+        };
+        let (first, second) = (code_of(first), code_of(second));
         self.watch(
             first,
             Watch {
-                id,
-                blocker: code_of(second),
+                place,
+                blocker: second,
             },
         )?;
         self.watch(
             second,
             Watch {
-                id,
-                blocker: code_of(first),
+                place,
+                blocker: first,
             },
         )
     }
 
-    /// Gives the clauses up to this id their places, without watches.
-    pub fn place(&mut self, last: usize) -> Result<(), Refused> {
-        for _ in self.pairs.len()..last {
-            self.pairs.push(NONE)?;
-        }
-        Ok(())
+    /// The clauses up to this id are attached from now on, or need no watches.
+    pub fn reach(&mut self, id: usize) {
+        self.attached = self.attached.max(id);
     }
 
-    /// The watched literal beside this one.
+    /// The id of the long clause at a place.
     #[inline]
-    pub fn other(&self, id: u32, literal: i32) -> i32 {
-        let pair = self.pairs.at((id as usize).wrapping_sub(1), NONE);
-        if pair.first == literal {
-            pair.second
-        } else {
-            pair.first
-        }
+    pub fn id(&self, place: u32) -> u32 {
+        self.clauses.id(place)
     }
 
-    /// Takes the watches of clauses out that are gone.
-    pub fn sweep(&mut self, kernel: &Kernel) {
+    /// Looks at the long clause at a place, of which a watched literal is false. Where it watches another one from now on,
+    /// it is added to those that watch that one.
+    #[inline]
+    pub fn look(&mut self, values: &Values, place: u32, denied: u32) -> Result<Look, Refused> {
+        let look = self.clauses.look(values, place, denied);
+        if let Look::Moved { other, next } = look {
+            self.watch(
+                next,
+                Watch {
+                    place,
+                    blocker: other,
+                },
+            )?;
+        }
+        Ok(look)
+    }
+
+    /// Takes the watches of clauses out that are gone. After an `Err` the watches are worth nothing.
+    pub fn sweep(&mut self, kernel: &Kernel) -> Result<(), Refused> {
+        let renewed = self.clauses.renew(self.alloc, kernel)?;
         for index in 0..self.lists.len() {
             self.sweep_literal(index, kernel);
         }
+        self.clauses = renewed;
+        Ok(())
     }
 
     /// Takes the watches of clauses out that are gone, of the literal at the index.
@@ -309,25 +335,8 @@ impl Watches {
         if index < self.lists.len() && index < self.longs.len() {
             let span = self.lists[index].short;
             self.lists[index].short = self.shorts.sweep(span, kernel);
-            self.longs[index].retain(|watch| kernel.clause(watch.id).is_some());
+            move_watches(&mut self.longs[index], &self.clauses);
             self.lists[index].has_long = !self.longs[index].is_empty();
         }
-    }
-
-    /// Watches another literal in place of the one beside `other`.
-    #[inline]
-    pub fn replace(&mut self, id: u32, other: i32, next: i32) -> Result<(), Refused> {
-        let pair = Pair {
-            first: other,
-            second: next,
-        };
-        self.pairs.put((id as usize).wrapping_sub(1), pair);
-        self.watch(
-            next,
-            Watch {
-                id,
-                blocker: code_of(other),
-            },
-        )
     }
 }
