@@ -1,0 +1,3 @@
+pub mod Cubes
+pub mod Tables
+pub mod Covers
