@@ -1,4 +1,4 @@
--- Positions that are marked, gates in their order, and the cone that they make.
+-- Positions that are marked, cells in the order of the gates, and the cone that they make.
 use Rattle.std.proofs.Common.{◌≡◌, ◌≢◌, ℕ, ◌+◌, ◌*◌, ◌%◌, ◌==◌, ◌<◌, ◌≤◌, ◌⊎◌, Bool, List, [], ◌∷◌, ◌++◌, map, length, get_or, All, AllPairs, Contains, refl, inl, inr, sym, ◌∙◌, ap, subst, arith, length-append}
 use Rattle.std.proofs.lemmas.Bool.{cases_Bool, cases_lt, eqb-true}
 use Rattle.std.proofs.lemmas.Bool.Decides.{Decides-eqb}
@@ -10,19 +10,21 @@ use Rattle.std.proofs.lemmas.Map.Steps.{length-le_from_distinct_below}
 use Rattle.std.proofs.lemmas.Map.Views.{Contains-from_any}
 use Rattle.graph.specs.declared.circuit.Lit.{Lit}
 use Rattle.graph.specs.declared.circuit.Latch.{Latch}
-use Rattle.graph.specs.declared.circuit.Gate.{Gate}
 use Rattle.graph.specs.declared.parts.Parts.{Parts}
 use Rattle.graph.specs.Valuation.{variable, defined}
-use Rattle.graph.specs.WellFormed.{IsWellFormed, IsOrder, gate_in}
-use Rattle.graph.proofs.Evaluation.{Contains-map, defined_nonzero, held, latches_even, rights0, rights1}
+use Rattle.graph.specs.WellFormed.{IsWellFormed, IsOrder}
+use Rattle.graph.proofs.Evaluation.{Contains-map, defined_nonzero, held, latches_even}
 use Rattle.graph.proofs.Gates.{left}
 use Rattle.graph.proofs.Tabled.{holds_of_used}
 use Rattle.cnf.specs.Clauses.{next_of}
 use Rattle.cnf.proofs.Formed.{defined_small}
 use Rattle.bmc.proofs.Closed.{even_sign}
 use Rattle.cones.specs.Marks.{IsMarked, IsKnown}
+use Rattle.cuts.specs.declared.cut.Cut.{Cut}
+use Rattle.cuts.specs.Cuts.{AreCuts, IsBefore, IsCutOf, IsLeaf, cut_at, left_in, no_gate}
+use Rattle.bmc.specs.declared.cone.Cell.{Cell}
 use Rattle.bmc.specs.declared.cone.Cone.{Cone}
-use Rattle.bmc.specs.Cones.{ArePositions, AreOrdered, is_marked_input, is_marked_latch, IsLeft, IsOutside, IsFilled, IsIn, IsClosed, IsConeOf, gate_at, no_gate, input_at, latch_at, no_latch}
+use Rattle.bmc.specs.Cones.{ArePositions, AreOrdered, is_marked_input, is_marked_latch, IsLeft, IsOutside, IsFilled, IsIn, IsClosed, IsConeOf, cell_at, no_cell, input_at, latch_at, no_latch}
 
 -- positions
 pub positions_none : (P : ℕ → Type 0) → ArePositions P 0 []
@@ -60,20 +62,32 @@ positions_same P n list h off = record {
   few = omega (arith, h.few);
 }
 
--- the marked ones among the first n gates of the order
-pub record AreOrderedTo (m : Parts) (marks : List Bool) (order : List ℕ) (gates : List Gate) (n : ℕ) : Type 0 where
-  pub among : All (λ g. Contains m.gates g × IsMarked marks (variable g.lhs)) gates
-  pub each : (k : ℕ) → k < n → IsMarked marks (left (gate_in m.gates order k no_gate)) → IsLeft gates (length gates) (left (gate_in m.gates order k no_gate))
-  pub after : (k v : ℕ) → k < length gates → (variable (gate_at gates k).rhs0 ≡ v) ⊎ (variable (gate_at gates k).rhs1 ≡ v) → IsMarked marks v → IsOutside m v ⊎ IsLeft gates k v
-  pub few : length gates ≤ n
-  pub inside : length gates ≤ length order
+-- the marked ones among the first n gates of the order, as cells
+pub record AreOrderedTo (m : Parts) (cuts : List Cut) (marks : List Bool) (order : List ℕ) (cells : List Cell) (n : ℕ) : Type 0 where
+  pub among : All (λ c. (c.variable ≤ m.max_var) × (c.cut ≡ cut_at cuts c.variable) × IsMarked marks c.variable) cells
+  pub each : (k : ℕ) → k < n → IsMarked marks (left_in m order k) → IsLeft cells (length cells) (left_in m order k)
+  pub after : (k u : ℕ) → k < length cells → IsLeaf (cell_at cells k).cut u → IsMarked marks u → IsOutside m u ⊎ IsLeft cells k u
+  pub few : length cells ≤ n
+  pub inside : length cells ≤ length order
 
-left_later : (gates : List Gate) (g : Gate) (n k v : ℕ) → n ≤ k → IsLeft gates n v → IsLeft (gates ++ g ∷ []) k v
-left_later gates g n k v le (i, i_n, i_in, is) =
-    (i, omega (arith, i_n, le), omega (arith, i_in, length-append gates (g ∷ [])), ap left (get_or_append_left gates (g ∷ []) no_gate i i_in) ∙ is)
+-- the variable with its cut
+abbrev pub cell_of : List Cut → ℕ → Cell
+cell_of cuts v = record { variable = v; cut = cut_at cuts v }
 
-left_last : (gates : List Gate) (g : Gate) (k : ℕ) → length gates < k → IsLeft (gates ++ g ∷ []) k (left g)
-left_last gates g k lt = (length gates, lt, omega (arith, length-append gates (g ∷ [])), ap left (get_or_at gates g [] no_gate (length gates) refl))
+left_later : (cells : List Cell) (c : Cell) (n k v : ℕ) → n ≤ k → IsLeft cells n v → IsLeft (cells ++ c ∷ []) k v
+left_later cells c n k v le (i, i_n, i_in, is) =
+    (i, omega (arith, i_n, le), omega (arith, i_in, length-append cells (c ∷ [])), ap (λ (q : Cell). q.variable) (get_or_append_left cells (c ∷ []) no_cell i i_in) ∙ is)
+
+left_last : (cells : List Cell) (c : Cell) (k : ℕ) → length cells < k → IsLeft (cells ++ c ∷ []) k c.variable
+left_last cells c k lt = (length cells, lt, omega (arith, length-append cells (c ∷ [])), ap (λ (q : Cell). q.variable) (get_or_at cells c [] no_cell (length cells) refl))
+
+-- a leaf that comes before is outside of the gates, or of a cell before
+before_left : (m : Parts) (cuts : List Cut) (marks : List Bool) (order : List ℕ) (cells : List Cell) (n u : ℕ) → AreOrderedTo m cuts marks order cells n → IsBefore m order n u → IsMarked marks u →
+    IsOutside m u ⊎ IsLeft cells (length cells) u
+before_left m cuts marks order cells n u h (inl none) on = inl (inl none)
+before_left m cuts marks order cells n u h (inr (inl input)) on = inl (inr (inl input))
+before_left m cuts marks order cells n u h (inr (inr (inl latch))) on = inl (inr (inr latch))
+before_left m cuts marks order cells n u h (inr (inr (inr (k, k_n, k_in, is)))) on = inr (subst (IsLeft cells (length cells)) is (h.each k k_n (subst (IsMarked marks) (sym is) on)))
 
 -- what is known is outside of the gates or a gate's
 known_or_gate : (m : Parts) (v : ℕ) → IsKnown m v → IsOutside m v ⊎ Contains (map left m.gates) v
@@ -87,73 +101,65 @@ known_or_gate m v (inr found) = elim (Contains-append_cases (map variable m.inpu
 ]
 
 -- where a gate's variable stands in the order
-order_place : (m : Parts) (order : List ℕ) (v : ℕ) → IsOrder m.gates order → Contains (map left m.gates) v → (k : ℕ) × (k < length order) × (left (gate_in m.gates order k no_gate) ≡ v)
+order_place : (m : Parts) (order : List ℕ) (v : ℕ) → IsOrder m.gates order → Contains (map left m.gates) v → (k : ℕ) × (k < length order) × (left_in m order k ≡ v)
 order_place m order v is_order gate =
     let i_in : gate.0 < length m.gates = omega (arith, gate.1, length-map m.gates left) in
     let at = is_order.each gate.0 i_in in
     let is_i : get_or order at.0 0 ≡ gate.0 = get_or_default order at.0 0 gate.0 at.1 ∙ at.2 in
     (at.0, at.1, ap (λ q. left (get_or m.gates q no_gate)) is_i ∙ sym (get_or-map left m.gates gate.0 no_gate v i_in) ∙ gate.2)
 
-pub ordered_more : (m : Parts) (marks : List Bool) (order : List ℕ) (gates : List Gate) (n : ℕ) → IsWellFormed m → IsOrder m.gates order → n < length order → AreOrderedTo m marks order gates n →
-    IsMarked marks (left (gate_in m.gates order n no_gate)) → AreOrderedTo m marks order (gates ++ gate_in m.gates order n no_gate ∷ []) (n + 1)
-ordered_more m marks order gates n well is_order n_in h on =
-    let g : Gate = gate_in m.gates order n no_gate in
-    let i_in : get_or order n 0 < length m.gates = is_order.in_range n 0 n_in in
-    let here : Contains m.gates g = Contains-get_or m.gates (get_or order n 0) no_gate i_in in
+pub ordered_more : (m : Parts) (cuts : List Cut) (marks : List Bool) (order : List ℕ) (cells : List Cell) (n : ℕ) → IsOrder m.gates order → AreCuts m cuts → n < length order → left_in m order n ≤ m.max_var →
+    AreOrderedTo m cuts marks order cells n → IsMarked marks (left_in m order n) → AreOrderedTo m cuts marks order (cells ++ cell_of cuts (left_in m order n) ∷ []) (n + 1)
+ordered_more m cuts marks order cells n is_order are n_in range h on =
+    let v : ℕ = left_in m order n in
+    let c : Cell = record { variable = v; cut = cut_at cuts v } in
+    let long : length (cells ++ c ∷ []) ≡ length cells + 1 = length-append cells (c ∷ []) in
     record {
-      among = All-push (λ g. Contains m.gates g × IsMarked marks (variable g.lhs)) gates g h.among (here, on);
+      among = All-push (λ (x : Cell). (x.variable ≤ m.max_var) × (x.cut ≡ cut_at cuts x.variable) × IsMarked marks x.variable) cells c h.among (range, refl, on);
       each = λ k k_in marked. elim (cases_lt k n) [
-        | inl below ↦ left_later gates g (length gates) (length (gates ++ g ∷ [])) _ (omega (arith, length-append gates (g ∷ []))) (h.each k below marked)
+        | inl below ↦ left_later cells c (length cells) (length (cells ++ c ∷ [])) _ (omega (arith, long)) (h.each k below marked)
         | inr last ↦
             let is : n ≡ k = omega (arith, k_in, last) in
-            subst (λ q. IsLeft (gates ++ g ∷ []) (length (gates ++ g ∷ [])) (left (gate_in m.gates order q no_gate))) is (left_last gates g (length (gates ++ g ∷ [])) (omega (arith, length-append gates (g ∷ []))))
+            subst (λ q. IsLeft (cells ++ c ∷ []) (length (cells ++ c ∷ [])) (left_in m order q)) is (left_last cells c (length (cells ++ c ∷ [])) (omega (arith, long)))
       ];
-      after = λ k v k_in reads marked. elim (cases_lt k (length gates)) [
+      after = λ k u k_in leaf marked. elim (cases_lt k (length cells)) [
         | inl old ↦
-            let same : gate_at (gates ++ g ∷ []) k ≡ gate_at gates k = get_or_append_left gates (g ∷ []) no_gate k old in
-            elim (h.after k v old (subst (λ (q : Gate). (variable q.rhs0 ≡ v) ⊎ (variable q.rhs1 ≡ v)) same reads) marked) [
+            let same : cell_at (cells ++ c ∷ []) k ≡ cell_at cells k = get_or_append_left cells (c ∷ []) no_cell k old in
+            elim (h.after k u old (subst (λ (q : Cell). IsLeaf q.cut u) same leaf) marked) [
               | inl outside ↦ inl outside
-              | inr before ↦ inr (left_later gates g k k v (omega arith) before)
+              | inr before ↦ inr (left_later cells c k k u (omega arith) before)
             ]
         | inr last ↦
-            let k_is : length gates ≡ k = omega (arith, k_in, last, length-append gates (g ∷ [])) in
-            let same : gate_at (gates ++ g ∷ []) k ≡ g = get_or_at gates g [] no_gate k k_is in
-            let reads_g : (variable g.rhs0 ≡ v) ⊎ (variable g.rhs1 ≡ v) = subst (λ (q : Gate). (variable q.rhs0 ≡ v) ⊎ (variable q.rhs1 ≡ v)) same reads in
-            let known : IsKnown m v = elim reads_g [
-              | inl first ↦ subst (IsKnown m) first (rights0 (λ a. IsKnown m (variable a)) m well.used_defined (get_or order n 0) no_gate i_in)
-              | inr second ↦ subst (IsKnown m) second (rights1 (λ a. IsKnown m (variable a)) m well.used_defined (get_or order n 0) no_gate i_in)
-            ] in
-            elim (known_or_gate m v known) [
+            let k_is : length cells ≡ k = omega (arith, k_in, last, long) in
+            let same : cell_at (cells ++ c ∷ []) k ≡ c = get_or_at cells c [] no_cell k k_is in
+            let leaf_c : IsLeaf (cut_at cuts v) u = subst (λ (q : Cell). IsLeaf q.cut u) same leaf in
+            elim (before_left m cuts marks order cells n u h (are.before order is_order n u n_in leaf_c) marked) [
               | inl outside ↦ inl outside
-              | inr gate ↦
-                  let at = order_place m order v is_order gate in
-                  let earlier : at.0 < n = is_order.after n at.0 no_gate n_in at.1 (subst (λ q. (variable g.rhs0 ≡ q) ⊎ (variable g.rhs1 ≡ q)) (sym at.2) reads_g) in
-                  let found : IsLeft gates (length gates) v = subst (IsLeft gates (length gates)) at.2 (h.each at.0 earlier (subst (IsMarked marks) (sym at.2) marked)) in
-                  inr (left_later gates g (length gates) k v (omega (arith, k_is)) found)
+              | inr found ↦ inr (left_later cells c (length cells) k u (omega (arith, k_is)) found)
             ]
       ];
-      few = omega (arith, h.few, length-append gates (g ∷ []));
-      inside = omega (arith, h.few, n_in, length-append gates (g ∷ []));
+      few = omega (arith, h.few, long);
+      inside = omega (arith, h.few, n_in, long);
     }
 
-pub ordered_same : (m : Parts) (marks : List Bool) (order : List ℕ) (gates : List Gate) (n : ℕ) → AreOrderedTo m marks order gates n →
-    (IsMarked marks (left (gate_in m.gates order n no_gate)) → ⊥) → AreOrderedTo m marks order gates (n + 1)
-ordered_same m marks order gates n h off = record {
+pub ordered_same : (m : Parts) (cuts : List Cut) (marks : List Bool) (order : List ℕ) (cells : List Cell) (n : ℕ) → AreOrderedTo m cuts marks order cells n →
+    (IsMarked marks (left_in m order n) → ⊥) → AreOrderedTo m cuts marks order cells (n + 1)
+ordered_same m cuts marks order cells n h off = record {
   among = h.among;
   each = λ k k_in marked. elim (cases_lt k n) [
     | inl below ↦ h.each k below marked
-    | inr last ↦ let is : k ≡ n = omega (arith, k_in, last) in absurd (off (subst (λ q. IsMarked marks (left (gate_in m.gates order q no_gate))) is marked))
+    | inr last ↦ let is : k ≡ n = omega (arith, k_in, last) in absurd (off (subst (λ q. IsMarked marks (left_in m order q)) is marked))
   ];
   after = h.after;
   few = omega (arith, h.few);
   inside = h.inside;
 }
 
-pub ordered_none : (m : Parts) (marks : List Bool) (order : List ℕ) → AreOrderedTo m marks order [] 0
-ordered_none m marks order = record {
+pub ordered_none : (m : Parts) (cuts : List Cut) (marks : List Bool) (order : List ℕ) → AreOrderedTo m cuts marks order [] 0
+ordered_none m cuts marks order = record {
   among = λ k d k_in. absurd (omega (arith, k_in));
   each = λ k k_in. absurd (omega (arith, k_in));
-  after = λ k v k_in. absurd (omega (arith, k_in));
+  after = λ k u k_in. absurd (omega (arith, k_in));
   few = omega arith;
   inside = omega arith;
 }
@@ -174,14 +180,15 @@ few_defined m well =
     (λ k d k_in. let p = defined_small m (get_or (defined m) k d) well (Contains-get_or (defined m) k d k_in) in omega (arith, p)) in
     omega (arith, few_below (0 ∷ defined m) (m.max_var + 1) once below, length-append (inputs ++ latches) gates, length-append inputs latches, length-map m.inputs variable, length-map m.latches held, length-map m.gates left)
 
-pub ordered_all : (m : Parts) (marks : List Bool) (order : List ℕ) (gates : List Gate) (n : ℕ) → IsOrder m.gates order → length order ≤ n → AreOrderedTo m marks order gates n → AreOrdered m marks gates
-ordered_all m marks order gates n is_order past h = record {
+pub ordered_all : (m : Parts) (cuts : List Cut) (marks : List Bool) (order : List ℕ) (cells : List Cell) (n : ℕ) → IsOrder m.gates order → length order ≤ n → AreOrderedTo m cuts marks order cells n →
+    AreOrdered m cuts marks cells
+ordered_all m cuts marks order cells n is_order past h = record {
   among = h.among;
   each = λ k d k_in marked.
       let v : ℕ = left (get_or m.gates k d) in
       let there : Contains (map left m.gates) v = Contains-map left m.gates k d k_in in
       let at = order_place m order v is_order there in
-      subst (IsLeft gates (length gates)) at.2 (h.each at.0 (omega (arith, at.1, past)) (subst (IsMarked marks) (sym at.2) marked));
+      subst (IsLeft cells (length cells)) at.2 (h.each at.0 (omega (arith, at.1, past)) (subst (IsMarked marks) (sym at.2) marked));
   after = h.after;
   few = omega (arith, h.inside, few_below order (length m.gates) is_order.once is_order.in_range);
 }
@@ -201,17 +208,17 @@ filled_outside m marks c n v inputs latches on (inr (inr (k, k_in, here))) =
     let at = latches.each k k_latch (subst (IsMarked marks) (sym is) on) in
     inr (inr (inl (at.0, at.1, ap (λ q. variable (latch_at m.latches q).lit) (get_or_default c.latches.items at.0 0 k at.1 ∙ at.2) ∙ is)))
 
-filled_left : (m : Parts) (c : Cone) (n v : ℕ) → IsLeft c.gates.items n v → IsFilled m c (length c.inputs.items) (length c.latches.items) n v
+filled_left : (m : Parts) (c : Cone) (n v : ℕ) → IsLeft c.cells.items n v → IsFilled m c (length c.inputs.items) (length c.latches.items) n v
 filled_left m c n v (k, k_n, k_in, is) = inr (inr (inr (k, k_n, is)))
 
-in_cone : (m : Parts) (marks : List Bool) (c : Cone) (v : ℕ) → ArePositions (is_marked_input marks m.inputs) (length m.inputs) c.inputs.items →
-    ArePositions (is_marked_latch marks m.latches) (length m.latches) c.latches.items → AreOrdered m marks c.gates.items → IsMarked marks v → IsKnown m v → IsIn m c v
-in_cone m marks c v inputs latches gates on known = elim (known_or_gate m v known) [
-  | inl outside ↦ filled_outside m marks c (length c.gates.items) v inputs latches on outside
+in_cone : (m : Parts) (cuts : List Cut) (marks : List Bool) (c : Cone) (v : ℕ) → ArePositions (is_marked_input marks m.inputs) (length m.inputs) c.inputs.items →
+    ArePositions (is_marked_latch marks m.latches) (length m.latches) c.latches.items → AreOrdered m cuts marks c.cells.items → IsMarked marks v → IsKnown m v → IsIn m c v
+in_cone m cuts marks c v inputs latches cells on known = elim (known_or_gate m v known) [
+  | inl outside ↦ filled_outside m marks c (length c.cells.items) v inputs latches on outside
   | inr (k, k_in, here) ↦
       let k_gate : k < length m.gates = omega (arith, k_in, length-map m.gates left) in
       let is : left (get_or m.gates k no_gate) ≡ v = sym (get_or-map left m.gates k no_gate v k_gate) ∙ here in
-      filled_left m c (length c.gates.items) v (subst (IsLeft c.gates.items (length c.gates.items)) is (gates.each k no_gate k_gate (subst (IsMarked marks) (sym is) on)))
+      filled_left m c (length c.cells.items) v (subst (IsLeft c.cells.items (length c.cells.items)) is (cells.each k no_gate k_gate (subst (IsMarked marks) (sym is) on)))
 ]
 
 next_known : (m : Parts) (ls : List Latch) (a : Lit) → All (λ l. IsKnown m (variable l.next)) ls → IsKnown m (variable a) → a.0 % 2 ≡ 0 → IsKnown m (variable (next_of ls a))
@@ -221,32 +228,36 @@ next_known m (l ∷ ls) a all known even = elim (cases_Bool (variable l.lit == v
   | inr other ↦ rw other (next_known m ls a (All-tail (λ (x : Latch). IsKnown m (variable x.next)) l ls all) known even)
 ]
 
-reads_before : (m : Parts) (marks : List Bool) (c : Cone) (n v : ℕ) → ArePositions (is_marked_input marks m.inputs) (length m.inputs) c.inputs.items →
-    ArePositions (is_marked_latch marks m.latches) (length m.latches) c.latches.items → AreOrdered m marks c.gates.items → n < length c.gates.items →
-    (variable (gate_at c.gates.items n).rhs0 ≡ v) ⊎ (variable (gate_at c.gates.items n).rhs1 ≡ v) → IsMarked marks v → IsFilled m c (length c.inputs.items) (length c.latches.items) n v
-reads_before m marks c n v inputs latches gates n_in reads on = elim (gates.after n v n_in reads on) [
-  | inl outside ↦ filled_outside m marks c n v inputs latches on outside
-  | inr before ↦ filled_left m c n v before
+reads_before : (m : Parts) (cuts : List Cut) (marks : List Bool) (c : Cone) (n u : ℕ) → ArePositions (is_marked_input marks m.inputs) (length m.inputs) c.inputs.items →
+    ArePositions (is_marked_latch marks m.latches) (length m.latches) c.latches.items → AreOrdered m cuts marks c.cells.items → n < length c.cells.items →
+    IsLeaf (cell_at c.cells.items n).cut u → IsMarked marks u → IsFilled m c (length c.inputs.items) (length c.latches.items) n u
+reads_before m cuts marks c n u inputs latches cells n_in leaf on = elim (cells.after n u n_in leaf on) [
+  | inl outside ↦ filled_outside m marks c n u inputs latches on outside
+  | inr before ↦ filled_left m c n u before
 ]
 
-pub cone_made : (m : Parts) (marks : List Bool) (c : Cone) → IsWellFormed m → IsClosed m marks → ArePositions (is_marked_input marks m.inputs) (length m.inputs) c.inputs.items →
-    ArePositions (is_marked_latch marks m.latches) (length m.latches) c.latches.items → AreOrdered m marks c.gates.items → IsConeOf m c
-cone_made m marks c well closed inputs latches gates =
+pub cone_made : (m : Parts) (cuts : List Cut) (marks : List Bool) (c : Cone) → IsWellFormed m → AreCuts m cuts → IsClosed m cuts marks → ArePositions (is_marked_input marks m.inputs) (length m.inputs) c.inputs.items →
+    ArePositions (is_marked_latch marks m.latches) (length m.latches) c.latches.items → AreOrdered m cuts marks c.cells.items → IsConeOf m c
+cone_made m cuts marks c well are closed inputs latches cells =
     let used = holds_of_used (λ a. IsKnown m (variable a)) m well.used_defined in
     record {
       inputs = inputs.inside;
       inputs_once = inputs.once;
       latches = latches.inside;
       latches_once = latches.once;
-      few = omega (arith, inputs.few, latches.few, gates.few, few_defined m well, well.limits.max_var);
-      gates = λ k d k_in. (gates.among k d k_in).0;
-      reads = λ n n_in.
-          let among = gates.among n no_gate n_in in
-          let both = All-contains (λ (g : Gate). variable g.lhs ≡ variable (gate_at c.gates.items n).lhs → IsMarked marks (variable g.rhs0) × IsMarked marks (variable g.rhs1)) m.gates (gate_at c.gates.items n)
-          (closed.visited (variable (gate_at c.gates.items n).lhs) among.1).gates among.0 refl in
-          (reads_before m marks c n _ inputs latches gates n_in (inl refl) both.0, reads_before m marks c n _ inputs latches gates n_in (inr refl) both.1);
-      bad = λ k d k_in. in_cone m marks c _ inputs latches gates (closed.bad k d k_in) (used.bad k d k_in);
-      constraints = λ k d k_in. in_cone m marks c _ inputs latches gates (closed.constraints k d k_in) (used.constraints k d k_in);
+      few = omega (arith, inputs.few, latches.few, cells.few, few_defined m well, well.limits.max_var);
+      cells = λ k d k_in.
+          let among = cells.among k d k_in in
+          subst (λ (q : Cut). IsCutOf m (get_or c.cells.items k d).variable q) (sym among.1) (are.each (get_or c.cells.items k d).variable among.0);
+      range = λ k d k_in.
+          let among = cells.among k d k_in in
+          (among.0, λ u leaf. are.range (get_or c.cells.items k d).variable u among.0 (subst (λ (q : Cut). IsLeaf q u) among.1 leaf));
+      reads = λ n u n_in leaf.
+          let among = cells.among n no_cell n_in in
+          let on : IsMarked marks u = (closed.visited (cell_at c.cells.items n).variable among.2).leaves u (subst (λ (q : Cut). IsLeaf q u) among.1 leaf) in
+          reads_before m cuts marks c n u inputs latches cells n_in leaf on;
+      bad = λ k d k_in. in_cone m cuts marks c _ inputs latches cells (closed.bad k d k_in) (used.bad k d k_in);
+      constraints = λ k d k_in. in_cone m cuts marks c _ inputs latches cells (closed.constraints k d k_in) (used.constraints k d k_in);
       nexts = λ k k_in.
           let p : ℕ = get_or c.latches.items k 0 in
           let l : Latch = latch_at m.latches p in
@@ -257,5 +268,5 @@ cone_made m marks c well closed inputs latches gates =
           let on : IsMarked marks (variable (next_of m.latches l.lit)) = subst (λ (a : Lit). IsMarked marks (variable (next_of m.latches a))) is (closed.visited (variable l.lit) (latches.only k 0 k_in)).next in
           let known : IsKnown m (variable l.lit) = inr (Contains-append_left (map variable m.inputs ++ map held m.latches) (map left m.gates) (held l)
           (Contains-append_right (map variable m.inputs) (map held m.latches) (held l) (Contains-map held m.latches p no_latch p_in))) in
-          in_cone m marks c _ inputs latches gates on (next_known m m.latches l.lit used.next known even);
+          in_cone m cuts marks c _ inputs latches cells on (next_known m m.latches l.lit used.next known even);
     }

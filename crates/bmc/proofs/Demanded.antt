@@ -16,8 +16,10 @@ use Rattle.cones.specs.Marks.{IsMarked}
 use Rattle.cones.specs.Reach.{Grows, IsFrom}
 use Rattle.cones.proofs.Growing.{grows_then, from_then}
 use Rattle.bmc.specs.declared.encoder.Encoder.{Encoder}
-use Rattle.bmc.specs.Encodings.{rights_at, IsGate, IsExtended}
+use Rattle.bmc.specs.declared.function.Function.{Function}
+use Rattle.bmc.specs.Encodings.{function_at, IsGate, IsExtended}
 use Rattle.bmc.specs.Demands.{IsDecided, AreOver, AreUpTo, AreGiven, IsMore, IsGivenOne}
+use Rattle.bmc.proofs.Encoded.{IsSome}
 use Rattle.bmc.proofs.Negated.{negation_literal, literal_up}
 
 -- a variable's own literal
@@ -45,11 +47,11 @@ pub over_later : (n k : ℕ) (t u : List Bool) (cs : List (List ℤ)) → n ≤ 
 over_later n k t u cs le kept over = All-weaker (All (IsOver n t)) (All (IsOver k u))
     (λ c all. All-weaker (IsOver n t) (IsOver k u) (λ l is. (literal_up n k l is.0 le, kept (unsigned_abs l) is.1)) c all) cs over
 
-pub more_same : (rs : List (ℤ × ℤ)) (cs : List (List ℤ)) → IsMore rs cs cs
-more_same rs cs = record { weaker = λ v all. all; stronger = λ v defined all. all }
+pub more_same : (fs : List Function) (cs : List (List ℤ)) → IsMore fs cs cs
+more_same fs cs = record { weaker = λ v all. all; stronger = λ v defined all. all }
 
-pub more_then : (rs : List (ℤ × ℤ)) (cs ds es : List (List ℤ)) → IsMore rs cs ds → IsMore rs ds es → IsMore rs cs es
-more_then rs cs ds es p q = record { weaker = λ v all. p.weaker v (q.weaker v all); stronger = λ v defined all. q.stronger v defined (p.stronger v defined all) }
+pub more_then : (fs : List Function) (cs ds es : List (List ℤ)) → IsMore fs cs ds → IsMore fs ds es → IsMore fs cs es
+more_then fs cs ds es p q = record { weaker = λ v all. p.weaker v (q.weaker v all); stronger = λ v defined all. q.stronger v defined (p.stronger v defined all) }
 
 -- marks that come from variables in use are of these
 pub up_from : (n : ℕ) (vs : List ℕ) (t u : List Bool) → IsFrom vs t u → All (λ v. v ≤ n) vs → AreUpTo n t → AreUpTo n u
@@ -58,24 +60,21 @@ up_from n vs t u from small up x on = elim (from x on) [
   | inr found ↦ All-contains (λ v. v ≤ n) vs x small found
 ]
 
-pub one_small : (n v : ℕ) → v ≤ n → All (λ x. x ≤ n) (v ∷ [])
-one_small n v le = All-cons (λ x. x ≤ n) v [] le (All-nil (λ x. x ≤ n))
-
 -- what is given is so with more clauses and marks
-pub decided_later : (rs : List (ℤ × ℤ)) (cs ds : List (List ℤ)) (t u : List Bool) (x : ℕ) → ((v : ℕ → Bool) → AreSatisfied v ds → AreSatisfied v cs) → ((y : ℕ) → IsMarked t y → IsMarked u y) →
-    IsDecided rs cs t x → IsDecided rs ds u x
-decided_later rs cs ds t u x weaker kept is gate w z satisfied defined agree = is gate w z (weaker w satisfied) defined (λ y y_in on. agree y y_in (kept y on))
+pub decided_later : (fs : List Function) (cs ds : List (List ℤ)) (t u : List Bool) (x : ℕ) → ((v : ℕ → Bool) → AreSatisfied v ds → AreSatisfied v cs) → ((y : ℕ) → IsMarked t y → IsMarked u y) →
+    IsDecided fs cs t x → IsDecided fs ds u x
+decided_later fs cs ds t u x weaker kept is gate w z satisfied defined agree = is gate w z (weaker w satisfied) defined (λ y y_in on. agree y y_in (kept y on))
 
 -- the first n of the list were given, and all that is marked was given or is listed
 pub record IsGiving (e : Encoder) (u : List Bool) (cs ds : List (List ℤ)) (list : List ℕ) (n : ℕ) : Type 0 where
   pub places : e.variables < length u
   pub range : AreUpTo e.variables u
   pub over : AreOver e.variables u ds
-  pub more : IsMore e.rights.items cs ds
-  pub listed : (x : ℕ) → IsMarked u x → IsDecided e.rights.items ds u x ⊎ Contains list x
+  pub more : IsMore e.functions.items cs ds
+  pub listed : (x : ℕ) → IsMarked u x → IsDecided e.functions.items ds u x ⊎ Contains list x
   pub only : All (λ v. (v < length u) × IsMarked u v) list
   pub within : n ≤ length list
-  pub done : (k : ℕ) → k < n → IsDecided e.rights.items ds u (get_or list k 0)
+  pub done : (k : ℕ) → k < n → IsDecided e.functions.items ds u (get_or list k 0)
 
 pub giving_begins : (e : Encoder) (t s u : List Bool) (cs : List (List ℤ)) (vs ws list longer : List ℕ) → AreGiven e t cs → Grows vs t [] s list → Grows ws s list u longer →
     IsFrom vs t s → IsFrom ws s u → All (λ v. v ≤ e.variables) vs → All (λ v. v ≤ e.variables) ws → IsGiving e u cs cs longer 0
@@ -86,10 +85,10 @@ giving_begins e t s u cs vs ws list longer given p q from_p from_q vs_in ws_in =
       places = omega (arith, given.places, q.places, p.places);
       range = up_from e.variables ws s u from_q ws_in (up_from e.variables vs t s from_p vs_in given.range);
       over = over_later e.variables e.variables t u cs (omega arith) kept given.clauses;
-      more = more_same e.rights.items cs;
+      more = more_same e.functions.items cs;
       listed = λ x on. elim (q.listed x on) [
         | inl before ↦ elim (p.listed x before) [
-          | inl first ↦ inl (decided_later e.rights.items cs cs t u x (λ v all. all) kept (given.decided x first))
+          | inl first ↦ inl (decided_later e.functions.items cs cs t u x (λ v all. all) kept (given.decided x first))
           | inr found ↦ inr (subst (λ l. Contains l x) (sym q.is) (Contains-append_left list q.added x (subst (λ l. Contains l x) (sym p.is) found)))
         ]
         | inr found ↦ inr (subst (λ l. Contains l x) (sym q.is) (Contains-append_right list q.added x found))
@@ -110,10 +109,10 @@ giving_more e u s cs ds es list longer n h n_in grows one =
       places = omega (arith, h.places, grows.places);
       range = one.range h.range;
       over = one.over h.over;
-      more = more_then e.rights.items cs ds es h.more one.more;
+      more = more_then e.functions.items cs ds es h.more one.more;
       listed = λ x on. elim (grows.listed x on) [
         | inl before ↦ elim (h.listed x before) [
-          | inl first ↦ inl (decided_later e.rights.items ds es u s x one.more.weaker grows.kept first)
+          | inl first ↦ inl (decided_later e.functions.items ds es u s x one.more.weaker grows.kept first)
           | inr found ↦ inr (subst (λ l. Contains l x) (sym grows.is) (Contains-append_left list grows.added x found))
         ]
         | inr found ↦ inr (subst (λ l. Contains l x) (sym grows.is) (Contains-append_right list grows.added x found))
@@ -123,8 +122,8 @@ giving_more e u s cs ds es list longer n h n_in grows one =
           (All-weaker (λ v. (v < length u) × IsMarked s v) P (λ v p. (let lt : v < length u = p.0 in omega (arith, lt, grows.places), p.1)) grows.added grows.only));
       within = omega (arith, n_in, ap length grows.is, length-append list grows.added);
       done = below_more _ _
-          (λ k k_in. subst (IsDecided e.rights.items es s) (same k (omega (arith, k_in, n_in))) (decided_later e.rights.items ds es u s (get_or list k 0) one.more.weaker grows.kept (h.done k k_in)))
-          (subst (IsDecided e.rights.items es s) (same n n_in) one.decided);
+          (λ k k_in. subst (IsDecided e.functions.items es s) (same k (omega (arith, k_in, n_in))) (decided_later e.functions.items ds es u s (get_or list k 0) one.more.weaker grows.kept (h.done k k_in)))
+          (subst (IsDecided e.functions.items es s) (same n n_in) one.decided);
     }
 
 pub giving_ends : (e : Encoder) (t u : List Bool) (cs ds : List (List ℤ)) (list : List ℕ) (n : ℕ) → length list ≤ n → AreGiven e t cs → IsGiving e u cs ds list n → AreGiven e u ds
@@ -134,7 +133,7 @@ giving_ends e t u cs ds list n past given h = record {
   clauses = h.over;
   decided = λ x on. elim (h.listed x on) [
     | inl before ↦ before
-    | inr found ↦ subst (IsDecided e.rights.items ds u) (get_or_default list found.0 0 x found.1 ∙ found.2) (h.done found.0 (omega (arith, found.1, past)))
+    | inr found ↦ subst (IsDecided e.functions.items ds u) (get_or_default list found.0 0 x found.1 ∙ found.2) (h.done found.0 (omega (arith, found.1, past)))
   ];
   truth = λ w all. given.truth w (h.more.weaker w all);
 }
@@ -161,15 +160,15 @@ from_on f lits n d t u x n_in h k =
     let e : map f (take (n + 1) lits) ≡ map f (take n lits) ++ f (get_or lits n d) ∷ [] = ap (map f) (take_more lits n d n_in) ∙ map-append f (take n lits) (get_or lits n d ∷ []) in
     subst (λ q. IsFrom q t x) (sym e) (from_then (map f (take n lits)) (f (get_or lits n d) ∷ []) t u x h k)
 
--- more conjunctions
-pub given_later : (e f : Encoder) (marks : List Bool) (cs : List (List ℤ)) → IsExtended e.variables e.rights.items f.variables f.rights.items → f.variables < length marks → AreGiven e marks cs → AreGiven f marks cs
+-- more functions
+pub given_later : (e f : Encoder) (marks : List Bool) (cs : List (List ℤ)) → IsExtended e.variables e.functions.items f.variables f.functions.items → f.variables < length marks → AreGiven e marks cs → AreGiven f marks cs
 given_later e f marks cs extended long h = record {
   places = long;
   range = λ x on. let le = h.range x on in omega (arith, le, extended.more);
   clauses = over_later e.variables f.variables marks marks cs extended.more (λ x on. on) h.clauses;
   decided = λ x on gate w u satisfied defined agree.
-      let same : rights_at f.rights.items x ≡ rights_at e.rights.items x = extended.same x (h.range x on) in
-      h.decided x on (subst (λ (q : ℤ × ℤ). q.0 ≢ pos 0) same gate) w u satisfied (extended.weaker u defined) agree;
+      let same : function_at f.functions.items x ≡ function_at e.functions.items x = extended.same x (h.range x on) in
+      h.decided x on (subst IsSome same gate) w u satisfied (extended.weaker u defined) agree;
   truth = h.truth;
 }
 
@@ -181,7 +180,7 @@ given_more e marks cs ds es is over h =
       places = h.places;
       range = h.range;
       clauses = subst (AreOver e.variables marks) (sym is) (All-append (All (IsOver e.variables marks)) cs ds h.clauses over);
-      decided = λ x on. decided_later e.rights.items cs es marks marks x weaker (λ y y_on. y_on) (h.decided x on);
+      decided = λ x on. decided_later e.functions.items cs es marks marks x weaker (λ y y_on. y_on) (h.decided x on);
       truth = λ w all. h.truth w (weaker w all);
     }
 
@@ -197,7 +196,7 @@ only_first n x marks is on = elim (cases_eq x 1) [
   | inr other ↦ absurd (false≢true (sym (replicated n x false) ∙ sym (get_or-set_other (replicate n false) 1 x true false other) ∙ sym (ap (λ q. place q x) is) ∙ on))
 ]
 
-pub given_begins : (e : Encoder) (n : ℕ) (marks : List Bool) (cs : List (List ℤ)) → marks ≡ set (replicate n false) 1 true → e.variables < length marks → 1 ≤ e.variables → (IsGate e.rights.items 1 → ⊥) →
+pub given_begins : (e : Encoder) (n : ℕ) (marks : List Bool) (cs : List (List ℤ)) → marks ≡ set (replicate n false) 1 true → e.variables < length marks → 1 ≤ e.variables → (IsGate e.functions.items 1 → ⊥) →
     cs ≡ (pos 1 ∷ []) ∷ [] → AreGiven e marks cs
 given_begins e n marks cs is long used free cs_is =
     let some : 1 < n = omega (arith, long, used, ap length is, length-set (replicate n false) 1 true, length-replicate n false) in
@@ -207,7 +206,7 @@ given_begins e n marks cs is long used free cs_is =
       places = long;
       range = λ x on. let same = only_first n x marks is on in omega (arith, same, used);
       clauses = subst (AreOver e.variables marks) (sym cs_is) (All-cons (All Q) (pos 1 ∷ []) [] (All-cons Q (pos 1) [] (((λ z. cc), used), one) (All-nil Q)) (All-nil (All Q)));
-      decided = λ x on gate. let same = only_first n x marks is on in absurd (free (subst (IsGate e.rights.items) same gate));
+      decided = λ x on gate. let same = only_first n x marks is on in absurd (free (subst (IsGate e.functions.items) same gate));
       truth = λ w all. satisfied-unit w (pos 1) (All-head (IsSatisfied w) (pos 1 ∷ []) [] (subst (AreSatisfied w) cs_is all));
     }
 

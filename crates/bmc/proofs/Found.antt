@@ -94,9 +94,9 @@ begins_of : (m : Parts) (st : List Bool) (r : List (List Bool)) → 0 < length r
 begins_of m st [] some is = absurd (omega (arith, some))
 begins_of m st (w ∷ r) some is = is
 
--- what is the same at the variables that are no conjunctions follows the same run
+-- what is the same at the variables that are no functions follows the same run
 follows_others : (m : Parts) (c : Cone) (s : Leaves) (state : List ℤ) (e : Encoder) (cs : List (List ℤ)) (r : List (List Bool)) (v u : ℕ → Bool) → IsConeOf m c → IsUnrolled m c s state e cs →
-    ((x : ℕ) → (IsGate e.rights.items x → ⊥) → u x ≡ v x) → Follows m c s r v → Follows m c s r u
+    ((x : ℕ) → (IsGate e.functions.items x → ⊥) → u x ≡ v x) → Follows m c s r v → Follows m c s r u
 follows_others m c s state e cs r v u cone h others follows = record {
   runs = follows.runs;
   state = λ k k_in.

@@ -1,12 +1,12 @@
 pub mod Depths
 pub mod Negated
-pub mod Sides
+pub mod Arranged
 pub mod Added
 pub mod Encoded
 pub mod Completed
 pub mod Tabled
 pub mod Demanded
-pub mod Selected
+pub mod Said
 pub mod Closed
 pub mod Coned
 pub mod Unrolled

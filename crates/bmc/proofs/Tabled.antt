@@ -1,22 +1,22 @@
 -- Tables of literals that stand for a circuit's variables at a time.
-use Rattle.std.proofs.Common.{◌≡◌, ◌≢◌, ℕ, zero, suc, ◌+◌, ◌*◌, ◌%◌, ◌<◌, ◌≤◌, ◌⊎◌, Bool, not, List, [], ◌++◌, map, set, length, get_or, All, Contains, ℤ, pos, negsuc, neg_ℤ, inl, inr, refl, sym, ◌∙◌, ap, subst, arith, get_or-set_same, get_or-set_other, length-set}
+use Rattle.std.proofs.Common.{◌≡◌, ◌≢◌, ℕ, zero, suc, ◌+◌, ◌*◌, ◌%◌, ◌<◌, ◌≤◌, ◌⊎◌, Bool, not, List, [], ◌++◌, map, set, length, get_or, All, ℤ, pos, negsuc, neg_ℤ, inl, inr, refl, sym, ◌∙◌, ap, subst, arith, get_or-set_same, get_or-set_other, length-set}
 use Rattle.std.proofs.lemmas.Bool.{cases_eq, cases_lt, eq-eqb, ne_eqb}
-use Rattle.std.proofs.lemmas.List.Elements.{All-weaker, All-contains}
+use Rattle.std.proofs.lemmas.List.Elements.{All-weaker}
 use Rattle.graph.specs.declared.circuit.Lit.{Lit}
-use Rattle.graph.specs.declared.circuit.Gate.{Gate}
 use Rattle.graph.specs.declared.parts.Parts.{Parts}
-use Rattle.graph.specs.Valuation.{variable, place, value_of, Fires}
+use Rattle.graph.specs.Valuation.{variable, place, value_of}
 use Rattle.graph.specs.Justice.{at}
 use Rattle.graph.specs.WellFormed.{IsWellFormed}
-use Rattle.graph.proofs.Evaluation.{All-left, latches_in_range, lefts_even}
+use Rattle.graph.proofs.Evaluation.{All-left, latches_in_range}
 use Rattle.graph.proofs.Gates.{value_of-even}
 use Rattle.lrat.specs.Literals.{is_true, IsLiteral}
-use Rattle.cnf.specs.Formulas.{IsGateIn}
-use Rattle.cnf.proofs.Frames.{gates_in_range}
+use Rattle.cuts.specs.declared.cut.Cut.{Cut}
+use Rattle.cuts.specs.Cuts.{IsLeaf, cut_value}
+use Rattle.bmc.specs.declared.cone.Cell.{Cell}
 use Rattle.bmc.specs.declared.cone.Cone.{Cone}
-use Rattle.bmc.specs.Cones.{IsConeOf, IsFilled, gate_at, no_gate, no_latch}
-use Rattle.bmc.specs.Encodings.{IsConjunctionIn, Told, AreKept}
-use Rattle.bmc.specs.Unrollings.{Leaves, Follows, Stands, IsTable, AreFresh, AreStates, literal_at, literal_of, input_of, latch_of}
+use Rattle.bmc.specs.Cones.{IsConeOf, IsFilled, cell_at, no_cell, no_latch}
+use Rattle.bmc.specs.Encodings.{IsFunctionIn, Told, AreKept, function_value}
+use Rattle.bmc.specs.Unrollings.{Leaves, Follows, Stands, IsTable, AreFresh, AreStates, by_table, literal_at, literal_of, input_of, latch_of}
 use Rattle.bmc.proofs.Negated.{negation_literal, negation_true, literal_up}
 
 -- the values of literals
@@ -69,7 +69,7 @@ table_set m c s cs t n i j g i2 j2 g2 x l table is x_in l_in stands filled =
       ];
     }
 
--- the next input, latch and gate
+-- the next input, latch and cell
 filled_input : (m : Parts) (c : Cone) (i y : ℕ) → IsFilled m c (i + 1) 0 0 y → IsFilled m c i 0 0 y ⊎ (y ≡ input_of m c i)
 filled_input m c i y (inl z) = inl (inl z)
 filled_input m c i y (inr (inl (k, k_in, is))) = elim (cases_lt k i) [
@@ -88,13 +88,13 @@ filled_latch m c i j y (inr (inr (inl (k, k_in, is)))) = elim (cases_lt k j) [
 ]
 filled_latch m c i j y (inr (inr (inr (k, k_in, is)))) = absurd (omega (arith, k_in))
 
-filled_gate : (m : Parts) (c : Cone) (i j g y : ℕ) → IsFilled m c i j (g + 1) y → IsFilled m c i j g y ⊎ (y ≡ variable (gate_at c.gates.items g).lhs)
-filled_gate m c i j g y (inl z) = inl (inl z)
-filled_gate m c i j g y (inr (inl (k, k_in, is))) = inl (inr (inl (k, k_in, is)))
-filled_gate m c i j g y (inr (inr (inl (k, k_in, is)))) = inl (inr (inr (inl (k, k_in, is))))
-filled_gate m c i j g y (inr (inr (inr (k, k_in, is)))) = elim (cases_lt k g) [
+filled_cell : (m : Parts) (c : Cone) (i j g y : ℕ) → IsFilled m c i j (g + 1) y → IsFilled m c i j g y ⊎ (y ≡ (cell_at c.cells.items g).variable)
+filled_cell m c i j g y (inl z) = inl (inl z)
+filled_cell m c i j g y (inr (inl (k, k_in, is))) = inl (inr (inl (k, k_in, is)))
+filled_cell m c i j g y (inr (inr (inl (k, k_in, is)))) = inl (inr (inr (inl (k, k_in, is))))
+filled_cell m c i j g y (inr (inr (inr (k, k_in, is)))) = elim (cases_lt k g) [
   | inl below ↦ inl (inr (inr (inr (k, below, is))))
-  | inr last ↦ let same : k ≡ g = omega (arith, k_in, last) in inr (sym is ∙ ap (λ q. variable (gate_at c.gates.items q).lhs) same)
+  | inr last ↦ let same : k ≡ g = omega (arith, k_in, last) in inr (sym is ∙ ap (λ q. (cell_at c.cells.items q).variable) same)
 ]
 
 pub table_input : (m : Parts) (c : Cone) (s : Leaves) (cs : Told) (t n first i : ℕ) (l : ℤ) (table : List ℤ) → IsTable m c s cs t n i 0 0 table → input_of m c i < m.max_var + 1 →
@@ -119,25 +119,28 @@ pub literal_stands : (m : Parts) (c : Cone) (s : Leaves) (cs : Told) (t n i j g 
 literal_stands m c s cs t n i j g table a is filled a_in r v follows all t_in =
     literal_true table v (at r t) a (is.literals (variable a) (negsuc 0) (omega (arith, a_in, is.whole))).0 (is.stands (variable a) filled r v follows all t_in)
 
-pub table_gate : (m : Parts) (c : Cone) (s : Leaves) (cs ds : Told) (t n k g : ℕ) (l : ℤ) (table : List ℤ) → IsWellFormed m → IsConeOf m c → g < length c.gates.items →
+-- the function has the cut's value where the literals have those of the leaves
+cut_function : (table : List ℤ) (v : ℕ → Bool) (w : List Bool) (c : Cut) → ((u : ℕ) → IsLeaf c u → is_true v (literal_at table u) ≡ place w u) → function_value v (by_table table c) ≡ cut_value w c
+cut_function table v w c same =
+    let one = same c.leaves.0 (inl refl) in
+    let two = same c.leaves.1 (inr (inl refl)) in
+    let three = same c.leaves.2 (inr (inr (inl refl))) in
+    let four = same c.leaves.3 (inr (inr (inr refl))) in
+    rw (one, two, three, four) refl
+
+pub table_cell : (m : Parts) (c : Cone) (s : Leaves) (cs ds : Told) (t n k g : ℕ) (l : ℤ) (table : List ℤ) → IsConeOf m c → g < length c.cells.items →
     IsTable m c s cs t n (length c.inputs.items) (length c.latches.items) g table → ((v : ℕ → Bool) → AreKept v ds → AreKept v cs) → n ≤ k → IsLiteral k l →
-    variable (gate_at c.gates.items g).lhs < m.max_var + 1 → variable (gate_at c.gates.items g).rhs0 < m.max_var + 1 → variable (gate_at c.gates.items g).rhs1 < m.max_var + 1 →
-    IsConjunctionIn ds.rights (literal_of table (gate_at c.gates.items g).rhs0) (literal_of table (gate_at c.gates.items g).rhs1) l →
-    IsTable m c s ds t k (length c.inputs.items) (length c.latches.items) (g + 1) (set table (variable (gate_at c.gates.items g).lhs) l)
-table_gate m c s cs ds t n k g l table well cone g_in is weaker le l_in x_in a_in b_in made =
-    let gate : Gate = gate_at c.gates.items g in
-    let among : Contains m.gates gate = cone.gates g no_gate g_in in
-    let even = All-contains (λ (q : Gate). (2 ≤ q.lhs.0) × (q.lhs.0 % 2 ≡ 0)) m.gates gate (lefts_even m well) among in
-    let reads = cone.reads g g_in in
-    table_set m c s ds t k (length c.inputs.items) (length c.latches.items) g (length c.inputs.items) (length c.latches.items) (g + 1) (variable gate.lhs) l table
-    (table_weaker m c s cs ds t n k (length c.inputs.items) (length c.latches.items) g table weaker le is) x_in l_in
+    IsFunctionIn ds.functions (by_table table (cell_at c.cells.items g).cut) l →
+    IsTable m c s ds t k (length c.inputs.items) (length c.latches.items) (g + 1) (set table (cell_at c.cells.items g).variable l)
+table_cell m c s cs ds t n k g l table cone g_in is weaker le l_in made =
+    let cell : Cell = cell_at c.cells.items g in
+    let range = cone.range g no_cell g_in in
+    table_set m c s ds t k (length c.inputs.items) (length c.latches.items) g (length c.inputs.items) (length c.latches.items) (g + 1) cell.variable l table
+    (table_weaker m c s cs ds t n k (length c.inputs.items) (length c.latches.items) g table weaker le is) (omega (arith, range.0)) l_in
     (λ r v follows all t_in.
-    let before = weaker v all in
-    let one = literal_stands m c s cs t n (length c.inputs.items) (length c.latches.items) g table gate.rhs0 is reads.0 a_in r v follows before t_in in
-    let other = literal_stands m c s cs t n (length c.inputs.items) (length c.latches.items) g table gate.rhs1 is reads.1 b_in r v follows before t_in in
-    let fires : Fires (at r t) gate = All-contains (Fires (at r t)) m.gates gate (follows.runs.agrees t [] t_in).gates among in
-    made v all.0 ∙ (rw (one, other) refl) ∙ sym fires ∙ value_of-even (at r t) gate.lhs even.1)
-    (filled_gate m c (length c.inputs.items) (length c.latches.items) g)
+    let leaves : (u : ℕ) → IsLeaf cell.cut u → is_true v (literal_at table u) ≡ place (at r t) u = λ u leaf. is.stands u (cone.reads g u g_in leaf) r v follows (weaker v all) t_in in
+    made v all.0 ∙ cut_function table v (at r t) cell.cut leaves ∙ sym (cone.cells g no_cell g_in (at r t) (follows.runs.agrees t [] t_in)))
+    (filled_cell m c (length c.inputs.items) (length c.latches.items) g)
 
 -- what the cone has is in range
 pub input_range : (m : Parts) (c : Cone) (k : ℕ) → IsWellFormed m → IsConeOf m c → k < length c.inputs.items → input_of m c k < m.max_var + 1
@@ -151,11 +154,11 @@ latch_range m c k well cone k_in =
     let p = latches_in_range m well (get_or c.latches.items k 0) no_latch (cone.latches k 0 k_in) in
     omega (arith, p)
 
-pub gate_range : (m : Parts) (c : Cone) (k n : ℕ) → IsWellFormed m → IsConeOf m c → k < length c.gates.items → n ≡ m.max_var + 1 →
-    (variable (gate_at c.gates.items k).lhs < n) × (variable (gate_at c.gates.items k).rhs0 < n) × (variable (gate_at c.gates.items k).rhs1 < n)
-gate_range m c k n well cone k_in n_is =
-    let range : IsGateIn m.max_var (gate_at c.gates.items k) = All-contains (IsGateIn m.max_var) m.gates (gate_at c.gates.items k) (gates_in_range m well) (cone.gates k no_gate k_in) in
-    (omega (arith, range.lhs, n_is), omega (arith, range.rhs0, n_is), omega (arith, range.rhs1, n_is))
+pub cell_range : (m : Parts) (c : Cone) (k n : ℕ) → IsConeOf m c → k < length c.cells.items → n ≡ m.max_var + 1 →
+    ((cell_at c.cells.items k).variable < n) × ((u : ℕ) → IsLeaf (cell_at c.cells.items k).cut u → u < n)
+cell_range m c k n cone k_in n_is =
+    let range = cone.range k no_cell k_in in
+    (omega (arith, range.0, n_is), λ u leaf. (let h = range.1 u leaf in omega (arith, h, n_is)))
 
 -- literals that are read from a table and written into it
 pub literal_in_range : (n : ℕ) (table : List ℤ) (a : Lit) → All (IsLiteral n) table → variable a < length table → IsLiteral n (literal_of table a)

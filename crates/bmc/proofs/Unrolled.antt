@@ -1,5 +1,5 @@
 -- One time more of a circuit in clauses.
-use Rattle.std.proofs.Common.{◌≡◌, ◌≢◌, ℕ, zero, suc, ◌+◌, ◌-◌, ◌*◌, ◌<◌, ◌≤◌, if◌then◌else◌, Bool, true, false, not, List, [], ◌∷◌, ◌++◌, map, length, get_or, All, Contains, None, Some, ℤ, pos, negsuc, inl, inr, refl, sym, ◌∙◌, ap, subst, arith, length-append}
+use Rattle.std.proofs.Common.{◌≡◌, ◌≢◌, ℕ, zero, suc, ◌+◌, ◌-◌, ◌*◌, ◌<◌, ◌≤◌, if◌then◌else◌, Bool, true, false, not, List, [], ◌∷◌, ◌++◌, map, length, get_or, All, Contains, None, ℤ, pos, negsuc, inl, inr, refl, sym, ◌∙◌, ap, subst, arith, length-append}
 use Rattle.std.proofs.Math.Dec.{leb}
 use Rattle.std.proofs.lemmas.Bool.{le-leb}
 use Rattle.std.proofs.lemmas.Bool.Decides.{leb_tells}
@@ -24,9 +24,10 @@ use Rattle.cnf.specs.Meaning.{AreSatisfied, KeepsNow}
 use Rattle.cnf.proofs.CaseLaws.{next_value, nexts_in_range, constraints_in_range}
 use Rattle.cnf.proofs.Listed.{satisfied-unit, unit-satisfied}
 use Rattle.bmc.specs.declared.cone.Cone.{Cone}
+use Rattle.bmc.specs.declared.function.Function.{Function}
 use Rattle.bmc.specs.declared.encoder.Encoder.{Encoder}
 use Rattle.bmc.specs.Cones.{IsConeOf, latch_at, no_latch}
-use Rattle.bmc.specs.Encodings.{AreBelow, IsConjunctionIn, IsGate, IsDefined, IsEncoding, IsExtended, same_pair, Told, told, AreKept}
+use Rattle.bmc.specs.Encodings.{IsGate, IsDefined, IsEncoding, IsExtended, same_function, Told, told, AreKept}
 use Rattle.bmc.specs.Demands.{IsMore}
 use Rattle.bmc.specs.Unrollings.{Leaves, Follows, Stands, IsTable, AreFresh, AreStates, AreInitial, IsUnrolled, later, literal_at, literal_of, input_of, latch_of}
 use Rattle.bmc.proofs.Encoded.{AgreeUpTo, agree_true, agree_satisfied, defined_agree, literals_up}
@@ -57,19 +58,6 @@ states_later m c s cs t n k first state le h = record {
   stands = λ i i_in r v follows all t_in. h.stands i i_in r v (follows_before m c s first r v follows) all t_in;
 }
 
-pub encoding_later : (e f : Encoder) → e.variables ≤ f.variables → f.conjunctions ≡ e.conjunctions → f.rights ≡ e.rights → IsEncoding e → IsEncoding f
-encoding_later e f le same rights h =
-    let is : f.rights.items ≡ e.rights.items = ap (λ q. q.items) rights in
-    record {
-      some = omega (arith, h.some, le);
-      places = omega (arith, h.places, le, ap length is);
-      below = subst (λ (q : List (ℤ × ℤ)). AreBelow q) (sym is) h.below;
-      used = λ x gate. let old = h.used x (subst (λ (q : List (ℤ × ℤ)). IsGate q x) is gate) in omega (arith, old, le);
-      conjunctions = λ a b x found.
-          let old = h.conjunctions a b x (subst (λ q. get same_pair q (a, b) ≡ Some x) same found) in
-          (literal_up e.variables f.variables (pos x) old.0 le, subst (λ (q : List (ℤ × ℤ)). IsConjunctionIn q a b (pos x)) (sym is) old.1);
-    }
-
 -- what is false is the constant
 false_stands : (m : Parts) (c : Cone) (s : Leaves) (cs : Told) (t : ℕ) → Stands m c s cs t 0 (negsuc 0)
 false_stands m c s cs t r v follows all t_in = ap not all.0.truth ∙ sym (follows.runs.agrees t [] t_in).valuation.constant
@@ -97,13 +85,17 @@ units_satisfied : (v : ℕ → Bool) (table : List ℤ) (lits : List Lit) → Al
 units_satisfied v table lits all = All-map (IsSatisfied v) (λ l. l ∷ []) (map (literal_of table) lits)
     (All-map (λ l. IsSatisfied v (l ∷ [])) (literal_of table) lits (λ k d k_in. unit-satisfied v (literal_of table (get_or lits k d)) (all k d k_in)))
 
+constraints_true : (v : ℕ → Bool) (w : List Bool) (table : List ℤ) (lits : List Lit) → ((k : ℕ) (d : Lit) → k < length lits → is_true v (literal_of table (get_or lits k d)) ≡ value_of w (get_or lits k d)) →
+    All (λ a. value_of w a ≡ true) lits → All (λ a. is_true v (literal_of table a) ≡ true) lits
+constraints_true v w table lits same kept k d k_in = same k d k_in ∙ kept k d k_in
+
 units_true : (v : ℕ → Bool) (table : List ℤ) (lits : List Lit) → AreSatisfied v (unit_clauses (map (literal_of table) lits)) → All (λ a. is_true v (literal_of table a) ≡ true) lits
 units_true v table lits all k d k_in = satisfied-unit v (literal_of table (get_or lits k d))
     (All-unmap (λ l. IsSatisfied v (l ∷ [])) (literal_of table) lits (All-unmap (IsSatisfied v) (λ l. l ∷ []) (map (literal_of table) lits) all) k d k_in)
 
 -- the literals of the next state
 pub states_next : (m : Parts) (c : Cone) (s : Leaves) (cs : Told) (t n : ℕ) (table : List ℤ) → IsWellFormed m → IsConeOf m c →
-    IsTable m c s cs t n (length c.inputs.items) (length c.latches.items) (length c.gates.items) table → ((k : ℕ) → k < length c.latches.items → variable (next_of m.latches (latch_of m c k)) < m.max_var + 1) →
+    IsTable m c s cs t n (length c.inputs.items) (length c.latches.items) (length c.cells.items) table → ((k : ℕ) → k < length c.latches.items → variable (next_of m.latches (latch_of m c k)) < m.max_var + 1) →
     AreStates m c s cs (t + 1) n (map (λ i. literal_of table (next_of m.latches (latch_at m.latches i).lit)) c.latches.items)
 states_next m c s cs t n table well cone is range =
     let f : ℕ → ℤ = λ i. literal_of table (next_of m.latches (latch_at m.latches i).lit) in
@@ -116,7 +108,7 @@ states_next m c s cs t n table well cone is range =
           let even = (latches_even m well (get_or c.latches.items k 0) no_latch p_in).1 in
           let there : Contains (map held m.latches) (variable a) = Contains-map held m.latches (get_or c.latches.items k 0) no_latch p_in in
           let step = next_value m (at r t) (at r (t + 1)) a well (Steps-at m r t follows.runs.steps t_in) there in
-          let before = literal_stands m c s cs t n (length c.inputs.items) (length c.latches.items) (length c.gates.items) table (next_of m.latches a) is (cone.nexts k k_in) (range k k_in) r v follows all (omega (arith, t_in)) in
+          let before = literal_stands m c s cs t n (length c.inputs.items) (length c.latches.items) (length c.cells.items) table (next_of m.latches a) is (cone.nexts k k_in) (range k k_in) r v follows all (omega (arith, t_in)) in
           ap (is_true v) (get_or-map f c.latches.items k 0 (negsuc 0) k_in) ∙ before ∙ sym step ∙ value_of-even (at r (t + 1)) a even;
     }
 
@@ -167,11 +159,11 @@ follows_opened m c s n r v cone initial some inputs h =
 
 -- the parts of one time, put together
 pub record IsNext (m : Parts) (c : Cone) (s : Leaves) (e f : Encoder) (cs ds : List (List ℤ)) (table : List ℤ) : Type 0 where
-  pub grown : IsExtended (e.variables + length c.inputs.items) e.rights.items f.variables f.rights.items
+  pub grown : IsExtended (e.variables + length c.inputs.items) e.functions.items f.variables f.functions.items
   pub encoding : IsEncoding f
   pub range : All (All (IsLiteral f.variables)) ds
-  pub more : IsMore f.rights.items cs ds
-  pub stands : IsTable m c (later s e.variables) (told f cs) (length s.firsts) f.variables (length c.inputs.items) (length c.latches.items) (length c.gates.items) table
+  pub more : IsMore f.functions.items cs ds
+  pub stands : IsTable m c (later s e.variables) (told f cs) (length s.firsts) f.variables (length c.inputs.items) (length c.latches.items) (length c.cells.items) table
 
 constraints_small : (m : Parts) → IsWellFormed m → All (λ a. variable a < m.max_var + 1) m.constraints
 constraints_small m well k d k_in = let p = constraints_in_range m well k d k_in in omega (arith, p)
@@ -180,13 +172,13 @@ pub unrolled_more : (m : Parts) (c : Cone) (s : Leaves) (state table : List ℤ)
     IsNext m c s e f cs ds table → es ≡ ds ++ unit_clauses (map (literal_of table) m.constraints) →
     ((k : ℕ) → k < length c.latches.items → variable (next_of m.latches (latch_of m c k)) < m.max_var + 1) →
     IsUnrolled m c (later s e.variables) (map (λ i. literal_of table (next_of m.latches (latch_at m.latches i).lit)) c.latches.items) f es
-    × IsTable m c (later s e.variables) (told f es) (length s.firsts) f.variables (length c.inputs.items) (length c.latches.items) (length c.gates.items) table
+    × IsTable m c (later s e.variables) (told f es) (length s.firsts) f.variables (length c.inputs.items) (length c.latches.items) (length c.cells.items) table
 unrolled_more m c s state table e f cs ds es well cone h next es_is range =
     let t : ℕ = length s.firsts in
     let n : ℕ = e.variables in
     let s1 : Leaves = later s n in
-    let rs : List (ℤ × ℤ) = e.rights.items in
-    let qs : List (ℤ × ℤ) = f.rights.items in
+    let fs : List Function = e.functions.items in
+    let gs : List Function = f.functions.items in
     let units : List (List ℤ) = unit_clauses (map (literal_of table) m.constraints) in
     let small : All (λ a. variable a < length table) m.constraints = λ k d k_in. let p = constraints_small m well k d k_in in omega (arith, p, next.stands.whole) in
     let to_ds : (v : ℕ → Bool) → AreSatisfied v es → AreSatisfied v ds = λ v all. All-left (IsSatisfied v) ds units (subst (AreSatisfied v) es_is all) in
@@ -195,14 +187,14 @@ unrolled_more m c s state table e f cs ds es well cone h next es_is range =
     let to_old : (v : ℕ → Bool) → AreKept v (told f es) → AreKept v (told e cs) = λ v all. (next.grown.weaker v all.0, next.more.weaker v (to_ds v all.1)) in
     let es_range : All (All (IsLiteral f.variables)) es = subst (All (All (IsLiteral f.variables))) (sym es_is)
     (All-append (All (IsLiteral f.variables)) ds units next.range (units_literals f.variables table m.constraints next.stands.literals small)) in
-    let whole : IsTable m c s1 (told f es) t f.variables (length c.inputs.items) (length c.latches.items) (length c.gates.items) table =
-    table_weaker m c s1 (told f cs) (told f es) t f.variables f.variables (length c.inputs.items) (length c.latches.items) (length c.gates.items) table to_made (omega arith) next.stands in
+    let whole : IsTable m c s1 (told f es) t f.variables (length c.inputs.items) (length c.latches.items) (length c.cells.items) table =
+    table_weaker m c s1 (told f cs) (told f es) t f.variables f.variables (length c.inputs.items) (length c.latches.items) (length c.cells.items) table to_made (omega arith) next.stands in
     let true_now : (r : List (List Bool)) (v : ℕ → Bool) → Follows m c s1 r v → AreKept v (told f cs) → t < length r → (k : ℕ) (d : Lit) → k < length m.constraints →
     is_true v (literal_of table (get_or m.constraints k d)) ≡ value_of (at r t) (get_or m.constraints k d) = λ r v follows all t_in k d k_in.
-    literal_stands m c s1 (told f cs) t f.variables (length c.inputs.items) (length c.latches.items) (length c.gates.items) table (get_or m.constraints k d) next.stands (cone.constraints k d k_in) (constraints_small m well k d k_in) r v follows all t_in in
+    literal_stands m c s1 (told f cs) t f.variables (length c.inputs.items) (length c.latches.items) (length c.cells.items) table (get_or m.constraints k d) next.stands (cone.constraints k d k_in) (constraints_small m well k d k_in) r v follows all t_in in
     let states = states_next m c s1 (told f es) t f.variables table well cone whole range in
     let more : length (s.firsts ++ n ∷ []) ≡ t + 1 = omega (arith, length-append s.firsts (n ∷ [])) in
-    let same_gate : (x : ℕ) → x ≤ n + length c.inputs.items → IsGate qs x → IsGate rs x = λ x x_in. subst (λ (q : ℤ × ℤ). q.0 ≢ pos 0) (next.grown.same x x_in) in (
+    let same_gate : (x : ℕ) → x ≤ n + length c.inputs.items → IsGate gs x → IsGate fs x = λ x x_in. subst (λ (q : Function). q.leaves.0 ≢ pos 0) (next.grown.same x x_in) in (
       record {
         encoding = next.encoding;
         range = es_range;
@@ -213,11 +205,11 @@ unrolled_more m c s state table e f cs ds es well cone h next es_is range =
         free_inputs = λ i k i_in k_in gate. elim (cases_lt i t) [
           | inl before ↦
               let room = h.inputs i 0 before in
-              let old : IsGate qs (get_or s.firsts i 0 + (k + 1)) = subst (λ q. IsGate qs (q + (k + 1))) (first_old s n i before) gate in
+              let old : IsGate gs (get_or s.firsts i 0 + (k + 1)) = subst (λ q. IsGate gs (q + (k + 1))) (first_old s n i before) gate in
               h.free_inputs i k before k_in (same_gate (get_or s.firsts i 0 + (k + 1)) (omega (arith, room, k_in)) old)
           | inr last ↦
               let i_is : i ≡ t = omega (arith, i_in, last, more) in
-              let new : IsGate qs (n + (k + 1)) = subst (λ q. IsGate qs (q + (k + 1))) (ap (λ q. get_or (s.firsts ++ n ∷ []) q 0) i_is ∙ first_new s n) gate in
+              let new : IsGate gs (n + (k + 1)) = subst (λ q. IsGate gs (q + (k + 1))) (ap (λ q. get_or (s.firsts ++ n ∷ []) q 0) i_is ∙ first_new s n) gate in
               let le = h.encoding.used (n + (k + 1)) (same_gate (n + (k + 1)) (omega (arith, k_in)) new) in
               absurd (omega (arith, le))
         ];
@@ -238,14 +230,14 @@ unrolled_more m c s state table e f cs ds es well cone h next es_is range =
             let u_follows : Follows m c s1 r u = follows_opened m c s n r first.0 cone h.initial h.opened h.inputs first.1 in
             let u_agrees : AgreeUpTo n u first.0 = opened_old n first.0 f0 in
             let u_cs : AreSatisfied u cs = agree_satisfied n u first.0 cs h.range u_agrees first.2.1 in
-            let u_defined : IsDefined rs u = defined_agree n u first.0 rs h.encoding.some h.encoding.used h.encoding.below u_agrees first.2.0 in
+            let u_defined : IsDefined fs u = defined_agree n u first.0 fs h.encoding.some h.encoding.used h.encoding.below u_agrees first.2.0 in
             let second = next.grown.extends u u_defined in
             let cs_up : All (All (IsLiteral (n + length c.inputs.items))) cs = literals_up n (n + length c.inputs.items) cs (omega arith) h.range in
             let z_cs : AreSatisfied second.0 cs = agree_satisfied (n + length c.inputs.items) second.0 u cs cs_up second.2 u_cs in
             let z_ds : AreSatisfied second.0 ds = next.more.stronger second.0 second.1 z_cs in
             let inputs_now : All (λ p. p + length c.inputs.items ≤ n + length c.inputs.items) (s.firsts ++ n ∷ []) = All-push (λ p. p + length c.inputs.items ≤ n + length c.inputs.items) s.firsts n (λ k d k_in. let p = h.inputs k d k_in in omega (arith, p)) (omega arith) in
             let follows : Follows m c s1 r second.0 = follows_agree m c s1 (n + length c.inputs.items) r second.0 u cone h.initial (omega (arith, h.opened)) inputs_now second.2 u_follows in
-            let units_on : AreSatisfied second.0 units = units_satisfied second.0 table m.constraints (λ k d k_in. true_now r second.0 follows (second.1, z_cs) t_r k d k_in ∙ keeps t [] t_r k d k_in) in
+            let units_on : AreSatisfied second.0 units = units_satisfied second.0 table m.constraints (constraints_true second.0 (at r t) table m.constraints (true_now r second.0 follows (second.1, z_cs) t_r) (keeps t [] t_r)) in
             (second.0, follows, (second.1, subst (AreSatisfied second.0) (sym es_is) (All-append (IsSatisfied second.0) ds units z_ds units_on)));
       },
       whole,
@@ -271,7 +263,7 @@ begun_true f k = let e : k + 2 ≡ suc (suc k) = omega arith in ap (λ q. is_tru
 
 -- before the first time
 pub unrolled_begins : (m : Parts) (c : Cone) (initial : List ℤ) (e : Encoder) (cs : List (List ℤ)) → IsWellFormed m → IsConeOf m c → AreInitial m c initial → e.variables ≡ length c.latches.items + 1 →
-    ((a b : ℤ) → get same_pair e.conjunctions (a, b) ≡ None) → length e.rights.items ≤ suc e.variables → ((x : ℕ) → IsGate e.rights.items x → ⊥) → cs ≡ (pos 1 ∷ []) ∷ [] → IsUnrolled m c (record { initial = initial; firsts = [] }) (map (literal_at initial) c.latches.items) e cs
+    ((f : Function) → get same_function e.shared f ≡ None) → length e.functions.items ≤ suc e.variables → ((x : ℕ) → IsGate e.functions.items x → ⊥) → cs ≡ (pos 1 ∷ []) ∷ [] → IsUnrolled m c (record { initial = initial; firsts = [] }) (map (literal_at initial) c.latches.items) e cs
 unrolled_begins m c initial e cs well cone are count none room free cs_is =
     let one : List (List ℤ) = (pos 1 ∷ []) ∷ [] in
     let s : Leaves = record { initial = initial; firsts = [] } in
@@ -284,7 +276,7 @@ unrolled_begins m c initial e cs well cone are count none room free cs_is =
         places = room;
         below = λ x gate. absurd (free x gate);
         used = λ x gate. absurd (free x gate);
-        conjunctions = λ a b x found. absurd (no_some x (sym (none a b) ∙ found));
+        shared = λ f x found. absurd (no_some x (sym (none f) ∙ found));
       };
       range = subst (All (All (IsLiteral e.variables))) (sym cs_is) (All-cons (All (IsLiteral e.variables)) (pos 1 ∷ []) [] (All-cons (IsLiteral e.variables) (pos 1) [] one_in (All-nil (IsLiteral e.variables))) (All-nil (All (IsLiteral e.variables))));
       free = λ x x_in. free x;

@@ -2,11 +2,13 @@
 use Rattle.std.specs.Prelude.{◌≡◌, ◌≢◌, ℕ, ◌+◌, ◌*◌, ◌<◌, ◌≤◌, ◌⊎◌, Bool, List, map, length, slice_index_or, All, AllPairs, Contains}
 use Rattle.graph.specs.declared.circuit.Lit.{Lit}
 use Rattle.graph.specs.declared.circuit.Latch.{Latch}
-use Rattle.graph.specs.declared.circuit.Gate.{Gate}
 use Rattle.graph.specs.declared.parts.Parts.{Parts}
 use Rattle.graph.specs.Valuation.{variable}
 use Rattle.cnf.specs.Clauses.{next_of}
 use Rattle.cones.specs.Marks.{IsMarked}
+use Rattle.cuts.specs.declared.cut.Cut.{Cut}
+use Rattle.cuts.specs.Cuts.{IsCutOf, IsLeaf, no_cut, cut_at}
+use Rattle.bmc.specs.declared.cone.Cell.{Cell}
 use Rattle.bmc.specs.declared.cone.Cone.{Cone}
 
 -- the variables of the inputs and of the latches, by their positions
@@ -19,11 +21,11 @@ no_latch = record { lit = record { 0 = 0 }; next = record { 0 = 0 }; reset = rec
 abbrev pub latch_at : List Latch → ℕ → Latch
 latch_at latches i = slice_index_or latches i no_latch
 
-abbrev pub no_gate : Gate
-no_gate = record { lhs = record { 0 = 0 }; rhs0 = record { 0 = 0 }; rhs1 = record { 0 = 0 } }
+abbrev pub no_cell : Cell
+no_cell = record { variable = 0; cut = no_cut }
 
-abbrev pub gate_at : List Gate → ℕ → Gate
-gate_at gates i = slice_index_or gates i no_gate
+abbrev pub cell_at : List Cell → ℕ → Cell
+cell_at cells i = slice_index_or cells i no_cell
 
 abbrev pub is_marked_input : List Bool → List Lit → ℕ → Type 0
 is_marked_input marks inputs i = IsMarked marks (input_at inputs i)
@@ -31,17 +33,17 @@ is_marked_input marks inputs i = IsMarked marks (input_at inputs i)
 abbrev pub is_marked_latch : List Bool → List Latch → ℕ → Type 0
 is_marked_latch marks latches i = IsMarked marks (variable (latch_at latches i).lit)
 
--- what the variable depends on is marked: of a gate the right sides, of a latch the next literal
-pub record IsVisited (m : Parts) (marks : List Bool) (v : ℕ) : Type 0 where
-  pub gates : All (λ g. variable g.lhs ≡ v → IsMarked marks (variable g.rhs0) × IsMarked marks (variable g.rhs1)) m.gates
+-- what the variable depends on is marked: the leaves of its cut, and of a latch the next literal
+pub record IsVisited (m : Parts) (cuts : List Cut) (marks : List Bool) (v : ℕ) : Type 0 where
+  pub leaves : (u : ℕ) → IsLeaf (cut_at cuts v) u → IsMarked marks u
   pub next : IsMarked marks (variable (next_of m.latches (record { 0 = 2 * v })))
 
 -- the bad literals and the constraints are marked, and with each variable what it depends on
-pub record IsClosed (m : Parts) (marks : List Bool) : Type 0 where
+pub record IsClosed (m : Parts) (cuts : List Cut) (marks : List Bool) : Type 0 where
   pub places : length marks ≡ m.max_var + 1
   pub bad : All (λ a. IsMarked marks (variable a)) m.bad
   pub constraints : All (λ a. IsMarked marks (variable a)) m.constraints
-  pub visited : (v : ℕ) → IsMarked marks v → IsVisited m marks v
+  pub visited : (v : ℕ) → IsMarked marks v → IsVisited m cuts marks v
 
 -- positions below n, each once: those of P
 pub record ArePositions (P : ℕ → Type 0) (n : ℕ) (list : List ℕ) : Type 0 where
@@ -51,29 +53,30 @@ pub record ArePositions (P : ℕ → Type 0) (n : ℕ) (list : List ℕ) : Type 
   pub only : All P list
   pub few : length list ≤ n
 
--- the constant, or a variable of an input, a latch or one of the first n gates
+-- the constant, or a variable of an input or a latch
 abbrev pub IsOutside : Parts → ℕ → Type 0
 IsOutside m v = (v ≡ 0) ⊎ Contains (map variable m.inputs) v ⊎ Contains (map (λ l. variable l.lit) m.latches) v
 
-abbrev pub IsLeft : List Gate → ℕ → ℕ → Type 0
-IsLeft gates n v = (k : ℕ) × (k < n) × (k < length gates) × (variable (gate_at gates k).lhs ≡ v)
+-- the variable of one of the first n cells
+abbrev pub IsLeft : List Cell → ℕ → ℕ → Type 0
+IsLeft cells n v = (k : ℕ) × (k < n) × (k < length cells) × ((cell_at cells k).variable ≡ v)
 
--- the marked gates of the circuit, each after the marked ones that it reads
-pub record AreOrdered (m : Parts) (marks : List Bool) (gates : List Gate) : Type 0 where
-  pub among : All (λ g. Contains m.gates g × IsMarked marks (variable g.lhs)) gates
-  pub each : All (λ g. IsMarked marks (variable g.lhs) → IsLeft gates (length gates) (variable g.lhs)) m.gates
-  pub after : (n v : ℕ) → n < length gates → (variable (gate_at gates n).rhs0 ≡ v) ⊎ (variable (gate_at gates n).rhs1 ≡ v) → IsMarked marks v → IsOutside m v ⊎ IsLeft gates n v
-  pub few : length gates ≤ length m.gates
+-- the marked gates of the circuit with their cuts, each after its marked leaves
+pub record AreOrdered (m : Parts) (cuts : List Cut) (marks : List Bool) (cells : List Cell) : Type 0 where
+  pub among : All (λ c. (c.variable ≤ m.max_var) × (c.cut ≡ cut_at cuts c.variable) × IsMarked marks c.variable) cells
+  pub each : All (λ g. IsMarked marks (variable g.lhs) → IsLeft cells (length cells) (variable g.lhs)) m.gates
+  pub after : (n u : ℕ) → n < length cells → IsLeaf (cell_at cells n).cut u → IsMarked marks u → IsOutside m u ⊎ IsLeft cells n u
+  pub few : length cells ≤ length m.gates
 
--- the constant, or the variable of one of the first i inputs, j latches or n gates of the cone
+-- the constant, or the variable of one of the first i inputs, j latches or n cells of the cone
 abbrev pub IsFilled : Parts → Cone → ℕ → ℕ → ℕ → ℕ → Type 0
 IsFilled m c i j n v =
     (v ≡ 0) ⊎ ((k : ℕ) × (k < i) × (input_at m.inputs (slice_index_or c.inputs.items k 0) ≡ v))
-    ⊎ ((k : ℕ) × (k < j) × (variable (latch_at m.latches (slice_index_or c.latches.items k 0)).lit ≡ v)) ⊎ ((k : ℕ) × (k < n) × (variable (gate_at c.gates.items k).lhs ≡ v))
+    ⊎ ((k : ℕ) × (k < j) × (variable (latch_at m.latches (slice_index_or c.latches.items k 0)).lit ≡ v)) ⊎ ((k : ℕ) × (k < n) × ((cell_at c.cells.items k).variable ≡ v))
 
 -- the constant, or a variable of the cone
 abbrev pub IsIn : Parts → Cone → ℕ → Type 0
-IsIn m c v = IsFilled m c (length c.inputs.items) (length c.latches.items) (length c.gates.items) v
+IsIn m c v = IsFilled m c (length c.inputs.items) (length c.latches.items) (length c.cells.items) v
 
 -- inputs, latches and gates of the circuit, on which all depends that is asked for
 pub record IsConeOf (m : Parts) (c : Cone) : Type 0 where
@@ -81,11 +84,10 @@ pub record IsConeOf (m : Parts) (c : Cone) : Type 0 where
   pub inputs_once : AllPairs (λ i j. i ≢ j) c.inputs.items
   pub latches : All (λ i. i < length m.latches) c.latches.items
   pub latches_once : AllPairs (λ i j. i ≢ j) c.latches.items
-  pub few : length c.inputs.items + length c.latches.items + length c.gates.items ≤ 4194303
-  pub gates : All (Contains m.gates) c.gates.items
-  pub reads : (n : ℕ) → n < length c.gates.items →
-      IsFilled m c (length c.inputs.items) (length c.latches.items) n (variable (gate_at c.gates.items n).rhs0)
-      × IsFilled m c (length c.inputs.items) (length c.latches.items) n (variable (gate_at c.gates.items n).rhs1)
+  pub few : length c.inputs.items + length c.latches.items + length c.cells.items ≤ 4194303
+  pub cells : All (λ x. IsCutOf m x.variable x.cut) c.cells.items
+  pub range : All (λ x. (x.variable ≤ m.max_var) × ((u : ℕ) → IsLeaf x.cut u → u ≤ m.max_var)) c.cells.items
+  pub reads : (n u : ℕ) → n < length c.cells.items → IsLeaf (cell_at c.cells.items n).cut u → IsFilled m c (length c.inputs.items) (length c.latches.items) n u
   pub bad : All (λ a. IsIn m c (variable a)) m.bad
   pub constraints : All (λ a. IsIn m c (variable a)) m.constraints
   pub nexts : (k : ℕ) → k < length c.latches.items → IsIn m c (variable (next_of m.latches (latch_at m.latches (slice_index_or c.latches.items k 0)).lit))

@@ -1,107 +1,115 @@
--- Literals that are made of others (Tseitin 1968): each variable has a value of its own, or is the conjunction of two literals.
-use Rattle.std.specs.Prelude.{◌≡◌, ◌≢◌, ℕ, suc, ◌+◌, ◌<◌, ◌≤◌, ◌&&◌, ◌⊎◌, not, if◌then◌else◌, Bool, true, List, [], ◌∷◌, ◌++◌, map, All, length, slice_index_or, ℤ, pos, neg_ℤ, unsigned_abs, Some}
+-- Literals that are functions of others (Tseitin 1968): each variable has a value of its own, or is a function of four literals.
+use Rattle.std.specs.Prelude.{◌≡◌, ◌≢◌, ℕ, suc, ◌+◌, ◌<◌, ◌≤◌, ◌⊎◌, ◌&&◌, ◌==◌, Bool, true, not, List, length, slice_index_or, ℤ, pos, unsigned_abs, Some}
 use Rattle.std.specs.HashMap.{get}
 use Rattle.std.specs.Ordering.{int_eq}
 use Rattle.lrat.specs.Literals.{is_true, IsLiteral}
 use Rattle.cnf.specs.Meaning.{AreSatisfied}
+use Rattle.truth_tables.specs.Tables.{value}
+use Rattle.bmc.specs.declared.function.Function.{Function}
+use Rattle.bmc.specs.declared.function.Simplified.{Simplified}
+use Rattle.bmc.specs.declared.function.Simplified.TheVariants.{Literal, Same, Denial}
 use Rattle.bmc.specs.declared.encoder.Encoder.{Encoder}
 
--- whether each of the literals is true
-unfoldable pub all_true : (ℕ → Bool) → List ℤ → Bool
-all_true v [] = true
-all_true v (l ∷ ls) = is_true v l && all_true v ls
+-- the value of a truth table, for the values of these literals
+abbrev pub table_value : (ℕ → Bool) → ℕ → ℤ × ℤ × ℤ × ℤ → Bool
+table_value v t q = value t (is_true v q.0) (is_true v q.1) (is_true v q.2) (is_true v q.3)
 
--- the clauses by which the literal is the conjunction of these
-abbrev pub conjunction_clauses : ℤ → List ℤ → List (List ℤ)
-conjunction_clauses l sides = map (λ s. neg_ℤ l ∷ s ∷ []) sides ++ (l ∷ map neg_ℤ sides) ∷ []
+-- the function's value, for the values of its literals
+abbrev pub function_value : (ℕ → Bool) → Function → Bool
+function_value v f = table_value v f.table f.leaves
 
--- the clauses by which the literal is the negation of the second where the first is true, and else of the third
-abbrev pub selection_clauses : ℤ → ℤ → ℤ → ℤ → List (List ℤ)
-selection_clauses l s a b = (neg_ℤ l ∷ neg_ℤ s ∷ neg_ℤ a ∷ []) ∷ (l ∷ neg_ℤ s ∷ a ∷ []) ∷ (neg_ℤ l ∷ s ∷ neg_ℤ b ∷ []) ∷ (l ∷ s ∷ b ∷ []) ∷ []
+-- the literal is one of these
+abbrev pub IsAmong : ℤ × ℤ × ℤ × ℤ → ℤ → Type 0
+IsAmong q l = (q.0 ≡ l) ⊎ (q.1 ≡ l) ⊎ (q.2 ≡ l) ⊎ (q.3 ≡ l)
 
--- the negation of the second where the first is true, and else of the third (a multiplexer)
-abbrev pub selected : (ℕ → Bool) → ℤ → ℤ → ℤ → Bool
-selected v s a b = if is_true v s then not (is_true v a) else not (is_true v b)
+-- wherever the first variable is true the two functions have the same value
+abbrev pub IsSame : Function → Function → Type 0
+IsSame f g = (v : ℕ → Bool) → v 1 ≡ true → function_value v f ≡ function_value v g
 
--- the negations of two conjunctions together say the same as the selection of three of their literals
-pub record IsMultiplexer (p q : ℤ × ℤ) (s a b : ℤ) : Type 0 where
-  pub value : (v : ℕ → Bool) → (not (is_true v p.0 && is_true v p.1) && not (is_true v q.0 && is_true v q.1)) ≡ selected v s a b
-  pub selector : (s ≡ p.0) ⊎ (s ≡ p.1)
-  pub first : (a ≡ p.0) ⊎ (a ≡ p.1)
-  pub second : (b ≡ q.0) ⊎ (b ≡ q.1)
+-- something holds of each of the four
+abbrev pub OnFour : (ℤ → Type 0) → ℤ × ℤ × ℤ × ℤ → Type 0
+OnFour P q = P q.0 × P q.1 × P q.2 × P q.3
 
--- the two literals of which a variable is the conjunction, or zeros
-abbrev pub rights_at : List (ℤ × ℤ) → ℕ → ℤ × ℤ
-rights_at rs x = slice_index_or rs x (pos 0, pos 0)
+-- something holds of each of the function's literals
+abbrev pub OnLeaves : (ℤ → Type 0) → Function → Type 0
+OnLeaves P f = OnFour P f.leaves
 
-abbrev pub IsGate : List (ℤ × ℤ) → ℕ → Type 0
-IsGate rs x = (rights_at rs x).0 ≢ pos 0
+-- its literals are of the first n variables
+abbrev pub AreLeaves : ℕ → Function → Type 0
+AreLeaves n f = OnLeaves (IsLiteral n) f
 
--- the first variable is true, and each conjunction has its value
-pub record IsDefined (rs : List (ℤ × ℤ)) (v : ℕ → Bool) : Type 0 where
+-- what a function comes to has its value
+abbrev pub IsSimplified : Function → Simplified → Type 0
+IsSimplified f (Literal l) = (v : ℕ → Bool) → v 1 ≡ true → is_true v l ≡ function_value v f
+IsSimplified f (Same g) = IsSame f g
+IsSimplified f (Denial g) = (v : ℕ → Bool) → v 1 ≡ true → not (function_value v g) ≡ function_value v f
+
+-- its literals are of the first n variables
+abbrev pub AreSimplified : ℕ → Simplified → Type 0
+AreSimplified n (Literal l) = IsLiteral n l
+AreSimplified n (Same g) = AreLeaves n g
+AreSimplified n (Denial g) = AreLeaves n g
+
+abbrev pub no_function : Function
+no_function = record { table = 0; leaves = (pos 0, pos 0, pos 0, pos 0) }
+
+-- the function that a variable is, or none
+abbrev pub function_at : List Function → ℕ → Function
+function_at fs x = slice_index_or fs x no_function
+
+-- the variable is a function of four literals
+abbrev pub IsGate : List Function → ℕ → Type 0
+IsGate fs x = (function_at fs x).leaves.0 ≢ pos 0
+
+-- the first variable is true, and each that is a function has its value
+pub record IsDefined (fs : List Function) (v : ℕ → Bool) : Type 0 where
   pub truth : v 1 ≡ true
-  pub gates : (x : ℕ) → IsGate rs x → v x ≡ (is_true v (rights_at rs x).0 && is_true v (rights_at rs x).1)
+  pub gates : (x : ℕ) → IsGate fs x → v x ≡ function_value v (function_at fs x)
 
 -- a literal of a variable before this one
 abbrev pub IsBelow : ℕ → ℤ → Type 0
 IsBelow x l = (l ≢ pos 0) × (unsigned_abs l < x)
 
--- the variable is the conjunction of these literals, which come before it
-pub record AreSides (rs : List (ℤ × ℤ)) (x : ℕ) (sides : List ℤ) : Type 0 where
-  pub below : All (IsBelow x) sides
-  pub value : (v : ℕ → Bool) → IsDefined rs v → v x ≡ all_true v sides
+-- in each assignment in which the functions have their values the literal has this one's
+abbrev pub IsFunctionIn : List Function → Function → ℤ → Type 0
+IsFunctionIn fs f l = (v : ℕ → Bool) → IsDefined fs v → is_true v l ≡ function_value v f
 
--- the literal is true where its variable is, which is the conjunction of the pair
-pub record IsInner (rs : List (ℤ × ℤ)) (l : ℤ) (p : ℤ × ℤ) : Type 0 where
-  pub positive : l ≡ pos (unsigned_abs l)
-  pub gate : IsGate rs (unsigned_abs l)
-  pub sides : rights_at rs (unsigned_abs l) ≡ p
+-- each function is of literals before it
+abbrev pub AreBelow : List Function → Type 0
+AreBelow fs = (x : ℕ) → IsGate fs x → OnLeaves (IsBelow x) (function_at fs x)
 
--- in each assignment in which the conjunctions have their values the literal is that of two
-abbrev pub IsConjunctionIn : List (ℤ × ℤ) → ℤ → ℤ → ℤ → Type 0
-IsConjunctionIn rs a b l = (v : ℕ → Bool) → IsDefined rs v → is_true v l ≡ (is_true v a && is_true v b)
+abbrev pub same_function : Function → Function → Bool
+same_function f g = (f.table == g.table) && (((int_eq f.leaves.0 g.leaves.0 && int_eq f.leaves.1 g.leaves.1) && int_eq f.leaves.2 g.leaves.2) && int_eq f.leaves.3 g.leaves.3)
 
-abbrev pub same_pair : ℤ × ℤ → ℤ × ℤ → Bool
-same_pair p q = int_eq p.0 q.0 && int_eq p.1 q.1
-
--- each conjunction is of literals before it
-abbrev pub AreBelow : List (ℤ × ℤ) → Type 0
-AreBelow rs = (x : ℕ) → IsGate rs x → IsBelow x (rights_at rs x).0 × IsBelow x (rights_at rs x).1
-
--- the conjunctions are of variables in use, and the table has literals that it names rightly
+-- the functions are of variables in use, and the table has literals that it names rightly
 pub record IsEncoding (e : Encoder) : Type 0 where
   pub some : 1 ≤ e.variables
-  pub places : length e.rights.items ≤ suc e.variables
-  pub below : AreBelow e.rights.items
-  pub used : (x : ℕ) → IsGate e.rights.items x → x ≤ e.variables
-  pub conjunctions : (a b : ℤ) (x : ℕ) → get same_pair e.conjunctions (a, b) ≡ Some x → IsLiteral e.variables (pos x) × IsConjunctionIn e.rights.items a b (pos x)
+  pub places : length e.functions.items ≤ suc e.variables
+  pub below : AreBelow e.functions.items
+  pub used : (x : ℕ) → IsGate e.functions.items x → x ≤ e.variables
+  pub shared : (f : Function) (x : ℕ) → get same_function e.shared f ≡ Some x → IsLiteral e.variables (pos x) × IsFunctionIn e.functions.items f (pos x)
 
--- the later conjunctions, of k variables, say no more of the first n variables
-pub record IsExtended (n : ℕ) (rs : List (ℤ × ℤ)) (k : ℕ) (qs : List (ℤ × ℤ)) : Type 0 where
+-- the later functions, of k variables, say no more of the first n variables
+pub record IsExtended (n : ℕ) (fs : List Function) (k : ℕ) (gs : List Function) : Type 0 where
   pub more : n ≤ k
-  pub same : (x : ℕ) → x ≤ n → rights_at qs x ≡ rights_at rs x
-  pub weaker : (v : ℕ → Bool) → IsDefined qs v → IsDefined rs v
-  pub extends : (v : ℕ → Bool) → IsDefined rs v → (u : ℕ → Bool) × IsDefined qs u × ((x : ℕ) → x ≤ n → u x ≡ v x)
+  pub same : (x : ℕ) → x ≤ n → function_at gs x ≡ function_at fs x
+  pub weaker : (v : ℕ → Bool) → IsDefined gs v → IsDefined fs v
+  pub extends : (v : ℕ → Bool) → IsDefined fs v → (u : ℕ → Bool) × IsDefined gs u × ((x : ℕ) → x ≤ n → u x ≡ v x)
 
 -- the encoding is one still, with at most this number of variables more
 pub record IsGrown (most : ℕ) (e f : Encoder) : Type 0 where
   pub encoding : IsEncoding f
-  pub extended : IsExtended e.variables e.rights.items f.variables f.rights.items
+  pub extended : IsExtended e.variables e.functions.items f.variables f.functions.items
   pub few : f.variables ≤ e.variables + most
 
 -- what was made, and the clauses that a solver has
 pub record Told : Type 0 where
-  pub rights : List (ℤ × ℤ)
+  pub functions : List Function
   pub clauses : List (List ℤ)
 
 abbrev pub told : Encoder → List (List ℤ) → Told
-told e cs = record { rights = e.rights.items; clauses = cs }
+told e cs = record { functions = e.functions.items; clauses = cs }
 
--- the conjunctions have their values, and the clauses are satisfied
+-- the functions have their values, and the clauses are satisfied
 abbrev pub AreKept : (ℕ → Bool) → Told → Type 0
-AreKept v d = IsDefined d.rights v × AreSatisfied v d.clauses
-
--- the two literals' conjunction is the selection of three that come before them
-pub record IsSelection (rs : List (ℤ × ℤ)) (one other s a b : ℤ) : Type 0 where
-  pub value : (v : ℕ → Bool) → IsDefined rs v → (is_true v one && is_true v other) ≡ selected v s a b
-  pub below : (x : ℕ) → unsigned_abs one < x → unsigned_abs other < x → IsBelow x s × IsBelow x a × IsBelow x b
+AreKept v d = IsDefined d.functions v × AreSatisfied v d.clauses

@@ -26,7 +26,7 @@ pub record IsAt (m : Parts) (c : Cone) (u : Unrolling) (cs : List (List ℤ)) : 
 
 -- there are variables for this number of times more
 abbrev pub HasRoom : Cone → ℕ → Unrolling → ℕ → Type 0
-HasRoom c times u vars = u.encoder.variables + times * (length c.inputs.items + length c.gates.items) ≤ vars
+HasRoom c times u vars = u.encoder.variables + times * (length c.inputs.items + length c.cells.items) ≤ vars
 
 -- the literal has the bad literal's value at that time of each run that an assignment follows which satisfies the clauses
 abbrev pub StandsForBad : Parts → Cone → Leaves → Told → ℕ → ℤ → Type 0

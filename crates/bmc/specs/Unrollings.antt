@@ -8,6 +8,8 @@ use Rattle.graph.specs.Runs.{IsRun, KeepsConstraints}
 use Rattle.graph.specs.Justice.{at}
 use Rattle.lrat.specs.Literals.{is_true, IsLiteral}
 use Rattle.cnf.specs.Meaning.{KeepsNow}
+use Rattle.cuts.specs.declared.cut.Cut.{Cut}
+use Rattle.bmc.specs.declared.function.Function.{Function}
 use Rattle.bmc.specs.declared.cone.Cone.{Cone}
 use Rattle.bmc.specs.declared.encoder.Encoder.{Encoder}
 use Rattle.bmc.specs.Cones.{IsFilled, input_at, latch_at}
@@ -20,6 +22,10 @@ literal_at table k = slice_index_or table k (negsuc 0)
 -- the literal of clauses for a literal of the circuit, by a table of its variables
 abbrev pub literal_of : List ℤ → Lit → ℤ
 literal_of table a = if a.0 % 2 == 1 then neg_ℤ (literal_at table (variable a)) else literal_at table (variable a)
+
+-- the function of a table's literals that a cut is of its leaves
+abbrev pub by_table : List ℤ → Cut → Function
+by_table table c = record { table = c.table; leaves = (literal_at table c.leaves.0, literal_at table c.leaves.1, literal_at table c.leaves.2, literal_at table c.leaves.3) }
 
 -- the variables of the cone's k-th input and latch
 abbrev pub input_of : Parts → Cone → ℕ → ℕ
@@ -56,7 +62,7 @@ pub record AreStates (m : Parts) (c : Cone) (s : Leaves) (d : Told) (t n : ℕ) 
   pub literals : All (IsLiteral n) state
   pub stands : (k : ℕ) → k < length c.latches.items → Stands m c s d t (variable (latch_of m c k)) (literal_at state k)
 
--- literals of the first n variables, those of the first i inputs, j latches and g gates of the cone as they stand for these at a time
+-- literals of the first n variables, those of the first i inputs, j latches and g cells of the cone as they stand for these at a time
 pub record IsTable (m : Parts) (c : Cone) (s : Leaves) (d : Told) (t n i j g : ℕ) (table : List ℤ) : Type 0 where
   pub whole : length table ≡ m.max_var + 1
   pub literals : All (IsLiteral n) table
@@ -83,8 +89,8 @@ pub record IsUnrolled (m : Parts) (c : Cone) (s : Leaves) (state : List ℤ) (e 
   pub initial : AreInitial m c s.initial
   pub opened : length c.latches.items + 1 ≤ e.variables
   pub inputs : All (λ first. first + length c.inputs.items ≤ e.variables) s.firsts
-  pub free : (x : ℕ) → x ≤ length c.latches.items + 1 → IsGate e.rights.items x → ⊥
-  pub free_inputs : (t k : ℕ) → t < length s.firsts → k < length c.inputs.items → IsGate e.rights.items (slice_index_or s.firsts t 0 + (k + 1)) → ⊥
+  pub free : (x : ℕ) → x ≤ length c.latches.items + 1 → IsGate e.functions.items x → ⊥
+  pub free_inputs : (t k : ℕ) → t < length s.firsts → k < length c.inputs.items → IsGate e.functions.items (slice_index_or s.firsts t 0 + (k + 1)) → ⊥
   pub whole : length state ≡ length c.latches.items
   pub states : AreStates m c s (told e cs) (length s.firsts) e.variables state
   pub keeps : (r : List Valuation) (v : ℕ → Bool) → Follows m c s r v → AreKept v (told e cs) → (t : ℕ) → t < length s.firsts → t < length r → KeepsNow m (at r t)

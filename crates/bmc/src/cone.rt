@@ -3,14 +3,22 @@
 ghost use Rattle.std.specs.Prelude.{◌≡◌, ℕ, false, ◌+◌, ◌<◌, ◌≤◌, ◌∷◌, [], ◌++◌, length, map, slice_index, All, IfOk, OnOk};
 ghost use Rattle.graph.specs.Valuation.{variable, place};
 ghost use Rattle.cnf.specs.Tables.{IsTableOf};
-ghost use Rattle.cones.specs.Reach.{Grows, IsGateTable};
+ghost use Rattle.cones.specs.Reach.{Grows};
+ghost use Rattle.cuts.specs.Cuts.{AreCuts};
 ghost use Rattle.bmc.specs.Cones.{IsClosed, IsVisited, IsConeOf, ArePositions, AreOrdered, is_marked_input, is_marked_latch};
 
 use base::{Refused, filled, push};
 use cnf::NextTable;
-use cones::GateTable;
-use graph::{Gate, Latch, Lit, Model};
+use cuts::{Cut, cuts_of};
+use graph::{Latch, Lit, Model};
 use std::alloc::Global;
+
+/// A variable of a gate, and the cut by which it is encoded.
+#[derive(Clone, Copy, PartialEq, Eq)]
+pub struct Cell {
+    pub variable: u32,
+    pub cut: Cut,
+}
 
 /// What is encoded of each time.
 #[derive(Drop)]
@@ -19,16 +27,15 @@ pub struct Cone {
     pub inputs: Vec<u32>,
     /// the positions of its latches, in their order
     pub latches: Vec<u32>,
-    /// its gates, each after those that it reads
-    pub gates: Vec<Gate>,
+    /// those of its gates that are encoded, each after the leaves of its cut
+    pub cells: Vec<Cell>,
 }
 
-/// Marks the literal's variable, and adds it to the list where it was not marked.
-fn mark(marks: &mut [bool], list: &mut Vec<u32>, lit: Lit) -> Result<(), Refused>
-    requires { variable lit < length marks.old }
-    ensures { OnOk result (Grows (variable lit ∷ []) marks.old list.old.items marks.new list.new.items) }
+/// Marks the variable, and adds it to the list where it was not marked.
+fn mark(marks: &mut [bool], list: &mut Vec<u32>, variable: u32) -> Result<(), Refused>
+    requires { variable < length marks.old }
+    ensures { OnOk result (Grows (variable ∷ []) marks.old list.old.items marks.new list.new.items) }
 {
-    let variable = lit.variable();
     if !marks[variable as usize] {
         marks[variable as usize] = true;
         push(list, variable)?;
@@ -42,35 +49,36 @@ fn mark_all(marks: &mut [bool], list: &mut Vec<u32>, lits: &[Lit]) -> Result<(),
     ensures { OnOk result (Grows (map variable lits.now) marks.old list.old.items marks.new list.new.items) }
 {
     for lit in lits {
-        mark(marks, list, *lit)?;
+        mark(marks, list, lit.variable())?;
     }
     Ok(())
 }
 
-/// Marks what the listed variable depends on: a gate on its right sides, a latch on its next literal.
+/// Marks what the listed variable depends on: the leaves of its cut, and of a latch the next literal.
 fn visit(
     circuit: &Model,
-    gates: &GateTable,
+    cuts: &[Cut],
     nexts: &NextTable,
     marks: &mut [bool],
     list: &mut Vec<u32>,
     place: usize,
 ) -> Result<(), Refused>
-    requires gates { IsGateTable circuit.now gates.now }
+    requires cuts { AreCuts circuit.now cuts.now }
     requires nexts { IsTableOf circuit.now.latches nexts.now }
     requires places { length marks.old ≡ circuit.now.max_var + 1 }
     requires inside { place < length list.old.items }
     requires in_range { All (λ v. v < length marks.old) list.old.items }
     ensures grows { OnOk result (Grows [] marks.old list.old.items marks.new list.new.items) }
-    ensures visited { OnOk result (IsVisited circuit.now marks.new (slice_index list.old.items place)) }
+    ensures visited { OnOk result (IsVisited circuit.now cuts.now marks.new (slice_index list.old.items place)) }
 {
     circuit.well_formed();
     let variable = list[place];
-    mark(marks, list, nexts.next_of(Lit(2 * variable)))?;
-    if let Some(gate) = gates.gate_of(variable) {
-        mark(marks, list, gate.rhs0)?;
-        mark(marks, list, gate.rhs1)?;
-    }
+    mark(marks, list, nexts.next_of(Lit(2 * variable)).variable())?;
+    let (first, second, third, fourth) = cuts[variable as usize].leaves;
+    mark(marks, list, first)?;
+    mark(marks, list, second)?;
+    mark(marks, list, third)?;
+    mark(marks, list, fourth)?;
     Ok(())
 }
 
@@ -78,35 +86,42 @@ fn visit(
 fn mark_cone(
     alloc: Global,
     circuit: &Model,
+    cuts: &[Cut],
     nexts: &NextTable,
     marks: &mut [bool],
 ) -> Result<(), Refused>
     requires nexts { IsTableOf circuit.now.latches nexts.now }
     requires places { length marks.old ≡ circuit.now.max_var + 1 }
     requires clear { (v : ℕ) → place marks.old v ≡ false }
-    ensures { OnOk result (IsClosed circuit.now marks.new) }
+    requires cuts { AreCuts circuit.now cuts.now }
+    ensures { OnOk result (IsClosed circuit.now cuts.now marks.new) }
 {
     circuit.well_formed();
-    let gates = GateTable::new(alloc, circuit)?;
     let mut list = Vec::new(alloc);
     mark_all(marks, &mut list, circuit.bad())?;
     mark_all(marks, &mut list, circuit.constraints())?;
     let mut next: usize = 0;
     'closing: while next < list.len() {
-        visit(circuit, &gates, nexts, marks, &mut list, next)?;
+        visit(circuit, cuts, nexts, marks, &mut list, next)?;
         next += 1;
     }
     Ok(())
 }
 
 /// A mark for each variable of the cone.
-fn marks_of(alloc: Global, circuit: &Model, nexts: &NextTable) -> Result<Vec<bool>, Refused>
+fn marks_of(
+    alloc: Global,
+    circuit: &Model,
+    cuts: &[Cut],
+    nexts: &NextTable,
+) -> Result<Vec<bool>, Refused>
     requires nexts { IsTableOf circuit.now.latches nexts.now }
-    ensures { IfOk result (λ marks. IsClosed circuit.now marks.items) }
+    requires cuts { AreCuts circuit.now cuts.now }
+    ensures { IfOk result (λ marks. IsClosed circuit.now cuts.now marks.items) }
 {
     circuit.well_formed();
     let mut marks = filled(alloc, false, circuit.max_var() as usize + 1)?;
-    mark_cone(alloc, circuit, nexts, marks.as_mut_slice())?;
+    mark_cone(alloc, circuit, cuts, nexts, marks.as_mut_slice())?;
     Ok(marks)
 }
 
@@ -140,21 +155,28 @@ fn marked_latches(alloc: Global, marks: &[bool], latches: &[Latch]) -> Result<Ve
     Ok(positions)
 }
 
-/// The marked gates, each after those that it reads.
-fn marked_gates(alloc: Global, marks: &[bool], circuit: &Model) -> Result<Vec<Gate>, Refused>
+/// The marked gates with their cuts, each after its leaves.
+fn marked_cells(
+    alloc: Global,
+    marks: &[bool],
+    circuit: &Model,
+    cuts: &[Cut],
+) -> Result<Vec<Cell>, Refused>
     requires places { length marks.now ≡ circuit.now.max_var + 1 }
-    ensures { IfOk result (λ gates. AreOrdered circuit.now marks.now gates.items) }
+    requires cuts { AreCuts circuit.now cuts.now }
+    ensures { IfOk result (λ cells. AreOrdered circuit.now cuts.now marks.now cells.items) }
 {
     circuit.well_formed();
     let gates = circuit.gates();
-    let mut ordered = Vec::new(alloc);
+    let mut cells = Vec::new(alloc);
     for position in circuit.order() {
-        let gate = gates[*position as usize];
-        if marks[gate.lhs.variable() as usize] {
-            push(&mut ordered, gate)?;
+        let variable = gates[*position as usize].lhs.variable();
+        if marks[variable as usize] {
+            let cut = cuts[variable as usize];
+            push(&mut cells, Cell { variable, cut })?;
         }
     }
-    Ok(ordered)
+    Ok(cells)
 }
 
 /// The cone of the circuit's bad literals and constraints. It costs the circuit.
@@ -163,13 +185,14 @@ pub fn cone_of(alloc: Global, circuit: &Model, nexts: &NextTable) -> Result<Cone
     ensures { IfOk result (IsConeOf circuit.now) }
 {
     circuit.well_formed();
-    let marks = marks_of(alloc, circuit, nexts)?;
+    let cuts = cuts_of(alloc, circuit)?;
+    let marks = marks_of(alloc, circuit, cuts.as_slice(), nexts)?;
     let inputs = marked_inputs(alloc, marks.as_slice(), circuit.inputs())?;
     let latches = marked_latches(alloc, marks.as_slice(), circuit.latches())?;
-    let gates = marked_gates(alloc, marks.as_slice(), circuit)?;
+    let cells = marked_cells(alloc, marks.as_slice(), circuit, cuts.as_slice())?;
     Ok(Cone {
         inputs,
         latches,
-        gates,
+        cells,
     })
 }

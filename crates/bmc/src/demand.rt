@@ -1,24 +1,26 @@
-//! Conjunctions that are given to a solver where they are asked for.
+//! Functions that are given to a solver where they are asked for.
 
-ghost use Rattle.std.specs.Prelude.{◌≡◌, ◌+◌, ◌-◌, ◌<◌, ◌≤◌, ◌∷◌, [], length, map, slice_index, All, OnOk, IfErr, unsigned_abs};
+ghost use Rattle.std.specs.Prelude.{◌≡◌, ◌+◌, ◌-◌, ◌<◌, ◌≤◌, ◌∷◌, [], ◌++◌, ◌^◌, length, map, slice_index, All, OnOk, IfErr, unsigned_abs};
 ghost use Rattle.lrat.specs.Literals.{IsLiteral};
 ghost use Rattle.graph.specs.Valuation.{variable};
 ghost use Rattle.cones.specs.Marks.{IsMarked};
 ghost use Rattle.cones.specs.Reach.{Grows, IsFrom};
-ghost use Rattle.bmc.specs.Encodings.{IsEncoding, IsGate};
-ghost use Rattle.bmc.specs.Demands.{AreGiven, IsGivenOne, IsMore};
+ghost use Rattle.bmc.specs.Encodings.{IsEncoding, OnFour, AreLeaves};
+ghost use Rattle.bmc.specs.Demands.{AreGiven, IsGivenOne, IsMore, IsSaid, side_clause, cube_clause};
 ghost use Rattle.bmc.specs.Unrollings.{literal_of};
 ghost use Rattle.engine.specs.declared.engine_error.EngineError.TheVariants.{Limit};
 ghost use Rattle.solver.specs.Full.{full};
 
-use crate::clauses::{add_conjunction, add_selection, positive};
+use crate::clauses::{negated, positive};
 use crate::encoder::Encoder;
 use crate::frame::literal;
+use crate::function::Function;
 use base::{Refused, push};
 use engine::EngineError;
 use graph::Lit;
 use solver::Sat;
 use std::alloc::Global;
+use truth_tables::{Covers, Cube, Side, complement};
 
 /// Marks the literal's variable, and adds it to the list where it was not marked.
 fn want(marks: &mut [bool], list: &mut Vec<u32>, literal: i32) -> Result<(), Refused>
@@ -66,46 +68,88 @@ fn want_each(marks: &mut [bool], list: &mut Vec<u32>, literals: &[i32]) -> Resul
     Ok(())
 }
 
-/// The literals of a conjunction, and a clause of them: buffers that one conjunction leaves to the next.
-#[derive(Drop)]
-struct Buffers {
-    sides: Vec<i32>,
-    clause: Vec<i32>,
+/// Adds to the clause what is true where the leaf is not as the cube wants it.
+fn add_side(clause: &mut Vec<i32>, side: Side, leaf: i32) -> Result<(), Refused>
+    requires { unsigned_abs leaf < 2 ^ 31 }
+    ensures { OnOk result (clause.new.items ≡ clause.old.items ++ side_clause side leaf) }
+{
+    match side {
+        Side::Free => Ok(()),
+        Side::True => push(clause, negated(leaf)),
+        Side::False => push(clause, leaf),
+    }
 }
 
-/// Gives the solver the clauses of the variable, which is the conjunction of two literals, and marks what it depends on.
-fn give_conjunction<S: Sat>(
+/// Makes the clause by which the literal is true where the leaves are in the cube.
+fn fill_clause(
+    clause: &mut Vec<i32>,
+    literal: i32,
+    leaves: (i32, i32, i32, i32),
+    cube: &Cube,
+) -> Result<(), Refused>
+    requires { OnFour (λ l. unsigned_abs l < 2 ^ 31) leaves }
+    ensures { OnOk result (clause.new.items ≡ cube_clause literal leaves cube.now) }
+{
+    let (first, second, third, fourth) = leaves;
+    clause.clear();
+    push(clause, literal)?;
+    add_side(clause, cube.first, first)?;
+    add_side(clause, cube.second, second)?;
+    add_side(clause, cube.third, third)?;
+    add_side(clause, cube.fourth, fourth)
+}
+
+/// Gives the solver the clauses by which the literal is true where the leaves are in one of the cubes.
+fn add_cover<S: Sat>(
     solver: &mut S,
     alloc: Global,
-    encoder: &Encoder,
-    marks: &mut [bool],
-    list: &mut Vec<u32>,
-    buffers: &mut Buffers,
-    variable: u32,
+    literal: i32,
+    leaves: (i32, i32, i32, i32),
+    cubes: &[Cube],
+    clause: &mut Vec<i32>,
 ) -> Result<(), EngineError>
-    requires encoding { IsEncoding encoder.now }
-    requires places { length marks.old ≡ S.vars solver.old + 1 }
+    requires literal { IsLiteral (S.vars solver.old) literal }
+    requires leaves { OnFour (IsLiteral (S.vars solver.old)) leaves }
     requires small { S.vars solver.old ≤ 2147483647 }
-    requires range { encoder.now.variables < length marks.old }
-    requires gate { IsGate encoder.now.rights.items variable }
-    requires marked { IsMarked marks.old variable }
     ensures vars { S.vars solver.new ≡ S.vars solver.old }
-    ensures grows { OnOk result (Grows [] marks.old list.old.items marks.new list.new.items) }
-    ensures given { OnOk result (IsGivenOne encoder.now marks.old marks.new (S.clauses solver.old) (S.clauses solver.new) variable) }
+    ensures clauses { OnOk result (S.clauses solver.new ≡ S.clauses solver.old ++ map (cube_clause literal leaves) cubes.now) }
     ensures limit { IfErr result (λ e. e ≡ Limit full → S.is_full solver.new) }
 {
-    let (one, other) = encoder.rights_of(variable);
-    encoder.sides_of(marks, one, other, &mut buffers.sides)?;
-    let sides = buffers.sides.as_slice();
-    add_conjunction(
+    for cube in cubes {
+        fill_clause(clause, literal, leaves, cube)?;
+        solver.add(alloc, clause)?;
+    }
+    Ok(())
+}
+
+/// Gives the solver the clauses by which the literal has the function's value: those of a cover of the function, and those of a
+/// cover of its complement.
+fn add_function<S: Sat>(
+    solver: &mut S,
+    alloc: Global,
+    literal: i32,
+    function: Function,
+    covers: &mut Covers,
+    clause: &mut Vec<i32>,
+) -> Result<(), EngineError>
+    requires literal { IsLiteral (S.vars solver.old) literal }
+    requires leaves { AreLeaves (S.vars solver.old) function }
+    requires small { S.vars solver.old ≤ 2147483647 }
+    ensures vars { S.vars solver.new ≡ S.vars solver.old }
+    ensures said { OnOk result (IsSaid literal function (S.clauses solver.old) (S.clauses solver.new)) }
+    ensures limit { IfErr result (λ e. e ≡ Limit full → S.is_full solver.new) }
+{
+    let on = covers.of(alloc, function.table)?;
+    add_cover(solver, alloc, literal, function.leaves, on, clause)?;
+    let off = covers.of(alloc, complement(function.table))?;
+    add_cover(
         solver,
         alloc,
-        positive(variable),
-        sides,
-        &mut buffers.clause,
-    )?;
-    want_each(marks, list, sides)?;
-    Ok(())
+        negated(literal),
+        function.leaves,
+        off,
+        clause,
+    )
 }
 
 /// Gives the solver the clauses of the listed variable, and marks what it depends on.
@@ -113,9 +157,10 @@ fn give_one<S: Sat>(
     solver: &mut S,
     alloc: Global,
     encoder: &Encoder,
+    covers: &mut Covers,
     marks: &mut [bool],
     list: &mut Vec<u32>,
-    buffers: &mut Buffers,
+    clause: &mut Vec<i32>,
     place: usize,
 ) -> Result<(), EngineError>
     requires encoding { IsEncoding encoder.now }
@@ -130,26 +175,23 @@ fn give_one<S: Sat>(
     ensures limit { IfErr result (λ e. e ≡ Limit full → S.is_full solver.new) }
 {
     let variable = list[place];
-    let (one, other) = encoder.rights_of(variable);
-    if one == 0 {
+    let function = encoder.function_of(variable);
+    let (first, second, third, fourth) = function.leaves;
+    if first == 0 {
         return Ok(());
     }
-    if let Some((selector, first, second)) = encoder.selection(one, other) {
-        add_selection(solver, alloc, positive(variable), selector, first, second)?;
-        want(marks, list, selector)?;
-        want(marks, list, first)?;
-        want(marks, list, second)?;
-        return Ok(());
-    }
-    give_conjunction(solver, alloc, encoder, marks, list, buffers, variable)
+    add_function(solver, alloc, positive(variable), function, covers, clause)?;
+    want_each(marks, list, &[first, second, third, fourth])?;
+    Ok(())
 }
 
-/// Gives the solver the conjunctions on which the constraints and the bad literals depend, where it
+/// Gives the solver the functions on which the constraints and the bad literals depend, where it
 /// has not got them.
 pub fn give<S: Sat>(
     solver: &mut S,
     alloc: Global,
     encoder: &Encoder,
+    covers: &mut Covers,
     marks: &mut [bool],
     table: &[i32],
     constraints: &[Lit],
@@ -165,21 +207,27 @@ pub fn give<S: Sat>(
     ensures vars { S.vars solver.new ≡ S.vars solver.old }
     ensures places { length marks.new ≡ length marks.old }
     ensures given { OnOk result (AreGiven encoder.now marks.new (S.clauses solver.new)) }
-    ensures more { OnOk result (IsMore encoder.now.rights.items (S.clauses solver.old) (S.clauses solver.new)) }
+    ensures more { OnOk result (IsMore encoder.now.functions.items (S.clauses solver.old) (S.clauses solver.new)) }
     ensures constraints { OnOk result (All (λ a. IsMarked marks.new (unsigned_abs (literal_of table.now a))) constraints.now) }
     ensures bad { OnOk result (All (λ a. IsMarked marks.new (unsigned_abs (literal_of table.now a))) bad.now) }
     ensures limit { IfErr result (λ e. e ≡ Limit full → S.is_full solver.new) }
 {
     let mut list = Vec::new(alloc);
-    let mut buffers = Buffers {
-        sides: Vec::new(alloc),
-        clause: Vec::new(alloc),
-    };
+    let mut clause = Vec::new(alloc);
     want_all(marks, &mut list, table, constraints)?;
     want_all(marks, &mut list, table, bad)?;
     let mut next: usize = 0;
     'giving: while next < list.len() {
-        give_one(solver, alloc, encoder, marks, &mut list, &mut buffers, next)?;
+        give_one(
+            solver,
+            alloc,
+            encoder,
+            covers,
+            marks,
+            &mut list,
+            &mut clause,
+            next,
+        )?;
         next += 1;
     }
     Ok(())

@@ -4,20 +4,31 @@ ghost use Rattle.std.specs.Prelude.{◌≡◌, ℕ, ℤ, List, ◌+◌, ◌<◌,
 ghost use Rattle.lrat.specs.Literals.{IsLiteral};
 ghost use Rattle.lrat.specs.Shared.{unit_clauses};
 ghost use Rattle.graph.specs.Valuation.{variable};
+ghost use Rattle.cuts.specs.Cuts.{IsLeaf};
 ghost use Rattle.bmc.specs.Cones.{IsConeOf};
 ghost use Rattle.bmc.specs.Encodings.{IsEncoding, IsGrown, Told, told};
-ghost use Rattle.bmc.specs.Unrollings.{Leaves, IsTable, AreFresh, AreStates, literal_of};
+ghost use Rattle.bmc.specs.Unrollings.{Leaves, IsTable, AreFresh, AreStates, by_table, literal_at, literal_of};
 ghost use Rattle.engine.specs.declared.engine_error.EngineError.TheVariants.{Limit};
 ghost use Rattle.solver.specs.Full.{full};
 
 use crate::clauses::{add_one, negated, positive};
 use crate::cone::Cone;
 use crate::encoder::Encoder;
+use crate::function::Function;
 use base::Refused;
+use cuts::Cut;
 use engine::EngineError;
 use graph::{Lit, Model};
 use solver::Sat;
 use std::alloc::Global;
+
+/// The literal at a place.
+pub fn entry(literals: &[i32], place: u32) -> i32
+    requires { place < length literals.now }
+    ensures { result ≡ literal_at literals.now place }
+{
+    literals[place as usize]
+}
 
 /// The literal of clauses for a literal of the circuit.
 pub fn literal(table: &[i32], lit: Lit) -> i32
@@ -68,8 +79,25 @@ pub fn fill_latches(circuit: &Model, cone: &Cone, state: &[i32], table: &mut [i3
     }
 }
 
-/// Makes the literal of the cone's gate at this place.
-fn encode_gate(
+/// The function of the table's literals that the cut is of its leaves.
+fn function_of(table: &[i32], cut: Cut) -> Function
+    requires { (u : ℕ) → IsLeaf cut u → u < length table.now }
+    ensures { result ≡ by_table table.now cut }
+{
+    let (first, second, third, fourth) = cut.leaves;
+    Function {
+        table: cut.table,
+        leaves: (
+            entry(table, first),
+            entry(table, second),
+            entry(table, third),
+            entry(table, fourth),
+        ),
+    }
+}
+
+/// Makes the literal of the cone's cell at this place.
+fn encode_cell(
     circuit: &Model,
     cone: &Cone,
     encoder: &mut Encoder,
@@ -77,7 +105,7 @@ fn encode_gate(
     place: usize,
 ) -> Result<(), Refused>
     requires cone { IsConeOf circuit.now cone.now }
-    requires inside { place < length cone.now.gates.items }
+    requires inside { place < length cone.now.cells.items }
     requires whole { length table.old ≡ circuit.now.max_var + 1 }
     requires literals { All (IsLiteral encoder.old.variables) table.old }
     requires encoding { IsEncoding encoder.old }
@@ -89,15 +117,13 @@ fn encode_gate(
         OnOk result (IsTable circuit.now cone.now s (told encoder.new cs) t encoder.new.variables (length cone.now.inputs.items) (length cone.now.latches.items) (place + 1) table.new) }
 {
     circuit.well_formed();
-    let gate = cone.gates[place];
-    let one = literal(table, gate.rhs0);
-    let other = literal(table, gate.rhs1);
-    table[gate.lhs.variable() as usize] = encoder.and(one, other)?;
+    let cell = cone.cells[place];
+    table[cell.variable as usize] = encoder.literal(function_of(table, cell.cut))?;
     Ok(())
 }
 
-/// Makes the literals of the cone's gates.
-pub fn encode_gates(
+/// Makes the literals of the cone's cells.
+pub fn encode_cells(
     circuit: &Model,
     cone: &Cone,
     encoder: &mut Encoder,
@@ -107,15 +133,15 @@ pub fn encode_gates(
     requires whole { length table.old ≡ circuit.now.max_var + 1 }
     requires literals { All (IsLiteral encoder.old.variables) table.old }
     requires encoding { IsEncoding encoder.old }
-    requires room { encoder.old.variables + length cone.now.gates.items ≤ 2147483647 }
-    ensures grown { OnOk result (IsGrown (length cone.now.gates.items) encoder.old encoder.new) }
+    requires room { encoder.old.variables + length cone.now.cells.items ≤ 2147483647 }
+    ensures grown { OnOk result (IsGrown (length cone.now.cells.items) encoder.old encoder.new) }
     ensures whole { length table.new ≡ length table.old }
     ensures literals { OnOk result (All (IsLiteral encoder.new.variables) table.new) }
     ensures table { (s : Leaves) (cs : List (List ℤ)) (t : ℕ) → IsTable circuit.now cone.now s (told encoder.old cs) t encoder.old.variables (length cone.now.inputs.items) (length cone.now.latches.items) 0 table.old →
-        OnOk result (IsTable circuit.now cone.now s (told encoder.new cs) t encoder.new.variables (length cone.now.inputs.items) (length cone.now.latches.items) (length cone.now.gates.items) table.new) }
+        OnOk result (IsTable circuit.now cone.now s (told encoder.new cs) t encoder.new.variables (length cone.now.inputs.items) (length cone.now.latches.items) (length cone.now.cells.items) table.new) }
 {
-    for place in 0..cone.gates.len() {
-        encode_gate(circuit, cone, encoder, table, place)?;
+    for place in 0..cone.cells.len() {
+        encode_cell(circuit, cone, encoder, table, place)?;
     }
     Ok(())
 }

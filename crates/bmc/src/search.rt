@@ -88,7 +88,7 @@ fn reach<S: Sat>(
     ensures times { IfOk result (λ found. found ≡ None → length unrolling.new.firsts.items ≡ steps + 1) }
     ensures places { IfOk result (λ found. found ≡ None → length unrolling.new.given.items ≡ length unrolling.old.given.items) }
     ensures few { IfOk result (λ found. found ≡ None →
-        unrolling.new.encoder.variables ≤ unrolling.old.encoder.variables + (length cone.now.inputs.items + length cone.now.gates.items)) }
+        unrolling.new.encoder.variables ≤ unrolling.old.encoder.variables + (length cone.now.inputs.items + length cone.now.cells.items)) }
     ensures lawful { IfOk result (IsOfSteps circuit.now steps budget.new) }
     ensures limit { IfErr result (λ e. e ≡ Limit full → S.is_full solver.new) }
 {

@@ -17,13 +17,14 @@ use crate::clauses::{add_one, positive};
 use crate::cone::Cone;
 use crate::demand::give;
 use crate::encoder::Encoder;
-use crate::frame::{add_units, encode_gates, fill_inputs, fill_latches, literal};
+use crate::frame::{add_units, encode_cells, entry, fill_inputs, fill_latches, literal};
 use base::{Refused, filled, push};
 use cnf::NextTable;
 use engine::EngineError;
 use graph::{Latch, Model};
 use solver::Sat;
 use std::alloc::Global;
+use truth_tables::Covers;
 
 /// What is known of the times that were encoded.
 #[derive(Drop)]
@@ -39,6 +40,8 @@ pub struct Unrolling {
     pub table: Vec<i32>,
     /// for each variable whether the solver has the clauses of what it depends on
     pub given: Vec<bool>,
+    /// the covers of the functions that were given
+    pub covers: Covers,
 }
 
 /// The constant that the latch is reset to, or what is false.
@@ -46,14 +49,6 @@ fn constant(latch: Latch) -> i32
     ensures { result ≡ constant_of latch }
 {
     if latch.reset.0 == 1 { 1 } else { -1 }
-}
-
-/// The literal at a place.
-fn entry(literals: &[i32], place: u32) -> i32
-    requires { place < length literals.now }
-    ensures { result ≡ literal_at literals.now place }
-{
-    literals[place as usize]
 }
 
 /// The constants that the latches are reset to, and what is false for the others.
@@ -153,7 +148,7 @@ pub fn begin<S: Sat>(
 {
     circuit.well_formed();
     let used = cone.latches.len() as u32 + 1;
-    let each = cone.inputs.len() as u32 + cone.gates.len() as u32;
+    let each = cone.inputs.len() as u32 + cone.cells.len() as u32;
     let places = used + times * each;
     solver.reset(alloc, places)?;
     add_one(solver, alloc, 1)?;
@@ -169,6 +164,7 @@ pub fn begin<S: Sat>(
         state,
         table,
         given,
+        covers: Covers::new(alloc),
     })
 }
 
@@ -181,6 +177,7 @@ fn encode_frame<S: Sat>(
     cone: &Cone,
     nexts: &NextTable,
     encoder: &mut Encoder,
+    covers: &mut Covers,
     state: &mut [i32],
     table: &mut [i32],
     given: &mut [bool],
@@ -193,7 +190,7 @@ fn encode_frame<S: Sat>(
     requires states { All (IsLiteral encoder.old.variables) state.old }
     requires encoding { IsEncoding encoder.old }
     requires given { AreGiven encoder.old given.old (S.clauses solver.old) }
-    requires room { encoder.old.variables + (length cone.now.inputs.items + length cone.now.gates.items) ≤ S.vars solver.old }
+    requires room { encoder.old.variables + (length cone.now.inputs.items + length cone.now.cells.items) ≤ S.vars solver.old }
     requires places { length given.old ≡ S.vars solver.old + 1 }
     requires small { S.vars solver.old ≤ 2147483647 }
     ensures vars { S.vars solver.new ≡ S.vars solver.old }
@@ -201,13 +198,13 @@ fn encode_frame<S: Sat>(
     ensures lengths { length state.new ≡ length state.old }
     ensures marks { length given.new ≡ length given.old }
     ensures literals { OnOk result (All (IsLiteral encoder.new.variables) table.new) }
-    ensures few { OnOk result (encoder.new.variables ≤ encoder.old.variables + (length cone.now.inputs.items + length cone.now.gates.items)) }
+    ensures few { OnOk result (encoder.new.variables ≤ encoder.old.variables + (length cone.now.inputs.items + length cone.now.cells.items)) }
     ensures given { OnOk result (AreGiven encoder.new given.new (S.clauses solver.new)) }
     ensures bad { OnOk result (All (λ a. IsMarked given.new (unsigned_abs (literal_of table.new a))) circuit.now.bad) }
     ensures next { (s : Leaves) → IsUnrolled circuit.now cone.now s state.old encoder.old (S.clauses solver.old) →
         OnOk result (IsUnrolled circuit.now cone.now (later s encoder.old.variables) state.new encoder.new (S.clauses solver.new)
         × IsTable circuit.now cone.now (later s encoder.old.variables) (told encoder.new (S.clauses solver.new)) (length s.firsts) encoder.new.variables
-        (length cone.now.inputs.items) (length cone.now.latches.items) (length cone.now.gates.items) table.new) }
+        (length cone.now.inputs.items) (length cone.now.latches.items) (length cone.now.cells.items) table.new) }
     ensures limit { IfErr result (λ e. e ≡ Limit full → S.is_full solver.new) }
 {
     circuit.well_formed();
@@ -216,11 +213,12 @@ fn encode_frame<S: Sat>(
     table[0] = -1;
     fill_inputs(circuit, cone, first, table);
     fill_latches(circuit, cone, state, table);
-    encode_gates(circuit, cone, encoder, table)?;
+    encode_cells(circuit, cone, encoder, table)?;
     give(
         solver,
         alloc,
         encoder,
+        covers,
         given,
         table,
         circuit.constraints(),
@@ -251,9 +249,9 @@ impl Unrolling {
         ensures at { OnOk result (IsAt circuit.now cone.now self.new (S.clauses solver.new)) }
         ensures bad { OnOk result (All (λ a. IsMarked self.new.given.items (unsigned_abs (literal_of self.new.table.items a))) circuit.now.bad) }
         ensures stands { OnOk result (IsTable circuit.now cone.now (leaves_of self.new) (told self.new.encoder (S.clauses solver.new)) (length self.old.firsts.items) self.new.encoder.variables
-            (length cone.now.inputs.items) (length cone.now.latches.items) (length cone.now.gates.items) self.new.table.items) }
+            (length cone.now.inputs.items) (length cone.now.latches.items) (length cone.now.cells.items) self.new.table.items) }
         ensures more { OnOk result (length self.new.firsts.items ≡ length self.old.firsts.items + 1) }
-        ensures few { OnOk result (self.new.encoder.variables ≤ self.old.encoder.variables + (length cone.now.inputs.items + length cone.now.gates.items)) }
+        ensures few { OnOk result (self.new.encoder.variables ≤ self.old.encoder.variables + (length cone.now.inputs.items + length cone.now.cells.items)) }
         ensures places { OnOk result (length self.new.given.items ≡ length self.old.given.items) }
         ensures limit { IfErr result (λ e. e ≡ Limit full → S.is_full solver.new) }
     {
@@ -265,6 +263,7 @@ impl Unrolling {
             cone,
             nexts,
             &mut self.encoder,
+            &mut self.covers,
             self.state.as_mut_slice(),
             self.table.as_mut_slice(),
             self.given.as_mut_slice(),

@@ -20,12 +20,12 @@ mark_all-requires-2 c = λ k d k_in.
 
 pub closing-init : goal.closing-init
 closing-init c =
-    closing_begins c.args.circuit.now c.args.marks.now c.mark_all.new.marks c.mark_all-2.new.marks c.mark_all.new.list.items c.mark_all-2.new.list.items c.requires.places c.requires.clear
+    closing_begins c.args.circuit.now c.args.cuts.now c.args.marks.now c.mark_all.new.marks c.mark_all-2.new.marks c.mark_all.new.list.items c.mark_all-2.new.list.items c.requires.places c.requires.clear
     (rw (c.new-list.ensures.items, c.bad.ensures) at c.in_ok-mark_all.ensures) (rw c.constraints.ensures at c.in_ok-mark_all-2.ensures)
 
 pub closing-preserved : goal.closing-preserved
 closing-preserved c =
-    closing_more c.args.circuit.now c.closing.marks c.visit.new.marks c.closing.list.items c.visit.new.list.items c.closing.next c.closing.invariant (omega arith) c.in_ok-visit.ensures.grows c.in_ok-visit.ensures.visited
+    closing_more c.args.circuit.now c.args.cuts.now c.closing.marks c.visit.new.marks c.closing.list.items c.visit.new.list.items c.closing.next c.closing.invariant (omega arith) c.in_ok-visit.ensures.grows c.in_ok-visit.ensures.visited
 
 pub returns : goal.returns
-returns c = closing_ends c.args.circuit.now c.closing.marks c.closing.list.items c.closing.next (omega arith) c.closing.invariant
+returns c = closing_ends c.args.circuit.now c.args.cuts.now c.closing.marks c.closing.list.items c.closing.next (omega arith) c.closing.invariant

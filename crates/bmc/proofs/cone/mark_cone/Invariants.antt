@@ -4,7 +4,7 @@ use Rattle.bmc.proofs.Closed.{IsClosing}
 use Rattle.bmc.proofs.cone.mark_cone.Given as goal
 
 abbrev pub invariant-closing : goal.invariant-closing
-invariant-closing l = IsClosing l.circuit l.marks l.list.items l.next
+invariant-closing l = IsClosing l.circuit l.cuts l.marks l.list.items l.next
 
 abbrev pub decreases-closing : goal.decreases-closing
 decreases-closing l = sum_by idle l.marks + (length l.list.items - l.next)

@@ -1,12 +1,12 @@
 use Rattle.std.proofs.Common.{◌≡◌, ◌-◌, ◌≤◌, ℕ, length}
-use Rattle.bmc.specs.Encodings.{rights_at}
+use Rattle.bmc.specs.Encodings.{function_at}
 use Rattle.bmc.proofs.encoder.fill.Given as goal
 
-abbrev pub invariant-loop-rights : goal.invariant-loop-rights
-invariant-loop-rights l = record {
-  short : length l.rights.items ≤ l.len;
-  same : (x : ℕ) → rights_at l.rights.items x ≡ rights_at l.initial.rights.items x;
+abbrev pub invariant-loop-functions : goal.invariant-loop-functions
+invariant-loop-functions l = record {
+  short : length l.functions.items ≤ l.len;
+  same : (x : ℕ) → function_at l.functions.items x ≡ function_at l.initial.functions.items x;
 }
 
-abbrev pub decreases-loop-rights : goal.decreases-loop-rights
-decreases-loop-rights l = l.len - length l.rights.items
+abbrev pub decreases-loop-functions : goal.decreases-loop-functions
+decreases-loop-functions l = l.len - length l.functions.items

@@ -51,7 +51,7 @@ run_of-requires-clause-model g c =
     let inside : variable (bad_literal m 0) < m.max_var + 1 = omega (arith, p) in
     let table = rw c.requires.times at c.in_ok-encode.ensures.stands in
     let stands : StandsForBad m cone (leaves_of u) (told u.encoder cs) steps l =
-    literal_stands m cone (leaves_of u) (told u.encoder cs) steps n (length cone.inputs.items) (length cone.latches.items) (length cone.gates.items) u.table.items (bad_literal m 0) table (c.requires.cone.bad 0 (record { 0 = 0 }) (some_bad m c.requires.for_bad)) inside in
+    literal_stands m cone (leaves_of u) (told u.encoder cs) steps n (length cone.inputs.items) (length cone.latches.items) (length cone.cells.items) u.table.items (bad_literal m 0) table (c.requires.cone.bad 0 (record { 0 = 0 }) (some_bad m c.requires.for_bad)) inside in
     let model : IsModel vars cs (l ∷ []) c.in-Model.values.items = rw (c.in-Model.is, read_as _ _ f l_is) at c.in_ok-values.ensures.lawful in
     record {
       clauses = cs;
@@ -81,6 +81,6 @@ returns-in-Core-clause-lawful g c =
     let inside : variable (bad_literal m 0) < m.max_var + 1 = omega (arith, p) in
     let table = rw c.requires.times at c.in_ok-encode.ensures.stands in
     let stands : StandsForBad m cone (leaves_of u) (told u.encoder cs) steps l =
-    literal_stands m cone (leaves_of u) (told u.encoder cs) steps n (length cone.inputs.items) (length cone.latches.items) (length cone.gates.items) u.table.items (bad_literal m 0) table (c.requires.cone.bad 0 (record { 0 = 0 }) (some_bad m c.requires.for_bad)) inside in
+    literal_stands m cone (leaves_of u) (told u.encoder cs) steps n (length cone.inputs.items) (length cone.latches.items) (length cone.cells.items) u.table.items (bad_literal m 0) table (c.requires.cone.bad 0 (record { 0 = 0 }) (some_bad m c.requires.for_bad)) inside in
     let core : IsCore cs (l ∷ []) c.in-Core.field-0.items = rw (c.in-Core.is, read_as _ _ f l_is) at c.in_ok-values.ensures.lawful in
     core_unset m cone (leaves_of u) u.state.items u.encoder cs steps l c.in-Core.field-0.items c.in_ok-encode.ensures.at.unrolled (c.in_ok-encode.ensures.more ∙ ap (λ q. q + 1) c.requires.times) stands core

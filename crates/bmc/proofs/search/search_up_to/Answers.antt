@@ -6,7 +6,7 @@ use Rattle.bmc.proofs.search.search_up_to.Goals as goal
 pub reach-requires-clause-room : goal.reach-requires-clause-room
 reach-requires-clause-room g c =
     let a : ℕ = c.deepening.unrolling.encoder.variables in
-    let each : ℕ = length c.in_ok-cone.cone.inputs.items + length c.in_ok-cone.cone.gates.items in
+    let each : ℕ = length c.in_ok-cone.cone.inputs.items + length c.in_ok-cone.cone.cells.items in
     let vars : ℕ = g.S.Sat.vars c.deepening.solver in
     let k : ℕ = c.args.depth - c.deepening.steps in
     let e : c.args.depth + 1 - c.deepening.steps ≡ k + 1 = omega arith in
@@ -17,7 +17,7 @@ deepening-preserved g c =
     let m = c.args.circuit.now in
     let a : ℕ = c.deepening.unrolling.encoder.variables in
     let b : ℕ = c.reach.new.unrolling.encoder.variables in
-    let each : ℕ = length c.in_ok-cone.cone.inputs.items + length c.in_ok-cone.cone.gates.items in
+    let each : ℕ = length c.in_ok-cone.cone.inputs.items + length c.in_ok-cone.cone.cells.items in
     let vars : ℕ = g.S.Sat.vars c.deepening.solver in
     let k : ℕ = c.args.depth - c.deepening.steps in
     let e : c.args.depth + 1 - c.deepening.steps ≡ k + 1 = omega arith in
@@ -38,7 +38,7 @@ pub deepening-init : goal.deepening-init
 deepening-init g c = record {
   small = c.in_ok-unrolling.ensures.small;
   room =
-      let each : ℕ = length c.in_ok-cone.cone.inputs.items + length c.in_ok-cone.cone.gates.items in
+      let each : ℕ = length c.in_ok-cone.cone.inputs.items + length c.in_ok-cone.cone.cells.items in
       let all : c.args.depth + 1 ≡ c.args.depth + 1 - 0 = omega arith in
       subst (λ q. c.in_ok-unrolling.unrolling.encoder.variables + q * each ≤ g.S.Sat.vars c.begin.new.solver) all c.in_ok-unrolling.ensures.room;
   at = c.in_ok-unrolling.ensures.at;

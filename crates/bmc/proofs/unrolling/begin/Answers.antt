@@ -2,7 +2,7 @@ use Rattle.std.proofs.Common.{rules, ◌≡◌, ◌≤◌, ℕ, suc, ◌+◌, �
 use Rattle.std.proofs.lemmas.List.{get_or-replicate, length-replicate}
 use Rattle.lrat.specs.Literals.{IsLiteral}
 use Rattle.bmc.specs.Unrollings.{literal_at}
-use Rattle.bmc.specs.Encodings.{rights_at, IsGate}
+use Rattle.bmc.specs.Encodings.{function_at, IsGate}
 use Rattle.bmc.proofs.Demanded.{given_begins}
 use Rattle.bmc.proofs.Encoded.{false_literal}
 use Rattle.bmc.proofs.Unrolled.{unrolled_begins}
@@ -18,9 +18,9 @@ returns-clause-at g c =
     let count : e.variables ≡ length cone.latches.items + 1 = search rules in
     let cs_is : cs ≡ (pos 1 ∷ []) ∷ [] = c.in_ok-add_one.ensures.clauses ∙ ap (λ q. q ++ (pos 1 ∷ []) ∷ []) c.in_ok-reset.ensures.clauses in
     let state_is : c.in_ok-state.state.items ≡ map (literal_at initial) cone.latches.items = c.in_ok-state.ensures ∙ ap (λ q. map (literal_at q) cone.latches.items) c.deref.ensures.value in
-    let rights_is : e.rights.items ≡ [] = c.new-encoder.ensures.rights in
-    let free : (x : ℕ) → IsGate e.rights.items x → ⊥ = λ x gate. gate (ap (λ q. (rights_at q x).0) rights_is) in
-    let room : length e.rights.items ≤ suc e.variables = omega (arith, ap length rights_is) in
+    let functions_is : e.functions.items ≡ [] = c.new-encoder.ensures.functions in
+    let free : (x : ℕ) → IsGate e.functions.items x → ⊥ = λ x gate. gate (ap (λ q. (function_at q x).leaves.0) functions_is) in
+    let room : length e.functions.items ≤ suc e.variables = omega (arith, ap length functions_is) in
     let begins = unrolled_begins m cone initial e cs c.well_formed-2.ensures c.requires.cone c.in_ok-initial.ensures count c.new-encoder.ensures.none room free cs_is in
     let n = c.max_var.result + 1 in
     let table_is : c.in_ok-table.table.items ≡ replicate n (negsuc 0) = c.in_ok-table.ensures in
