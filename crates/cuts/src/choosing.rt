@@ -12,7 +12,7 @@ use base::{Refused, filled};
 use graph::{Gate, Model};
 use std::alloc::Global;
 
-/// The cut, or the other one if there is one that costs less.
+/// The other cut, if there is one that costs no more, and else this one.
 fn cheaper(flows: &[u32], cut: Cut, other: Option<Cut>) -> Cut
     requires cut { IsInside (length flows.now) cut }
     requires other { IfSome other (IsInside (length flows.now)) }
@@ -20,12 +20,13 @@ fn cheaper(flows: &[u32], cut: Cut, other: Option<Cut>) -> Cut
     ensures inside { IsInside (length flows.now) result }
 {
     match other {
-        Some(other) if cost(flows, other) < cost(flows, cut) => other,
+        Some(other) if cost(flows, other) <= cost(flows, cut) => other,
         _ => cut,
     }
 }
 
-/// The gate's cheapest cut: of each right side either its variable's cut or the variable itself goes into it.
+/// The gate's cheapest cut: of each right side either its variable's cut or the variable itself goes into it. Of cuts that cost
+/// the same it is the one with more gates inside, so that fewer variables are left.
 fn cheapest(gate: Gate, cuts: &[Cut], flows: &[u32]) -> Cut
     requires places { length cuts.now ≡ length flows.now }
     requires first { variable gate.rhs0 < length cuts.now }

@@ -9,17 +9,20 @@ use base::{Refused, filled};
 use graph::{Gate, Latch, Lit, Model};
 use std::alloc::Global;
 
-/// What one more leaf costs.
+/// What a variable of its own costs.
 const UNIT: u32 = 64;
 
-/// What a leaf adds to the cost of a cut: one more leaf, and the variable's share of the cost of its own cut.
+/// What a leaf costs: a function has some two clauses for each.
+const LEAF: u32 = 2 * UNIT;
+
+/// What a leaf adds to the cost of a cut: its clauses, and the share of what the leaf's own cut costs.
 fn leaf_cost(flows: &[u32], leaf: u32) -> u32
     requires { leaf < length flows.now }
 {
     if leaf == 0 {
         0
     } else {
-        UNIT.saturating_add(flows[leaf as usize])
+        LEAF.saturating_add(flows[leaf as usize])
     }
 }
 
@@ -28,8 +31,7 @@ pub(crate) fn cost(flows: &[u32], cut: Cut) -> u32
     requires { IsInside (length flows.now) cut }
 {
     let (first, second, third, fourth) = cut.leaves;
-    (2 * UNIT)
-        .saturating_add(leaf_cost(flows, first))
+    UNIT.saturating_add(leaf_cost(flows, first))
         .saturating_add(leaf_cost(flows, second))
         .saturating_add(leaf_cost(flows, third))
         .saturating_add(leaf_cost(flows, fourth))
