@@ -6,6 +6,7 @@ ghost use Rattle.ic3_frames.specs.Frames.{IsStateClause};
 ghost use Rattle.ic3.specs.Sound.{IsSound};
 ghost use Rattle.ic3.specs.Answers.{IsInductiveFrom, IsBlocking};
 
+use crate::failures::Failures;
 use crate::frame_solver::FrameSolver;
 use crate::reset::reset_literal;
 use engine::EngineError;
@@ -29,13 +30,17 @@ pub(crate) enum Blocking {
 }
 
 impl<S: PartSat> FrameSolver<S> {
-    /// Adds a clause that is inductive from a frame, as short as it gets and as far on as it holds.
+    /// Adds a clause that is inductive from a frame, as short as it gets and as far on as it holds. `whole` is the
+    /// clause that is false in all states that are to be blocked and in no others: of the clauses that end at the frame and
+    /// are part of it, the longest is left as it is, where it is in the clause.
     fn learn(
         &mut self,
         alloc: Global,
         circuit: &Model,
         frames: &mut Frames,
+        failures: &mut Failures,
         level: u32,
+        whole: &[StateLit],
         clause: Seq<StateLit>,
         budget: &mut Budget,
     ) -> Result<(), EngineError>
@@ -46,8 +51,10 @@ impl<S: PartSat> FrameSolver<S> {
         ensures spends { Spends budget.old budget.new }
         ensures sound { OnOk result (IsSound circuit.now self.new frames.new) }
     {
-        let shorter = self.generalize(alloc, circuit, frames, level, clause, budget)?;
-        let last = self.furthest(alloc, circuit, frames, level, shorter.as_slice(), budget)?;
+        let needed: &[StateLit] = &[];
+        let shorter = self.generalize(alloc, circuit, frames, level, clause, needed, budget)?;
+        let kept = shorter.as_slice();
+        let last = self.furthest(alloc, circuit, frames, failures, level, kept, budget)?;
         self.add_to_frames(alloc, circuit, frames, last, shorter)
     }
 
@@ -58,6 +65,7 @@ impl<S: PartSat> FrameSolver<S> {
         alloc: Global,
         circuit: &Model,
         frames: &mut Frames,
+        failures: &mut Failures,
         level: u32,
         clause: &[StateLit],
         budget: &mut Budget,
@@ -79,7 +87,9 @@ impl<S: PartSat> FrameSolver<S> {
         let before = level - 1;
         match self.inductive(alloc, circuit, frames, before, clause, first, budget)? {
             Consecution::Held(part) => {
-                self.learn(alloc, circuit, frames, before, part, budget)?;
+                self.learn(
+                    alloc, circuit, frames, failures, before, clause, part, budget,
+                )?;
                 Ok(Blocking::Blocked)
             }
             Consecution::Broken(time) => Ok(Blocking::Predecessor(time)),

@@ -7,6 +7,7 @@ ghost use Rattle.ic3_frames.specs.Frames.{IsStateClause, HoldsOnward};
 ghost use Rattle.ic3.specs.Sound.{IsSound};
 ghost use Rattle.ic3.specs.Answers.{IsInductiveFrom, IsInductiveAnswer};
 
+use crate::failures::Failures;
 use crate::frame_solver::FrameSolver;
 use crate::order::rarest_first;
 use crate::picked::{with_part, without};
@@ -84,7 +85,8 @@ impl<S: PartSat> FrameSolver<S> {
     }
 
     /// Leaves out one literal after the other, the rarest latch first, wherever the clause stays
-    /// inductive. It asks a query for each literal at most.
+    /// inductive. It asks a query for each literal at most, and none for the latches of `needed`, a clause that was
+    /// needed in the frame before: none of its literals could be left out there, so most likely it is needed as a whole.
     pub(crate) fn generalize(
         &mut self,
         alloc: Global,
@@ -92,6 +94,7 @@ impl<S: PartSat> FrameSolver<S> {
         frames: &Frames,
         level: u32,
         clause: Seq<StateLit>,
+        needed: &[StateLit],
         budget: &mut Budget,
     ) -> Result<Seq<StateLit>, EngineError>
         requires sound { IsSound circuit.now self.old frames.now }
@@ -100,7 +103,7 @@ impl<S: PartSat> FrameSolver<S> {
         ensures sound { OnOk result (IsSound circuit.now self.new frames.now) }
         ensures inductive { IfOk result (IsInductiveFrom circuit.now frames.now.entries level) }
     {
-        let latches = rarest_first(alloc, frames.uses(), clause.as_slice())?;
+        let latches = rarest_first(alloc, frames.uses(), clause.as_slice(), needed)?;
         let mut kept = clause;
         'dropping: for latch in &latches {
             if !budget.tick() {
@@ -147,12 +150,14 @@ impl<S: PartSat> FrameSolver<S> {
     }
 
     /// The last frame below the top from which the clause is inductive, of those one after the
-    /// other.
+    /// other. A state of the next one that shows that the clause does not hold after the step from there is noted, so that
+    /// propagation need not ask the same again.
     pub(crate) fn furthest(
         &mut self,
         alloc: Global,
         circuit: &Model,
         frames: &Frames,
+        failures: &mut Failures,
         level: u32,
         clause: &[StateLit],
         budget: &mut Budget,
@@ -170,10 +175,15 @@ impl<S: PartSat> FrameSolver<S> {
             if !budget.tick() {
                 return Ok(last);
             }
-            if !self.is_onward(alloc, circuit, frames, next, clause, budget)? {
-                return Ok(last);
+            self.make_room(alloc, circuit, frames)?;
+            match self.relative(alloc, circuit, frames, next, clause, budget)? {
+                Consecution::Held(_) => last = next,
+                Consecution::Broken(time) => {
+                    failures.note(alloc, next, clause, time.state.as_slice())?;
+                    return Ok(last);
+                }
+                Consecution::Spent => return Ok(last),
             }
-            last = next;
         }
         Ok(last)
     }

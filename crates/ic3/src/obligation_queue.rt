@@ -11,6 +11,7 @@ ghost use Rattle.ic3.specs.Cubes.{IsReady};
 ghost use Rattle.ic3.specs.Answers.{IsFound};
 
 use crate::blocking::Blocking;
+use crate::failures::Failures;
 use crate::frame_solver::FrameSolver;
 use crate::lift::Lifting;
 use crate::obligation::{Obligation, obligation_at, obligation_before};
@@ -36,6 +37,7 @@ impl<S: PartSat> FrameSolver<S> {
         circuit: &Model,
         frames: &mut Frames,
         lifting: &mut Lifting,
+        failures: &mut Failures,
         level: u32,
         time: Assignment,
         progress: &mut P,
@@ -62,7 +64,7 @@ impl<S: PartSat> FrameSolver<S> {
             };
             progress.asked(budget);
             let clause = found[index].clause.as_slice();
-            match self.block(alloc, circuit, frames, level, clause, budget)? {
+            match self.block(alloc, circuit, frames, failures, level, clause, budget)? {
                 Blocking::Initial => {
                     let run = run_of(alloc, circuit, found.as_slice(), index)?;
                     return Ok(Some(run));

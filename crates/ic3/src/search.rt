@@ -98,7 +98,7 @@ impl<S: PartSat> FrameSolver<S> {
                 AtBad::Set(time) => {
                     let top = frames.top();
                     match self.block_obligations(
-                        alloc, circuit, frames, lifting, top, time, progress, budget,
+                        alloc, circuit, frames, lifting, failures, top, time, progress, budget,
                     )? {
                         Some(finding) => return Ok(finding),
                         None => {}
