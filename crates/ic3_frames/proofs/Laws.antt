@@ -1,7 +1,8 @@
 -- What is done to frames keeps their laws.
-use Rattle.std.proofs.Common.{◌≡◌, ℕ, ◌+◌, ◌-◌, ◌<◌, ◌≤◌, ◌≢◌, ◌⊎◌, Bool, List, length, get_or, set, refl, inl, inr, arith, All, Contains, ◌∙◌, sym, ap, subst}
-use Rattle.std.proofs.lemmas.List.Elements.{All-set, All-weaker, All-contains, Contains-get_or}
+use Rattle.std.proofs.Common.{◌≡◌, ℕ, Some, ◌+◌, ◌-◌, ◌<◌, ◌≤◌, ◌≢◌, ◌⊎◌, Bool, List, length, get_or, set, refl, inl, inr, arith, All, Contains, ◌∙◌, sym, ap, subst}
+use Rattle.std.proofs.lemmas.List.Elements.{All-weaker, All-contains, Contains-get_or}
 use Rattle.std.proofs.lemmas.Bool.{cases_lt}
+use Rattle.std.proofs.lemmas.Grind.{get_or-set_at}
 use Rattle.std.proofs.lemmas.List.{get_or_default, get_or-set_same, get_or-set_other, length-set}
 use Rattle.graph.specs.declared.circuit.Lit.{Lit}
 use Rattle.graph.specs.declared.parts.Parts.{Parts}
@@ -9,7 +10,8 @@ use Rattle.graph.specs.Valuation.{state_of}
 use Rattle.ic3_step.specs.declared.state.StateLit.{StateLit}
 use Rattle.ic3_step.specs.States.{Holds, IsPartOf}
 use Rattle.ic3_frames.specs.declared.frames.Entry.{Entry}
-use Rattle.ic3_frames.specs.Frames.{IsStateClause, InFrame, HoldsInitially, HoldsAfter, HoldsOnward, Excludes, AreFrames, AreWithin, Levels, IsAdded}
+use Rattle.ic3_frames.specs.Frames.{IsStateClause, InFrame, HoldsInitially, HoldsAfter, HoldsOnward, Excludes, AreFrames, AreWithin, Levels, IsSubsumed, IsNotSubsumed, IsExcepted, IsAdded}
+use Rattle.ic3_frames.proofs.Sifting.{one_place}
 
 pub same_or_not : (a b : ℕ) → (a ≡ b) ⊎ (a ≢ b)
 same_or_not a b = elim (cases_lt a b) [
@@ -80,39 +82,46 @@ opened m bad es top frames out = record {
   ];
 }
 
--- a law of every clause but the k-th, and of the new one in its place
-All-but : {X : Type 0} (P Q : X → Type 0) (xs : List X) (i : ℕ) (x : X) → ((y : X) → P y → Q y) → All P xs → Q x → All Q (set xs i x)
-All-but P Q xs i x weaker h q = All-set Q xs i x q (All-weaker P Q weaker xs h)
-
--- the entry at a place is propagated to the next level
+-- the entry at a place, propagated to the next level
 abbrev pub next_level : List Entry → ℕ → Entry → Entry
 next_level es i d = record { clause = (get_or es i d).clause; level = (get_or es i d).level + 1 }
 
--- raising a clause makes the frames smaller
-within_raised : (es : List Entry) (i : ℕ) (e : Entry) → ((d : Entry) → (get_or es i d).clause ≡ e.clause) → ((d : Entry) → (get_or es i d).level ≤ e.level) → AreWithin (set es i e) es
-within_raised es i e same above k s in_frame j d j_in below = elim (same_or_not j i) [
-  | inl here ↦
-      let j_at : get_or (set es i e) j d ≡ e = ap (λ n. get_or (set es i e) n d) here ∙ get_or-set_same es i e d (omega arith) in
-      let raised : k ≤ e.level → Holds s e.clause = subst (λ (x : Entry). k ≤ x.level → Holds s x.clause) j_at (in_frame j d (omega (arith, length-set es i e))) in
-      subst (Holds s) (sym (ap (λ n. (get_or es n d).clause) here ∙ same d)) (raised (omega (arith, above d, subst (λ n. k ≤ (get_or es n d).level) here below)))
-  | inr apart ↦ subst (λ (x : Entry). k ≤ x.level → Holds s x.clause) (get_or-set_other es i j e d (omega arith)) (in_frame j d (omega (arith, length-set es i e))) below
-]
+-- what is in a list with one entry changed is that entry or was there
+of_changed : (es : List Entry) (i : ℕ) (e x : Entry) → i < length es → Contains (set es i e) x → Contains es x ⊎ (x ≡ e)
+of_changed es i e x i_in found =
+    let at : get_or (set es i e) found.0 x ≡ x = found.2 in
+    elim (same_or_not found.0 i) [
+      | inl here ↦ inr (sym at ∙ get_or-set_at es i found.0 e x here i_in)
+      | inr apart ↦ inl (found.0, omega (arith, found.1, length-set es i e), sym (get_or-set_other es i found.0 e x apart) ∙ at)
+    ]
 
--- a clause that still holds after the frame at its level joins the next frame
-raised : (m : Parts) (bad : Lit) (es : List Entry) (top k i : ℕ) (e : Entry) → AreFrames m bad (levels es top) → ((d : Entry) → (get_or es i d).clause ≡ e.clause) →
-    ((d : Entry) → (get_or es i d).level ≡ k) → e.level ≡ k + 1 → i < length es → HoldsAfter m es k e.clause → AreFrames m bad (levels (set es i e) top)
-raised m bad es top k i e frames same was is i_in after =
-    let more : List Entry = set es i e in
-    let within : AreWithin more es = within_raised es i e same (λ d. omega (arith, was d, is)) in
+raised_among : (es fs : List Entry) (i p : ℕ) (e : Entry) → i < length es → (get_or es i e).clause ≡ e.clause → (get_or es i e).level ≤ e.level → All (Contains (set es i e)) fs →
+    All (λ x. Contains fs x ⊎ IsSubsumed e.clause e.level x) (set es i e) → All (λ x. IsNotSubsumed e.clause e.level x ⊎ IsExcepted (set es i e) (Some i) x) fs → p < length fs →
+    get_or fs p e ≡ get_or (set es i e) i e → IsAdded es fs e
+raised_among es fs i p e i_in same above only each lean p_in at =
+    let Is : Entry → Type 0 = λ x. Contains fs x ⊎ IsSubsumed e.clause e.level x in
+    let old : IsSubsumed e.clause e.level (get_or es i e) = (above, λ a found. subst (λ c. Contains c a) (sym same) found) in
     record {
-      clauses = All-set (λ (x : Entry). IsStateClause m x.clause) es i e (subst (IsStateClause m) (same e) (frames.clauses i e i_in)) frames.clauses;
-      initial = All-set (λ (x : Entry). HoldsInitially m x.clause) es i e (subst (HoldsInitially m) (same e) (frames.initial i e i_in)) frames.initial;
-      reached = All-but (λ (x : Entry). (j : ℕ) → x.level ≡ j + 1 → HoldsAfter m es j x.clause) (λ (x : Entry). (j : ℕ) → x.level ≡ j + 1 → HoldsAfter m more j x.clause) es i e
-          (λ x h. reached_within m more es x within h)
-          frames.reached
-          (λ j at. let eq : k ≡ j = omega (arith, at, is) in subst (λ n. HoldsAfter m more n e.clause) eq (after_within m more es k e.clause within after));
-      excluded = λ j j_in. excludes_within m bad more es j within (frames.excluded j j_in);
+      newest = (p, p_in, at ∙ get_or-set_same es i e e i_in);
+      only = λ x found. of_changed es i e x i_in (All-contains (Contains (set es i e)) fs x only found);
+      each = λ k x k_in. elim (same_or_not k i) [
+        | inl here ↦ inr (subst (IsSubsumed e.clause e.level) (sym (ap (λ n. get_or es n x) here ∙ get_or_default es i x e i_in)) old)
+        | inr apart ↦ subst Is (get_or-set_other es i k e x apart) (each k x (omega (arith, k_in, length-set es i e)))
+      ];
+      lean = λ k x k_in. elim (lean k x k_in) [
+        | inl other ↦ inl other
+        | inr kept ↦ inr (kept.2 ∙ get_or-set_at es i kept.0 e (get_or fs k x) (one_place kept.0 i (sym kept.1)) i_in)
+      ];
     }
+
+-- where the entry at a place is raised and the others that it makes subsumption are dropped, one more is added: the old one is subsumed by it
+pub raised_added : (es fs : List Entry) (i p : ℕ) (e : Entry) (c : List StateLit) (level : ℕ) → i < length es → (get_or es i e).clause ≡ e.clause → (get_or es i e).level ≤ e.level →
+    c ≡ e.clause → level ≡ e.level → All (Contains (set es i e)) fs → All (λ x. Contains fs x ⊎ IsSubsumed c level x) (set es i e) →
+    All (λ x. IsNotSubsumed c level x ⊎ IsExcepted (set es i e) (Some i) x) fs → p < length fs → get_or fs p e ≡ get_or (set es i e) i e → IsAdded es fs e
+raised_added es fs i p e c level i_in same above clause_is level_is only each lean p_in at =
+    let Each : List StateLit → ℕ → Type 0 = λ cl n. All (λ x. Contains fs x ⊎ IsSubsumed cl n x) (set es i e) in
+    let Lean : List StateLit → ℕ → Type 0 = λ cl n. All (λ x. IsNotSubsumed cl n x ⊎ IsExcepted (set es i e) (Some i) x) fs in
+    raised_among es fs i p e i_in same above only (subst (Each e.clause) level_is (subst (λ cl. Each cl level) clause_is each)) (subst (Lean e.clause) level_is (subst (λ cl. Lean cl level) clause_is lean)) p_in at
 
 -- the same, of frames before and after
 same_frames : (m : Parts) (bad : Lit) (es : List Entry) (top : ℕ) (g : Levels) → g.entries ≡ es → g.top ≡ top → AreFrames m bad (levels es top) → AreFrames m bad g
@@ -126,19 +135,11 @@ added_to m bad f g k e is_added top frames is clause first onward =
 pub opened_to : (m : Parts) (bad : Lit) (f g : Levels) → g.entries ≡ f.entries → g.top ≡ f.top + 1 → AreFrames m bad f → Excludes m bad f.entries f.top → AreFrames m bad g
 opened_to m bad f g are top frames out = same_frames m bad f.entries (f.top + 1) g are top (opened m bad f.entries f.top frames out)
 
-pub raised_to : (m : Parts) (bad : Lit) (f g : Levels) (k i : ℕ) (d : Entry) → i < length f.entries → g.entries ≡ set f.entries i (next_level f.entries i d) → g.top ≡ f.top →
+-- a clause that still holds after the frame at its level joins the next frame
+pub raised_to : (m : Parts) (bad : Lit) (f g : Levels) (k i : ℕ) (d : Entry) → i < length f.entries → IsAdded f.entries g.entries (next_level f.entries i d) → g.top ≡ f.top →
     AreFrames m bad f → (get_or f.entries i d).level ≡ k → HoldsAfter m f.entries k (get_or f.entries i d).clause → AreFrames m bad g
-raised_to m bad f g k i d i_in are top frames at after =
-    let es : List Entry = f.entries in
-    same_frames m bad (set es i (next_level es i d)) f.top g are top
-    (raised m bad es f.top k i (next_level es i d) frames (λ x. ap (λ (y : Entry). y.clause) (get_or_default es i x d i_in))
-    (λ x. ap (λ (y : Entry). y.level) (get_or_default es i x d i_in) ∙ at) (ap (λ n. n + 1) at) i_in after)
-
-pub within_raised_to : (es fs : List Entry) (i : ℕ) (d : Entry) → i < length es → fs ≡ set es i (next_level es i d) → AreWithin fs es
-within_raised_to es fs i d i_in are =
-    subst (λ xs. AreWithin xs es) (sym are)
-    (within_raised es i (next_level es i d) (λ x. ap (λ (y : Entry). y.clause) (get_or_default es i x d i_in))
-    (λ x. let same : (get_or es i x).level ≡ (get_or es i d).level = ap (λ (y : Entry). y.level) (get_or_default es i x d i_in) in omega (arith, same)))
+raised_to m bad f g k i d i_in is_added top frames at after =
+    added_to m bad f g k (next_level f.entries i d) is_added top frames (ap (λ n. n + 1) at) (frames.clauses i d i_in) (frames.initial i d i_in) (λ w is_time in_frame _. after w is_time in_frame)
 
 -- a frame contains the frames before
 frame_after : (es : List Entry) (j k : ℕ) (s : List Bool) → j ≤ k → InFrame es j s → InFrame es k s

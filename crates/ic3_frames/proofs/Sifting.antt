@@ -1,7 +1,9 @@
 -- Entries that are kept are moved to the front.
-use Rattle.std.proofs.Common.{◌≡◌, ℕ, ◌+◌, ◌<◌, ◌≤◌, ◌⊎◌, List, [], ◌∷◌, ◌++◌, length, get_or, set, take, refl, inl, inr, arith, All, Contains, ◌∙◌, sym, ap, subst}
+use Rattle.std.proofs.Common.{◌≡◌, ℕ, true, false, Option, Some, None, ◌+◌, ◌<◌, ◌≤◌, ◌⊎◌, List, [], ◌∷◌, ◌++◌, length, get_or, set, take, refl, inl, inr, arith, All, Contains, ◌∙◌, sym, ap, subst}
 use Rattle.std.specs.List.{SwappedAt}
-use Rattle.std.proofs.lemmas.Bool.{cases_lt}
+use Rattle.std.proofs.Math.Dec.{eqb}
+use Rattle.std.specs.Option.{option_eq, is_some}
+use Rattle.std.proofs.lemmas.Bool.{cases_lt, eqb-true, eq-eqb, false≢true}
 use Rattle.std.proofs.lemmas.List.{get_or-take, length-take, length-set, get_or_default}
 use Rattle.std.proofs.lemmas.List.Elements.{All-contains, All-push, All-weaker, Contains-get_or, Contains-push_cases, Contains-append_left}
 
@@ -67,7 +69,58 @@ sifted_gone {X} Gone Kept old now kept i x i_in at gone h =
       long = h.long;
     }
 
+-- which place an option is
+pub at_place : (except : Option ℕ) (i : ℕ) → option_eq eqb except (Some i) ≡ true → except ≡ Some i
+at_place None i e = absurd (false≢true e)
+at_place (Some p) i e = ap Some (eqb-true p i e)
+
+abbrev place_or : Option ℕ → ℕ
+place_or None = 0
+place_or (Some p) = p
+
+pub one_place : (p i : ℕ) → Some p ≡ Some i → p ≡ i
+one_place p i e = ap place_or e
+
+pub nowhere : (p : ℕ) → None ≡ Some p → ⊥
+nowhere p e = false≢true (ap is_some e)
+
+pub not_at : (except : Option ℕ) (i : ℕ) → option_eq eqb except (Some i) ≡ false → except ≡ Some i → ⊥
+not_at except i e is = false≢true (sym e ∙ ap (λ o. option_eq eqb o (Some i)) is ∙ eq-eqb i i refl)
+
+-- where the element of the excepted place is, once the sifting has passed it
+abbrev pub IsStill : {X : Type 0} → List X → List X → Option ℕ → ℕ → ℕ → ℕ → Type 0
+IsStill {X} old now except place kept i = (p : ℕ) (d : X) → except ≡ Some p → p < i → (place < kept) × (get_or now place d ≡ get_or old p d)
+
+pub still_gone : {X : Type 0} (old now : List X) (except : Option ℕ) (place kept i : ℕ) → (except ≡ Some i → ⊥) → IsStill old now except place kept i → IsStill old now except place kept (i + 1)
+still_gone {X} old now except place kept i other h p d is p_in = elim (cases_lt p i) [
+  | inl below ↦ h p d is below
+  | inr above ↦ let last : p ≡ i = omega arith in absurd (other (is ∙ ap Some last))
+]
+
+pub still_kept : {X : Type 0} (old now next : List X) (except : Option ℕ) (place kept i : ℕ) → (except ≡ Some i → ⊥) → kept ≤ i → SwappedAt now next kept i → IsStill old now except place kept i →
+    IsStill old next except place (kept + 1) (i + 1)
+still_kept {X} old now next except place kept i other behind swapped h p d is p_in = elim (cases_lt p i) [
+  | inl below ↦
+      let found = h p d is below in
+      let front : place < kept = found.0 in
+      (omega (arith, front), swapped.2 place d (λ e. omega (arith, e, front)) (λ e. omega (arith, e, front, behind)) ∙ found.1)
+  | inr above ↦ let last : p ≡ i = omega arith in absurd (other (is ∙ ap Some last))
+]
+
+pub still_here : {X : Type 0} (old now next : List X) (except : Option ℕ) (kept i : ℕ) → except ≡ Some i → ((d : X) → get_or now i d ≡ get_or old i d) → SwappedAt now next kept i →
+    IsStill old next except kept (kept + 1) (i + 1)
+still_here {X} old now next except kept i at rest swapped p d is p_in =
+    let same : i ≡ p = one_place i p (sym at ∙ is) in
+    (omega arith, swapped.0 d ∙ rest d ∙ ap (λ n. get_or old n d) same)
+
 -- at the end
+pub still_taken : {X : Type 0} (old now : List X) (except : Option ℕ) (place kept i : ℕ) → length old ≤ i → kept ≤ length now → IsStill old now except place kept i → (p : ℕ) (d : X) → except ≡ Some p → p < length old →
+    (place < length (take kept now)) × (get_or (take kept now) place d ≡ get_or old p d)
+still_taken {X} old now except place kept i end within h p d is p_in =
+    let found = h p d is (omega arith) in
+    let front : place < kept = found.0 in
+    (omega (arith, front, within, length-take kept now), get_or-take kept now place d front ∙ found.1)
+
 pub sifted_only : {X : Type 0} (Gone Kept : X → Type 0) (old now : List X) (kept i : ℕ) → i ≤ length old → Sifted Gone Kept old now kept i → All (Contains old) (take kept now)
 sifted_only Gone Kept old now kept i i_in h k d k_in =
     let below : k < kept = omega (arith, k_in, length-take kept now) in

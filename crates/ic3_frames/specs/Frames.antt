@@ -1,6 +1,6 @@
 -- Frames: for each number of steps, clauses that hold in every state that this number of steps reaches (Bradley 2011; Een,
 -- Mishchenko, Brayton 2011).
-use Rattle.std.specs.Prelude.{◌≡◌, ◌+◌, ◌<◌, ◌≤◌, ◌⊎◌, ℕ, Bool, false, List, length, All, AllPairs, Contains}
+use Rattle.std.specs.Prelude.{◌≡◌, ◌+◌, ◌<◌, ◌≤◌, ◌⊎◌, ℕ, Bool, false, Option, Some, List, length, slice_index_or, All, AllPairs, Contains}
 use Rattle.graph.specs.declared.circuit.Lit.{Lit}
 use Rattle.graph.specs.declared.parts.Parts.{Parts}
 use Rattle.graph.specs.Valuation.{Valuation, value_of, state_of}
@@ -66,6 +66,10 @@ IsSubsumed c level e = (e.level ≤ level) × IsPartOf c e.clause
 -- it is not so, if both clauses are rising
 abbrev pub IsNotSubsumed : List StateLit → ℕ → Entry → Type 0
 IsNotSubsumed c level e = IsRising c → IsRising e.clause → IsSubsumed c level e → ⊥
+
+-- the entry is the one at the place that is excepted, if one is
+abbrev pub IsExcepted : List Entry → Option ℕ → Entry → Type 0
+IsExcepted es except e = (p : ℕ) × (except ≡ Some p) × (e ≡ slice_index_or es p e)
 
 -- the second entries are the first and one more, without those that it makes subsumption
 pub record IsAdded (es fs : List Entry) (e : Entry) : Type 0 where

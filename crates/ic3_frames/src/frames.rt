@@ -1,6 +1,6 @@
 //! Frames, kept as clauses with levels.
 
-ghost use Rattle.std.specs.Prelude.{◌≡◌, ◌≢◌, ◌+◌, ◌<◌, ◌≤◌, ◌⊎◌, ℕ, Bool, true, false, List, None, length, set, slice_index_or, All, Contains, OnOk, OnErr, IfOk, IfSome};
+ghost use Rattle.std.specs.Prelude.{◌≡◌, ◌≢◌, ◌+◌, ◌<◌, ◌≤◌, ◌⊎◌, ℕ, Bool, true, false, List, None, length, slice_index_or, All, Contains, OnOk, OnErr, IfOk, IfSome};
 ghost use Rattle.graph.specs.declared.circuit.Lit.{Lit};
 ghost use Rattle.graph.specs.declared.parts.Parts.{Parts};
 ghost use Rattle.cnf.specs.Formulas.{bad_literal};
@@ -15,7 +15,7 @@ use crate::invariant::{clauses_above, is_left};
 use crate::marks::Marks;
 use crate::resets::reset_entries;
 use crate::signature::signatures_of;
-use crate::subsumption::insert;
+use crate::subsumption::{insert, remove_subsumed};
 use crate::uses::Uses;
 use base::Refused;
 use graph::{Lit, Model, Seq};
@@ -112,6 +112,25 @@ impl Frames {
         Ok(marks.have_one(entries, self.signatures.as_slice(), level))
     }
 
+    /// Where the longest is of the clauses that end at `level` and are part of this one, the first of several: the clause that a
+    /// frame before excluded these states by. It costs as `implies`.
+    pub fn longest_part(
+        &self,
+        alloc: Global,
+        level: u32,
+        clause: &[StateLit],
+    ) -> Result<Option<usize>, Refused>
+        ensures part { (d : Entry) → IfOk result (λ r. IfSome r (λ p. (p < length self.now.entries) × ((slice_index_or self.now.entries p d).level ≡ level) ×
+            IsPartOf (slice_index_or self.now.entries p d).clause clause.now)) }
+        ensures longest { (d : Entry) → IfOk result (λ r. IfSome r (λ p. All (λ e. e.level ≡ level → IsPartOf e.clause clause.now →
+            length e.clause ≤ length (slice_index_or self.now.entries p d).clause) self.now.entries)) }
+        ensures none { IfOk result (λ r. r ≡ None → All (λ e. e.level ≡ level → IsPartOf e.clause clause.now → ⊥) self.now.entries) }
+    {
+        let marks = Marks::new(alloc, clause)?;
+        let entries = self.entries.as_slice();
+        Ok(marks.longest(entries, self.signatures.as_slice(), level))
+    }
+
     /// Adds a clause to the frames up to `level`, and drops the clauses that it subsumes
     /// there: those of a level no greater that have all its literals. It takes a look at the signature
     /// of each clause, and a search only in a clause of such a level whose signature has all bits of
@@ -136,17 +155,35 @@ impl Frames {
         )
     }
 
-    /// Propagates the clause at a place to the next frame.
-    pub fn propagate(&mut self, place: usize)
+    /// Propagates the clause at a place to the next frame, drops the other clauses that it subsumes there, in the order of those
+    /// that stay, and answers where it is then. It takes a look at the signature of each clause, and a search only in a clause of
+    /// such a level whose signature has all bits of this one's. A refusal changes nothing.
+    pub fn propagate(&mut self, alloc: Global, place: usize) -> Result<usize, Refused>
         requires place { place < length self.old.entries }
         requires level { All (λ e. e.level < 4294967295) self.old.entries }
         ensures top { self.new.top ≡ self.old.top }
-        ensures entries { (d : Entry) → self.new.entries ≡ set self.old.entries place (record { clause = (slice_index_or self.old.entries place d).clause; level = (slice_index_or self.old.entries place d).level + 1 }) }
-        ensures within { AreWithin self.new.entries self.old.entries }
+        ensures place { (d : Entry) → IfOk result (λ p. (p < length self.new.entries) × (slice_index_or self.new.entries p d ≡ record { clause = (slice_index_or self.old.entries place d).clause; level = (slice_index_or self.old.entries place d).level + 1 })) }
+        ensures only { (d : Entry) → OnOk result ((e : Entry) → Contains self.new.entries e → Contains self.old.entries e ⊎ (e ≡ record { clause = (slice_index_or self.old.entries place d).clause; level = (slice_index_or self.old.entries place d).level + 1 })) }
+        ensures lean { (d : Entry) → OnOk result (All (λ e. IsNotSubsumed (slice_index_or self.old.entries place d).clause ((slice_index_or self.old.entries place d).level + 1) e ⊎
+            (e ≡ record { clause = (slice_index_or self.old.entries place d).clause; level = (slice_index_or self.old.entries place d).level + 1 })) self.new.entries) }
+        ensures within { OnOk result (AreWithin self.new.entries self.old.entries) }
+        ensures err { OnErr result (self.new ≡ self.old) }
         ensures laws { (m : Parts) (bad : Lit) (k : ℕ) (d : Entry) → AreFrames m bad self.old → (slice_index_or self.old.entries place d).level ≡ k →
-            HoldsAfter m self.old.entries k (slice_index_or self.old.entries place d).clause → AreFrames m bad self.new }
+            HoldsAfter m self.old.entries k (slice_index_or self.old.entries place d).clause → OnOk result (AreFrames m bad self.new) }
     {
+        let clause = self.entries[place].clause.copy(alloc)?;
+        let signature = self.signatures[place];
         self.entries[place].level += 1;
+        let level = self.entries[place].level;
+        Ok(remove_subsumed(
+            &mut self.entries,
+            &mut self.signatures,
+            &mut self.uses,
+            clause.as_slice(),
+            signature,
+            level,
+            Some(place),
+        ))
     }
 
     /// Opens the next frame.

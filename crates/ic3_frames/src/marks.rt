@@ -1,8 +1,9 @@
 //! The literals of a clause, marked, so that whether a literal is one of them is one look. The clause's signature is kept with
 //! them: where another clause's signature has a bit more, that clause is no part of this one, and its literals are not read.
 
-ghost use Rattle.std.specs.Prelude.{◌≡◌, ◌≢◌, ◌↔◌, ◌<◌, ◌≤◌, ◌/◌, ℕ, length, List, All, Any, IsTrue, IfOk};
+ghost use Rattle.std.specs.Prelude.{◌≡◌, ◌≢◌, ◌↔◌, ◌<◌, ◌≤◌, ◌/◌, ℕ, None, length, slice_index_or, List, All, Any, IsTrue, IfOk, IfSome};
 ghost use Rattle.ic3_step.specs.declared.state.StateLit.{StateLit as Lit};
+ghost use Rattle.ic3_frames.specs.declared.frames.Entry.{Entry as Kept};
 ghost use Rattle.ic3_frames.specs.Marks.{mark_of as place_of_mark, mark_at, IsMarked, AreMarks};
 ghost use Rattle.ic3_frames.specs.Signatures.{IsSignature, AreSignatures};
 
@@ -114,5 +115,40 @@ impl Marks {
             }
         }
         false
+    }
+
+    /// Whether the entry, whose clause has this signature, ends at the level and has this many literals or more, all marked.
+    fn have_ending(&self, entry: &Entry, signature: u64, level: u32, least: usize) -> bool
+        ensures sound { IsTrue result → (entry.now.level ≡ level) × (least ≤ length entry.now.clause) × All (IsMarked self.now.words.items) entry.now.clause }
+        ensures complete { (c : List Lit) → AreMarks c self.now.words.items → IsSignature c self.now.signature → IsSignature entry.now.clause signature →
+            entry.now.level ≡ level → least ≤ length entry.now.clause → All (IsMarked self.now.words.items) entry.now.clause → IsTrue result }
+    {
+        covers(self.signature, signature)
+            && entry.level == level
+            && least <= entry.clause.len()
+            && self.have(entry.clause.as_slice())
+    }
+
+    /// Where the longest is of the clauses that end at the level and have marked literals alone, the first of several. The
+    /// clauses have these signatures.
+    pub(crate) fn longest(&self, entries: &[Entry], signatures: &[u64], level: u32) -> Option<usize>
+        requires { AreSignatures entries.now signatures.now }
+        ensures part { (d : Kept) → IfSome result (λ p. (p < length entries.now) × ((slice_index_or entries.now p d).level ≡ level) ×
+            All (IsMarked self.now.words.items) (slice_index_or entries.now p d).clause) }
+        ensures longest { (c : List Lit) (d : Kept) → AreMarks c self.now.words.items → IsSignature c self.now.signature →
+            IfSome result (λ p. All (λ e. e.level ≡ level → All (IsMarked self.now.words.items) e.clause → length e.clause ≤ length (slice_index_or entries.now p d).clause) entries.now) }
+        ensures none { (c : List Lit) → AreMarks c self.now.words.items → IsSignature c self.now.signature → result ≡ None →
+            All (λ e. e.level ≡ level → All (IsMarked self.now.words.items) e.clause → ⊥) entries.now }
+    {
+        let mut longest = None;
+        let mut least = 0;
+        'looking: for (i, signature) in signatures.iter().enumerate() {
+            let entry = &entries[i];
+            if self.have_ending(entry, *signature, level, least) {
+                longest = Some(i);
+                least = entry.clause.as_slice().len() + 1;
+            }
+        }
+        longest
     }
 }

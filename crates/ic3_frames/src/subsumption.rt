@@ -1,10 +1,11 @@
 //! A clause more, and those that it subsumes.
 
-ghost use Rattle.std.specs.Prelude.{◌≡◌, ◌⊎◌, ◌<◌, ◌≤◌, length, IsTrue, All, Contains, OnOk, OnErr};
+ghost use Rattle.std.specs.Prelude.{◌≡◌, ◌⊎◌, ◌<◌, ◌≤◌, ℕ, Some, length, slice_index_or, IsTrue, All, Contains, OnOk, OnErr};
 ghost use Rattle.std.specs.Vec.{vec_len, vec_capacity};
 ghost use Rattle.std.specs.List.{SwappedAt};
 ghost use Rattle.ic3_step.specs.States.{IsPartOf};
-ghost use Rattle.ic3_frames.specs.Frames.{IsRising, IsSubsumed, IsNotSubsumed, IsAdded};
+ghost use Rattle.ic3_frames.specs.declared.frames.Entry.{Entry as Kept};
+ghost use Rattle.ic3_frames.specs.Frames.{IsRising, IsSubsumed, IsNotSubsumed, IsExcepted, IsAdded};
 ghost use Rattle.ic3_frames.specs.Signatures.{IsSignature, AreSignatures};
 
 use crate::frames::Entry;
@@ -71,37 +72,47 @@ fn keep(entries: &mut Vec<Entry>, signatures: &mut Vec<u64>, kept: usize, i: usi
     }
 }
 
-/// Leaves the entries that the clause does not subsume, and counts the others out.
-fn remove_subsumed(
+/// Leaves the entries that the clause does not subsume, and the one at the place that is excepted, in their order, and counts
+/// the others out. It answers where the excepted one is then.
+pub(crate) fn remove_subsumed(
     entries: &mut Vec<Entry>,
     signatures: &mut Vec<u64>,
     uses: &mut Uses,
     clause: &[StateLit],
     signature: u64,
     level: u32,
-)
+    except: Option<usize>,
+) -> usize
     requires signatures { AreSignatures entries.old.items signatures.old.items }
     requires clause { IsSignature clause.now signature }
     ensures signatures { AreSignatures entries.new.items signatures.new.items }
     ensures only { All (Contains entries.old.items) entries.new.items }
     ensures each { All (λ e. Contains entries.new.items e ⊎ IsSubsumed clause.now level e) entries.old.items }
-    ensures lean { All (IsNotSubsumed clause.now level) entries.new.items }
+    ensures lean { All (λ e. IsNotSubsumed clause.now level e ⊎ IsExcepted entries.old.items except e) entries.new.items }
+    ensures place { (p : ℕ) (d : Kept) → except ≡ Some p → p < length entries.old.items →
+        (result < length entries.new.items) × (slice_index_or entries.new.items result d ≡ slice_index_or entries.old.items p d) }
     ensures len { vec_len entries.new ≤ vec_len entries.old }
     ensures capacity { vec_capacity entries.new ≡ vec_capacity entries.old }
     ensures signatures_len { vec_len signatures.new ≤ vec_len signatures.old }
     ensures signatures_capacity { vec_capacity signatures.new ≡ vec_capacity signatures.old }
 {
     let mut kept = 0;
+    let mut place = 0;
     'sifting: for i in 0..entries.len() {
-        if is_subsumed(&entries[i], signatures[i], clause, signature, level) {
+        let stays = except == Some(i);
+        if !stays && is_subsumed(&entries[i], signatures[i], clause, signature, level) {
             uses.remove(entries[i].clause.as_slice());
         } else {
+            if stays {
+                place = kept;
+            }
             keep(entries, signatures, kept, i);
             kept += 1;
         }
     }
     entries.truncate(kept);
     signatures.truncate(kept);
+    place
 }
 
 /// Adds a clause, and drops those that it subsumes.
@@ -127,6 +138,7 @@ pub(crate) fn insert(
         clause.as_slice(),
         signature,
         level,
+        None,
     );
     uses.add(clause.as_slice());
     push(signatures, signature)?;

@@ -1,11 +1,11 @@
-use Rattle.std.proofs.Common.{◌⊎◌, List, All, Contains, subst, sym}
+use Rattle.std.proofs.Common.{◌⊎◌, inl, inr, List, All, Contains, subst, sym}
 use Rattle.std.proofs.lemmas.List.Elements.{Contains-push}
 use Rattle.ic3_frames.specs.declared.frames.Entry.{Entry}
 use Rattle.ic3_frames.specs.Frames.{IsSubsumed, IsNotSubsumed}
 use Rattle.ic3_step.specs.declared.state.StateLit.{StateLit}
 use Rattle.ic3_frames.specs.Signatures.{IsSignature}
 use Rattle.ic3_frames.proofs.Signed.{signed_push}
-use Rattle.ic3_frames.proofs.Sifting.{inserted_only, inserted_each, inserted_lean}
+use Rattle.ic3_frames.proofs.Sifting.{nowhere, inserted_only, inserted_each, inserted_lean}
 use Rattle.ic3_frames.proofs.subsumption.insert.Goals as goal
 
 pub returns-clause-added : goal.returns-clause-added
@@ -17,7 +17,11 @@ returns-clause-added c =
     let newest : Entry = record { clause = c.args.clause; level = c.args.level } in
     let Gone : Entry → Type 0 = IsSubsumed c.args.clause c.args.level in
     let each = subst (λ cl. All (λ (e : Entry). Contains kept e ⊎ IsSubsumed cl c.args.level e) middle) c.as_slice-2.ensures c.remove_subsumed.ensures.each in
-    let lean = subst (λ cl. All (IsNotSubsumed cl c.args.level) kept) c.as_slice-2.ensures c.remove_subsumed.ensures.lean in
+    let none_excepted : All (IsNotSubsumed c.as_slice-2.result.now c.args.level) kept = λ k d k_in. elim (c.remove_subsumed.ensures.lean k d k_in) [
+      | inl other ↦ other
+      | inr excepted ↦ absurd (nowhere excepted.0 excepted.1)
+    ] in
+    let lean = subst (λ cl. All (IsNotSubsumed cl c.args.level) kept) c.as_slice-2.ensures none_excepted in
     record {
       newest = subst (λ es. Contains es newest) (sym c.in_ok-push-2.ensures.items) (Contains-push kept newest);
       only = inserted_only old middle kept now newest c.in_ok-reserve_one.ensures.items c.remove_subsumed.ensures.only c.in_ok-push-2.ensures.items;
