@@ -1,7 +1,7 @@
 -- Clauses that join the frames, and the bad literal in them.
-use Rattle.std.proofs.Common.{◌≡◌, ℕ, ◌+◌, ◌<◌, ◌≤◌, ◌⊎◌, Bool, true, false, List, [], ◌∷◌, length, get_or, set, get_or-set_same, All, Contains, refl, inl, inr, ◌∙◌, sym, ap, subst, arith}
+use Rattle.std.proofs.Common.{◌≡◌, ℕ, ◌+◌, ◌<◌, ◌≤◌, ◌⊎◌, Bool, true, false, List, [], ◌∷◌, length, get_or, All, Contains, refl, inl, inr, ◌∙◌, sym, ap, subst, arith}
 use Rattle.std.proofs.lemmas.List.Elements.{All-contains, All-cons, All-nil, Contains-get_or, Contains-push_cases}
-use Rattle.std.proofs.lemmas.List.{length-set}
+use Rattle.std.proofs.lemmas.List.{get_or_default}
 use Rattle.base.specs.Budget.{Steps}
 use Rattle.graph.specs.declared.circuit.Lit.{Lit}
 use Rattle.graph.specs.declared.parts.Parts.{Parts}
@@ -32,15 +32,18 @@ all_more P old new e only all newest k d k_in = elim (only (get_or new k d) (Con
 pub entry_holds : (es : List Entry) (c : List StateLit) (level : ℕ) (s : List Bool) → Contains es (record { clause = c; level = level }) → InFrame es level s → Holds s c
 entry_holds es c level s found inside = All-contains (λ (e : Entry). level ≤ e.level → Holds s e.clause) es (record { clause = c; level = level }) inside found (omega arith)
 
--- an entry that is raised
-pub raised_found : (es fs : List Entry) (place k : ℕ) (d : Entry) (c : List StateLit) → fs ≡ set es place (record { clause = (get_or es place d).clause; level = (get_or es place d).level + 1 }) →
+-- an entry that was raised, where it is then
+pub raised_found : (es fs : List Entry) (place p k : ℕ) (d : Entry) (c : List StateLit) →
+    ((x : Entry) → (p < length fs) × (get_or fs p x ≡ record { clause = (get_or es place x).clause; level = (get_or es place x).level + 1 })) →
     place < length es → (get_or es place d).clause ≡ c → (get_or es place d).level ≡ k → Contains fs (record { clause = c; level = k + 1 })
-raised_found es fs place k d c are place_in clause_is level_is =
-    let e : Entry = record { clause = (get_or es place d).clause; level = (get_or es place d).level + 1 } in
-    let same : e ≡ record { clause = c; level = k + 1 } =
-    ap (λ (xs : List StateLit). let x : Entry = record { clause = xs; level = (get_or es place d).level + 1 } in x) clause_is
+raised_found es fs place p k d c are place_in clause_is level_is =
+    let e : Entry = record { clause = c; level = k + 1 } in
+    let next : Entry → Entry = λ x. record { clause = x.clause; level = x.level + 1 } in
+    let same : next (get_or es place e) ≡ e =
+    ap next (get_or_default es place e d place_in)
+    ∙ ap (λ (xs : List StateLit). let x : Entry = record { clause = xs; level = (get_or es place d).level + 1 } in x) clause_is
     ∙ ap (λ (n : ℕ). let x : Entry = record { clause = c; level = n + 1 } in x) level_is in
-    subst (Contains fs) same (subst (λ xs. Contains xs e) (sym are) (place, omega (arith, place_in, length-set es place e), get_or-set_same es place e e place_in))
+    (p, (are e).0, (are e).1 ∙ same)
 
 -- the bad literal is one that can be asked for
 pub bad_usable : (m : Parts) (bads : List Lit) → IsWellFormed m → IsForBad m → bads ≡ m.bad → All (IsUsable m) (get_or bads 0 (record { 0 = 0 }) ∷ [])

@@ -30,9 +30,9 @@ pub(crate) enum Blocking {
 }
 
 impl<S: PartSat> FrameSolver<S> {
-    /// Adds a clause that is inductive from a frame, as short as it gets and as far on as it holds. `whole` is the
-    /// clause that is false in all states that are to be blocked and in no others: of the clauses that end at the frame and
-    /// are part of it, the longest is left as it is, where it is in the clause.
+    /// Adds a clause that is inductive from a frame, as short as it gets and as far on as it holds. It is part of `whole`, which is
+    /// false in the states that are blocked and in no others. Of the clauses that end at the frame and are part of that too, the
+    /// longest was needed there, so its latches are not left out.
     fn learn(
         &mut self,
         alloc: Global,
@@ -51,7 +51,10 @@ impl<S: PartSat> FrameSolver<S> {
         ensures spends { Spends budget.old budget.new }
         ensures sound { OnOk result (IsSound circuit.now self.new frames.new) }
     {
-        let needed: &[StateLit] = &[];
+        let needed = match frames.longest_part(alloc, level, whole)? {
+            Some(place) => frames.entries()[place].clause.as_slice(),
+            None => &[],
+        };
         let shorter = self.generalize(alloc, circuit, frames, level, clause, needed, budget)?;
         let kept = shorter.as_slice();
         let last = self.furthest(alloc, circuit, frames, failures, level, kept, budget)?;

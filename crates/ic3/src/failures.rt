@@ -1,4 +1,5 @@
-//! Clauses that could not be propagated to the next frame, and the states that showed it.
+//! Clauses that could not be propagated to the next frame, and the states that showed it. A new clause's first one is found
+//! when it is learned, where it is asked how far on it holds.
 //!
 //! As long as such a state lies in the frame, the clause cannot be propagated, so it need not be tried
 //! again.

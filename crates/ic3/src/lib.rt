@@ -20,9 +20,10 @@
 //! that holds after each step from those is a clause of the first frame, and is propagated like any other.
 //!
 //! A query costs its clause, its guards and the work of the solver. A clause that could not be propagated
-//! is tried again only when the state that showed it has left the frame. The circuit is
-//! loaded again only after a hundred queries and propagated clauses, or a thousand where it is
-//! large, and where the levels that have guards are used up, which are twice as many each time.
+//! is tried again only when the state that showed it has left the frame, and so is a new one that did not
+//! hold in the next frame. The literals of the clause that excluded the same states from the frame before are not tried when a
+//! new clause is made shorter. The circuit is loaded again only after a hundred queries and propagated clauses, or a thousand
+//! where it is large, and where the levels that have guards are used up, which are twice as many each time.
 #![tactic(auto)]
 
 mod adding;

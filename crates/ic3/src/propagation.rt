@@ -16,7 +16,7 @@ use std::alloc::Global;
 
 impl<S: PartSat> FrameSolver<S> {
     /// Propagates the clause at a place to the next frame, if it ends at the level and holds after
-    /// each step from there.
+    /// each step from there; those that it subsumes there are dropped. It answers the place of the clause that comes next.
     fn propagate_clause(
         &mut self,
         alloc: Global,
@@ -26,35 +26,34 @@ impl<S: PartSat> FrameSolver<S> {
         level: u32,
         place: usize,
         budget: &mut Budget,
-    ) -> Result<(), EngineError>
+    ) -> Result<usize, EngineError>
         requires sound { IsSound circuit.now self.old frames.old }
         requires below { level < frames.old.top }
         requires place { place < length frames.old.entries }
         ensures top { frames.new.top ≡ frames.old.top }
-        ensures len { length frames.new.entries ≡ length frames.old.entries }
         ensures spends { Spends budget.old budget.new }
         ensures sound { OnOk result (IsSound circuit.now self.new frames.new) }
     {
         let entry = &frames.entries()[place];
         if entry.level != level {
-            return Ok(());
+            return Ok(place + 1);
         }
         let clause = entry.clause.as_slice();
         if failures.is_known(frames.entries(), level, clause) {
-            return Ok(());
+            return Ok(place + 1);
         }
         match self.after(alloc, circuit, frames, level, clause, budget)? {
             Consecution::Held(_) => {
                 self.add_clause(alloc, circuit, level + 1, clause)?;
                 self.count_propagated();
-                frames.propagate(place);
-                Ok(())
+                let kept = frames.propagate(alloc, place)?;
+                Ok(kept.saturating_add(1))
             }
             Consecution::Broken(time) => {
                 failures.note(alloc, level, clause, time.state.as_slice())?;
-                Ok(())
+                Ok(place + 1)
             }
-            Consecution::Spent => Ok(()),
+            Consecution::Spent => Ok(place + 1),
         }
     }
 
@@ -75,12 +74,13 @@ impl<S: PartSat> FrameSolver<S> {
         ensures spends { Spends budget.old budget.new }
         ensures sound { OnOk result (IsSound circuit.now self.new frames.new) }
     {
-        'propagating: for place in 0..frames.entries().len() {
+        let mut place = 0;
+        'propagating: while place < frames.entries().len() {
             if !budget.tick() {
                 return Ok(());
             }
             self.make_room(alloc, circuit, frames)?;
-            self.propagate_clause(alloc, circuit, frames, failures, level, place, budget)?;
+            place = self.propagate_clause(alloc, circuit, frames, failures, level, place, budget)?;
         }
         Ok(())
     }

@@ -1,12 +1,10 @@
-use Rattle.std.proofs.Common.{◌≡◌, ◌+◌, ◌<◌, length, get_or, List, All, arith, sym, ap, subst, ◌∙◌}
-use Rattle.std.proofs.lemmas.List.{length-set}
-use Rattle.std.proofs.lemmas.List.Elements.{All-set}
+use Rattle.std.proofs.Common.{◌≡◌, ◌+◌, ◌<◌, get_or, List, All, arith, sym, ap, subst, ◌∙◌}
 use Rattle.cnf.specs.Formulas.{bad_literal}
 use Rattle.ic3_frames.specs.declared.frames.Entry.{Entry}
 use Rattle.ic3_frames.specs.Frames.{IsStateClause, HoldsAfter}
 use Rattle.ic3.specs.Answers.{IsAfter}
 use Rattle.ic3.proofs.Guarding.{item_has, has_within}
-use Rattle.ic3.proofs.Joining.{entry_holds, raised_found}
+use Rattle.ic3.proofs.Joining.{all_more, entry_holds, raised_found}
 use Rattle.ic3.proofs.frame_solver.FrameSolver.propagate_clause.Goals as goal
 
 pub after-requires : goal.after-requires
@@ -45,9 +43,6 @@ propagate-requires g c =
       level = λ k d k_in. let below = c.requires.sound.below k d k_in in omega (arith, below, order, fits, small);
     }
 
-pub returns-in-Held-clause-len : goal.returns-in-Held-clause-len
-returns-in-Held-clause-len g c = ap length (c.propagate.ensures.entries c.index-entries-place.result) ∙ length-set c.args.frames.now.entries c.args.place _
-
 pub returns-in-Held-clause-sound : goal.returns-in-Held-clause-sound
 returns-in-Held-clause-sound g c =
     let m = c.args.circuit.now in
@@ -60,17 +55,18 @@ returns-in-Held-clause-sound g c =
     let clause = c.as_slice-clause.result.now in
     let sound = c.in_ok-after.ensures.sound in
     let top = sound.top in
+    let raised = c.in_ok-kept-in-Held.ensures in
     let item : e ≡ get_or es place e = c.index-entries-place.is ∙ ap (λ (xs : List Entry). get_or xs place e) c.entries.ensures in
     let clause_is : (get_or es place e).clause ≡ clause = ap (λ (x : Entry). x.clause) (sym item) ∙ sym c.as_slice-clause.ensures in
     let level_is : (get_or es place e).level ≡ k = ap (λ (x : Entry). x.level) (sym item) ∙ c.if-entry-level.false in
+    let next : Entry = record { clause = (get_or es place e).clause; level = (get_or es place e).level + 1 } in
     let after = subst (IsAfter m es k clause c.after.new.budget) c.in-Held.is c.in_ok-after.ensures.lawful in
     let same : a.levels ≡ c.count_propagated.new.self.levels = sym (c.count_propagated.ensures.levels ∙ c.add_clause.ensures.levels) in
-    let found = raised_found es fs place k e clause (c.propagate.ensures.entries e) c.requires.place clause_is level_is in
-    let above : (get_or es place e).level + 1 < c.count_propagated.new.self.levels = omega (arith, level_is, same, top, c.requires.below) in
+    let found = raised_found es fs place c.in_ok-kept-in-Held.kept k e clause raised.place c.requires.place clause_is level_is in
+    let above : next.level < c.count_propagated.new.self.levels = omega (arith, level_is, same, top, c.requires.below) in
     record {
-      has = c.count_propagated.ensures.has m fs (c.in_ok-add_clause-in-Held.ensures.has fs (has_within m es fs a c.propagate.ensures.within sound.has) (λ s inside. entry_holds fs clause (k + 1) s found inside));
-      laws = c.propagate.ensures.laws m (bad_literal m 0) k e sound.laws level_is (subst (HoldsAfter m es k) (sym clause_is) after);
+      has = c.count_propagated.ensures.has m fs (c.in_ok-add_clause-in-Held.ensures.has fs (has_within m es fs a raised.within sound.has) (λ s inside. entry_holds fs clause (k + 1) s found inside));
+      laws = raised.laws m (bad_literal m 0) k e sound.laws level_is (subst (HoldsAfter m es k) (sym clause_is) after);
       top = omega (arith, top, same, c.propagate.ensures.top);
-      below = subst (All (λ (x : Entry). x.level < c.count_propagated.new.self.levels)) (sym (c.propagate.ensures.entries e))
-          (All-set (λ (x : Entry). x.level < c.count_propagated.new.self.levels) es place _ above (subst (λ n. All (λ (x : Entry). x.level < n) es) same sound.below));
+      below = all_more (λ (x : Entry). x.level < c.count_propagated.new.self.levels) es fs next (raised.only e) (subst (λ n. All (λ (x : Entry). x.level < n) es) same sound.below) above;
     }

@@ -1,4 +1,4 @@
-use Rattle.std.proofs.Common.{◌≡◌, length}
+use Rattle.std.proofs.Common.{◌≡◌}
 use Rattle.base.specs.Budget.{Spends}
 use Rattle.ic3.specs.Sound.{IsSound}
 use Rattle.ic3.proofs.frame_solver.FrameSolver.propagate_level.Given as goal
@@ -7,6 +7,8 @@ abbrev pub invariant-propagating : goal.invariant-propagating
 invariant-propagating g l = record {
   spends : Spends l.initial.budget l.budget;
   top : l.frames.top ≡ l.initial.frames.top;
-  len : length l.frames.entries ≡ length l.initial.frames.entries;
   sound : IsSound l.circuit l.self l.frames;
 }
+
+abbrev pub decreases-propagating : goal.decreases-propagating
+decreases-propagating g l = l.budget.left
