@@ -6,8 +6,9 @@
 //! learned (literal block distance, Audemard and Simon 2009); of two alike the longer, and then the older one.
 //!
 //! Where there are many clauses, a conflict propagates through many of them, and a few thousand learned ones cost little
-//! beside those. So the conflicts from one reduction to the next are at least a tenth of the clauses, but for questions about
-//! a part, which see a small share of the clauses.
+//! beside those. So the conflicts from one reduction to the next are at least a tenth of the clauses, and some thousand where
+//! something is assumed, since what one question teaches serves the next ones too; but for questions about a part, which see a
+//! small share of the clauses.
 
 ghost use Rattle.std.specs.Prelude.{◌≡◌, IfErr};
 ghost use Rattle.cdcl_log.specs.Keeping.{Keeps};
@@ -29,6 +30,9 @@ const MORE: u64 = 50;
 /// There are at least as many conflicts as this share of the clauses.
 const SHARE: u64 = 10;
 
+/// There are at least as many conflicts where something is assumed.
+const ASSUMING: u64 = 3000;
+
 /// When learned clauses are to be taken out.
 #[derive(Drop)]
 pub struct Reductions {
@@ -47,9 +51,8 @@ impl Reductions {
         }
     }
 
-    /// Counts a conflict of a question, about a part or all of this number of clauses, and tells whether a reduction is due.
-    pub fn is_due(&mut self, clauses: usize, is_part: bool) -> bool {
-        let least = if is_part { 0 } else { clauses as u64 / SHARE };
+    /// Counts a conflict, and tells whether a reduction is due, where there are at least so many conflicts from one to the next.
+    pub fn is_due(&mut self, least: u64) -> bool {
         self.since = self.since.saturating_add(1);
         if self.since < self.interval.max(least) {
             return false;
@@ -57,6 +60,19 @@ impl Reductions {
         self.interval = self.interval.saturating_add(MORE);
         self.since = 0;
         true
+    }
+}
+
+/// How many conflicts there are at least from one reduction to the next, in a question about a part or all of this number of
+/// clauses.
+pub fn least_between(clauses: usize, is_part: bool, assume: &[i32]) -> u64 {
+    let share = clauses as u64 / SHARE;
+    if is_part {
+        0
+    } else if assume.is_empty() {
+        share
+    } else {
+        share.max(ASSUMING)
     }
 }
 

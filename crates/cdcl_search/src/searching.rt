@@ -18,7 +18,7 @@ use crate::learning::learn;
 use crate::levels::{go_back, open_level};
 use crate::look::{Found, replacement};
 use crate::propagation::{Propagated, propagate};
-use crate::reduction::reduce;
+use crate::reduction::{least_between, reduce};
 use crate::trail_reuse::reuse_trail;
 use crate::units::{imply, settle_new};
 use base::{Budget, Refused};
@@ -115,7 +115,8 @@ fn meet(
     guide.waiting = None;
     learn(kernel, guide, conflict, level)?;
     let clauses = kernel.known().clauses();
-    if guide.reductions.is_due(clauses, guide.is_part) {
+    let least = least_between(clauses, guide.is_part, assume);
+    if guide.reductions.is_due(least) {
         reduce(kernel, guide)?;
     }
     if guide.restarts.is_due() {
