@@ -10,7 +10,7 @@ ghost use Rattle.base.specs.Budget.{Spends};
 
 use crate::guide::Guide;
 use crate::long_clauses::Look;
-use crate::short_lists::Short;
+use crate::short_lists::{Short, Span};
 use crate::values::{Value, code_of, literal_of};
 use crate::watches::Watch;
 use base::{Budget, Refused};
@@ -38,11 +38,9 @@ enum Visit {
     Conflict(u32),
 }
 
-/// What the values leave of a short clause beside a literal that is false.
+/// What the values leave of a short clause beside a literal that is false, where it has to be looked at.
 #[derive(Clone, Copy)]
 enum Left {
-    /// it need not be looked at
-    Idle,
     /// the open literal with this code alone
     Unit(u32),
     /// nothing
@@ -104,15 +102,15 @@ fn is_passed_over(guide: &Guide, blocker: u32) -> bool {
 /// What is left of a short clause. It need not be looked at where it has a true literal, or two open ones; or where the one
 /// open literal that it leaves is not of the part in question, above level 0.
 #[inline]
-fn left_of(guide: &Guide, watch: Short) -> Left {
+fn left_of(guide: &Guide, watch: Short) -> Option<Left> {
     let first = guide.values.of(watch.first);
     let second = guide.values.of(watch.second);
     let chances = first.chance() + second.chance();
     if chances > 1 {
-        return Left::Idle;
+        return None;
     }
     if chances == 0 {
-        return Left::Conflict;
+        return Some(Left::Conflict);
     }
     let open = if first == Value::Open {
         watch.first
@@ -120,9 +118,9 @@ fn left_of(guide: &Guide, watch: Short) -> Left {
         watch.second
     };
     if guide.is_part && guide.is_left_out(open) {
-        Left::Idle
+        None
     } else {
-        Left::Unit(open)
+        Some(Left::Unit(open))
     }
 }
 
@@ -133,21 +131,33 @@ fn visit_short(guide: &mut Guide, budget: &mut Budget, denied: i32) -> Result<Pr
 {
     // where they lie is read once: what comes on the trail moves none of them
     let span = guide.watches.short_span(denied);
-    for at in 0..span.len {
-        let watch = guide.watches.short_at(span, at);
-        let left = left_of(guide, watch);
-        if let Left::Idle = left {
-            continue;
-        }
+    let mut from = 0;
+    for _ in 0..span.len {
+        let Some((behind, id, left)) = next_left(guide, span, from) else {
+            break;
+        };
+        from = behind;
         if !budget.tick() {
             return Ok(Propagated::Spent);
         }
         let Left::Unit(open) = left else {
-            return Ok(Propagated::Conflict(watch.id));
+            return Ok(Propagated::Conflict(id));
         };
-        guide.enqueue(literal_of(open), Some(watch.id))?;
+        guide.enqueue(literal_of(open), Some(id))?;
     }
     Ok(Propagated::Quiet)
+}
+
+/// The first clause of a span from a place on that has to be looked at: the place behind it, its id, and what is left of it.
+#[inline]
+fn next_left(guide: &Guide, span: Span, from: usize) -> Option<(usize, u32, Left)> {
+    let clauses = guide.watches.shorts(span).get(from..)?;
+    for (passed, clause) in clauses.iter().enumerate() {
+        if let Some(left) = left_of(guide, *clause) {
+            return Some((from + passed + 1, clause.id, left));
+        }
+    }
+    None
 }
 
 /// Looks at the longer clauses that watch the literal with this code. Those that go on watching it stay in the
