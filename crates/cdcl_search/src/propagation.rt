@@ -8,10 +8,10 @@
 
 ghost use Rattle.base.specs.Budget.{Spends};
 
-use crate::guide::Guide;
+use crate::guide::{Guide, enqueue, is_elsewhere};
 use crate::long_clauses::Look;
-use crate::short_lists::{Short, Span};
-use crate::values::{Value, code_of, literal_of};
+use crate::short_lists::Short;
+use crate::values::{Value, Values, code_of, literal_of};
 use crate::watches::Watch;
 use base::{Budget, Refused};
 use cdcl_kernel::Kernel;
@@ -38,9 +38,11 @@ enum Visit {
     Conflict(u32),
 }
 
-/// What the values leave of a short clause beside a literal that is false, where it has to be looked at.
+/// What the values leave of a short clause beside a literal that is false.
 #[derive(Clone, Copy)]
 enum Left {
+    /// it need not be looked at
+    Idle,
     /// the open literal with this code alone
     Unit(u32),
     /// nothing
@@ -99,65 +101,55 @@ fn is_passed_over(guide: &Guide, blocker: u32) -> bool {
     }
 }
 
-/// What is left of a short clause. It need not be looked at where it has a true literal, or two open ones; or where the one
-/// open literal that it leaves is not of the part in question, above level 0.
+/// What is left of a short clause. It need not be looked at where it has a true literal, or two open ones.
 #[inline]
-fn left_of(guide: &Guide, watch: Short) -> Option<Left> {
-    let first = guide.values.of(watch.first);
-    let second = guide.values.of(watch.second);
+fn left_of(values: &Values, clause: Short) -> Left {
+    let first = values.of(clause.first);
+    let second = values.of(clause.second);
     let chances = first.chance() + second.chance();
     if chances > 1 {
-        return None;
-    }
-    if chances == 0 {
-        return Some(Left::Conflict);
-    }
-    let open = if first == Value::Open {
-        watch.first
+        Left::Idle
+    } else if chances == 0 {
+        Left::Conflict
+    } else if first == Value::Open {
+        Left::Unit(clause.first)
     } else {
-        watch.second
-    };
-    if guide.is_part && guide.is_left_out(open) {
-        None
-    } else {
-        Some(Left::Unit(open))
+        Left::Unit(clause.second)
     }
 }
 
 /// Looks at the clauses of two or three literals that have this one. What one of them leaves comes on the trail without a
-/// look at the clause itself.
+/// look at the clause itself; where that is not of the part in question, above level 0, the clause is passed over.
 fn visit_short(guide: &mut Guide, budget: &mut Budget, denied: i32) -> Result<Propagated, Refused>
     ensures { Spends budget.old budget.new }
 {
-    // where they lie is read once: what comes on the trail moves none of them
-    let span = guide.watches.short_span(denied);
-    let mut from = 0;
-    for _ in 0..span.len {
-        let Some((behind, id, left)) = next_left(guide, span, from) else {
-            break;
+    for clause in guide.watches.shorts(denied) {
+        let left = left_of(&guide.values, *clause);
+        let is_idle = match left {
+            Left::Idle => true,
+            Left::Unit(open) => {
+                guide.is_part && is_elsewhere(&guide.parts, guide.question, &guide.levels, open)
+            }
+            Left::Conflict => false,
         };
-        from = behind;
+        if is_idle {
+            continue;
+        }
         if !budget.tick() {
             return Ok(Propagated::Spent);
         }
         let Left::Unit(open) = left else {
-            return Ok(Propagated::Conflict(id));
+            return Ok(Propagated::Conflict(clause.id));
         };
-        guide.enqueue(literal_of(open), Some(id))?;
+        enqueue(
+            &mut guide.levels,
+            &mut guide.values,
+            &mut guide.trail,
+            literal_of(open),
+            Some(clause.id),
+        )?;
     }
     Ok(Propagated::Quiet)
-}
-
-/// The first clause of a span from a place on that has to be looked at: the place behind it, its id, and what is left of it.
-#[inline]
-fn next_left(guide: &Guide, span: Span, from: usize) -> Option<(usize, u32, Left)> {
-    let clauses = guide.watches.shorts(span).get(from..)?;
-    for (passed, clause) in clauses.iter().enumerate() {
-        if let Some(left) = left_of(guide, *clause) {
-            return Some((from + passed + 1, clause.id, left));
-        }
-    }
-    None
 }
 
 /// Looks at the longer clauses that watch the literal with this code. Those that go on watching it stay in the

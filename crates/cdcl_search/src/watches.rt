@@ -128,6 +128,12 @@ impl Watches {
         self.attached
     }
 
+    /// The clauses of two or three literals that have this one.
+    #[inline]
+    pub fn shorts(&self, literal: i32) -> &[Short] {
+        self.shorts.of(self.short_span(literal))
+    }
+
     /// Where the clauses of two or three literals lie that have this one.
     #[inline]
     pub fn short_span(&self, literal: i32) -> Span {
@@ -135,12 +141,6 @@ impl Watches {
             Some(lists) => lists.short,
             None => EMPTY,
         }
-    }
-
-    /// The clauses of such a span.
-    #[inline]
-    pub fn shorts(&self, span: Span) -> &[Short] {
-        self.shorts.of(span)
     }
 
     /// A clause of such a span.
