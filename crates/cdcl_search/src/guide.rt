@@ -88,6 +88,27 @@ pub struct Guide {
     pub(crate) is_filled: bool,
 }
 
+/// Whether the literal with this code need not come on the trail in a question about a part, above level 0: it is not of
+/// that part.
+#[inline]
+pub(crate) fn is_elsewhere(parts: &Table<u32>, question: u32, levels: &Levels, code: u32) -> bool {
+    levels.current() > 0 && parts.at(code as usize / 2, 0) != question
+}
+
+/// Puts a literal on the trail that is decided, or that a clause leaves.
+#[inline]
+pub(crate) fn enqueue(
+    levels: &mut Levels,
+    values: &mut Values,
+    trail: &mut Trail,
+    literal: i32,
+    reason: Option<u32>,
+) -> Result<(), Refused> {
+    levels.note(literal, trail.len());
+    values.set(literal);
+    trail.push(literal, reason)
+}
+
 impl Guide {
     /// No variables and no clauses, which take no memory.
     pub fn new(alloc: Global) -> Guide {
@@ -170,17 +191,19 @@ impl Guide {
     /// Whether the literal with this code need not come on the trail, above level 0: it is not of the part in question.
     #[inline]
     pub(crate) fn is_left_out(&self, code: u32) -> bool {
-        self.is_part
-            && self.levels.current() > 0
-            && self.parts.at(code as usize / 2, 0) != self.question
+        self.is_part && is_elsewhere(&self.parts, self.question, &self.levels, code)
     }
 
     /// Puts a literal on the trail that is decided, or that a clause leaves.
     #[inline]
     pub(crate) fn enqueue(&mut self, literal: i32, reason: Option<u32>) -> Result<(), Refused> {
-        self.levels.note(literal, self.trail.len());
-        self.values.set(literal);
-        self.trail.push(literal, reason)
+        enqueue(
+            &mut self.levels,
+            &mut self.values,
+            &mut self.trail,
+            literal,
+            reason,
+        )
     }
 
     /// The literal's variable has no value any more, and is to be decided.

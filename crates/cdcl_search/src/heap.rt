@@ -46,6 +46,40 @@ fn index_of(literal: i32) -> usize {
     literal.unsigned_abs() as usize
 }
 
+/// The first of the most active ones among the first four entries, with its place.
+#[inline]
+fn most_active(entries: &[Entry]) -> Option<(usize, Entry)> {
+    let [a, b, c, d, ..] = entries else {
+        return most_active_of_few(entries);
+    };
+    let left = if b.activity > a.activity {
+        (1, *b)
+    } else {
+        (0, *a)
+    };
+    let right = if d.activity > c.activity {
+        (3, *d)
+    } else {
+        (2, *c)
+    };
+    if right.1.activity > left.1.activity {
+        Some(right)
+    } else {
+        Some(left)
+    }
+}
+
+/// The first of the most active entries, with its place.
+fn most_active_of_few(entries: &[Entry]) -> Option<(usize, Entry)> {
+    let mut best = (0, *entries.first()?);
+    for (at, entry) in entries.iter().enumerate() {
+        if entry.activity > best.1.activity {
+            best = (at, *entry);
+        }
+    }
+    Some(best)
+}
+
 impl Heap {
     /// No variables.
     pub fn new(alloc: Global) -> Heap {
@@ -104,18 +138,8 @@ impl Heap {
     #[inline]
     fn child(&self, place: usize) -> Option<(usize, Entry)> {
         let first = place.wrapping_mul(BELOW).wrapping_add(1);
-        let mut best = first;
-        let mut child = self.entries.get(first).copied()?;
-        for at in first.wrapping_add(1)..first.saturating_add(BELOW) {
-            match self.entries.get(at).copied() {
-                Some(other) if other.activity > child.activity => {
-                    best = at;
-                    child = other;
-                }
-                _ => {}
-            }
-        }
-        Some((best, child))
+        let (at, child) = most_active(self.entries.get(first..)?)?;
+        Some((first.wrapping_add(at), child))
     }
 
     /// Puts the entry at the place, or below it where those below are more active.

@@ -8,10 +8,10 @@
 
 ghost use Rattle.base.specs.Budget.{Spends};
 
-use crate::guide::Guide;
+use crate::guide::{Guide, enqueue, is_elsewhere};
 use crate::long_clauses::Look;
 use crate::short_lists::Short;
-use crate::values::{Value, code_of, literal_of};
+use crate::values::{Value, Values, code_of, literal_of};
 use crate::watches::Watch;
 use base::{Budget, Refused};
 use cdcl_kernel::Kernel;
@@ -101,51 +101,53 @@ fn is_passed_over(guide: &Guide, blocker: u32) -> bool {
     }
 }
 
-/// What is left of a short clause. It need not be looked at where it has a true literal, or two open ones; or where the one
-/// open literal that it leaves is not of the part in question, above level 0.
+/// What is left of a short clause. It need not be looked at where it has a true literal, or two open ones.
 #[inline]
-fn left_of(guide: &Guide, watch: Short) -> Left {
-    let first = guide.values.of(watch.first);
-    let second = guide.values.of(watch.second);
+fn left_of(values: &Values, clause: Short) -> Left {
+    let first = values.of(clause.first);
+    let second = values.of(clause.second);
     let chances = first.chance() + second.chance();
     if chances > 1 {
-        return Left::Idle;
-    }
-    if chances == 0 {
-        return Left::Conflict;
-    }
-    let open = if first == Value::Open {
-        watch.first
-    } else {
-        watch.second
-    };
-    if guide.is_part && guide.is_left_out(open) {
         Left::Idle
+    } else if chances == 0 {
+        Left::Conflict
+    } else if first == Value::Open {
+        Left::Unit(clause.first)
     } else {
-        Left::Unit(open)
+        Left::Unit(clause.second)
     }
 }
 
 /// Looks at the clauses of two or three literals that have this one. What one of them leaves comes on the trail without a
-/// look at the clause itself.
+/// look at the clause itself; where that is not of the part in question, above level 0, the clause is passed over.
 fn visit_short(guide: &mut Guide, budget: &mut Budget, denied: i32) -> Result<Propagated, Refused>
     ensures { Spends budget.old budget.new }
 {
-    // where they lie is read once: what comes on the trail moves none of them
-    let span = guide.watches.short_span(denied);
-    for at in 0..span.len {
-        let watch = guide.watches.short_at(span, at);
-        let left = left_of(guide, watch);
-        if let Left::Idle = left {
+    for clause in guide.watches.shorts(denied) {
+        let left = left_of(&guide.values, *clause);
+        let is_idle = match left {
+            Left::Idle => true,
+            Left::Unit(open) => {
+                guide.is_part && is_elsewhere(&guide.parts, guide.question, &guide.levels, open)
+            }
+            Left::Conflict => false,
+        };
+        if is_idle {
             continue;
         }
         if !budget.tick() {
             return Ok(Propagated::Spent);
         }
         let Left::Unit(open) = left else {
-            return Ok(Propagated::Conflict(watch.id));
+            return Ok(Propagated::Conflict(clause.id));
         };
-        guide.enqueue(literal_of(open), Some(watch.id))?;
+        enqueue(
+            &mut guide.levels,
+            &mut guide.values,
+            &mut guide.trail,
+            literal_of(open),
+            Some(clause.id),
+        )?;
     }
     Ok(Propagated::Quiet)
 }

@@ -5,8 +5,8 @@
 //! its blocker, another literal of the clause: where that one is true the clause is left alone.
 //! The search has a copy of the clause, with the two watched literals first (`long_clauses`), and the watch has its place.
 //! Clauses of two or three literals lie apart, under each of their literals (`short_lists`): a watch of one has its id and all
-//! the others, and no more is read of it. The lists of the longer ones lie apart too, and are read only of literals that
-//! have some.
+//! the others, and no more is read of it. Where both kinds are to be found stands side by side for each literal, since they
+//! are visited one after the other.
 //!
 //! No proof rests on what is watched: a clause that is missed is found when a model is looked
 //! through.
@@ -29,20 +29,24 @@ pub struct Watch {
     pub blocker: u32,
 }
 
-/// Where the clauses of a literal are to be found.
-#[derive(Clone, Copy)]
+/// The clauses of a literal.
+#[derive(Drop)]
 struct Lists {
     /// where those of two or three literals lie
     short: Span,
-    /// whether longer ones watch it
-    has_long: bool,
+    /// the longer ones that watch it
+    long: Vec<Watch>,
 }
 
-/// A literal of no clause.
-const NO_LISTS: Lists = Lists {
-    short: EMPTY,
-    has_long: false,
-};
+impl Lists {
+    /// Those of a literal of no clause, which take no memory of their own.
+    fn new(alloc: Global) -> Lists {
+        Lists {
+            short: EMPTY,
+            long: Vec::new(alloc),
+        }
+    }
+}
 
 /// The literal of variable 0, which does not exist and is always false.
 const NO_LITERAL: i32 = 0;
@@ -51,14 +55,12 @@ const NO_LITERAL: i32 = 0;
 #[derive(Drop)]
 pub struct Watches {
     alloc: Global,
-    /// by literals, 16 bytes of each
+    /// by literals
     lists: Vec<Lists>,
     /// the clauses of two or three literals
     shorts: ShortLists,
     /// in how many clauses to come of two or three literals each literal is
     counts: Counts,
-    /// the watches of the longer ones, by literals, which are read only of a literal that has some
-    longs: Vec<Vec<Watch>>,
     /// the longer ones
     clauses: LongClauses,
     /// the greatest id of a clause that was attached
@@ -104,7 +106,6 @@ impl Watches {
             lists: Vec::new(alloc),
             shorts: ShortLists::new(alloc),
             counts: Counts::new(alloc),
-            longs: Vec::new(alloc),
             clauses: LongClauses::new(alloc),
             attached: 0,
         }
@@ -118,14 +119,19 @@ impl Watches {
 
     /// Makes room for the next literal.
     fn grow_literal(&mut self) -> Result<(), Refused> {
-        push(&mut self.lists, NO_LISTS)?;
-        self.counts.grow()?;
-        push(&mut self.longs, Vec::new(self.alloc))
+        push(&mut self.lists, Lists::new(self.alloc))?;
+        self.counts.grow()
     }
 
     /// The greatest id of a clause that was attached. All below it were too, or need no watches.
     pub fn attached(&self) -> usize {
         self.attached
+    }
+
+    /// The clauses of two or three literals that have this one.
+    #[inline]
+    pub fn shorts(&self, literal: i32) -> &[Short] {
+        self.shorts.of(self.short_span(literal))
     }
 
     /// Where the clauses of two or three literals lie that have this one.
@@ -146,33 +152,28 @@ impl Watches {
     /// Takes the list of the longer clauses that watch the literal out, where there are any.
     #[inline]
     pub fn take(&mut self, literal: i32) -> Option<Vec<Watch>> {
-        let index = index_of(literal);
-        if index < self.lists.len() && self.lists[index].has_long && index < self.longs.len() {
-            let list = mem::replace(&mut self.longs[index], Vec::new(self.alloc));
-            return Some(list);
+        let lists = self.lists.get_mut(index_of(literal))?;
+        if lists.long.is_empty() {
+            return None;
         }
-        None
+        Some(mem::replace(&mut lists.long, Vec::new(self.alloc)))
     }
 
     /// Puts the list of the longer clauses that watch the literal back.
     #[inline]
     pub fn put(&mut self, literal: i32, list: Vec<Watch>) {
-        let index = index_of(literal);
-        if index < self.lists.len() && index < self.longs.len() {
-            self.lists[index].has_long = !list.is_empty();
-            self.longs[index] = list;
+        if let Some(lists) = self.lists.get_mut(index_of(literal)) {
+            lists.long = list;
         }
     }
 
     /// Adds a longer clause to those that watch the literal with this code.
     #[inline]
     fn watch(&mut self, code: u32, watch: Watch) -> Result<(), Refused> {
-        let index = code as usize;
-        if index < self.lists.len() && index < self.longs.len() {
-            push(&mut self.longs[index], watch)?;
-            self.lists[index].has_long = true;
+        match self.lists.get_mut(code as usize) {
+            Some(lists) => push(&mut lists.long, watch),
+            None => Ok(()),
         }
-        Ok(())
     }
 
     /// Adds a short clause to those that have the literal.
@@ -323,20 +324,11 @@ impl Watches {
     /// Takes the watches of clauses out that are gone. After an `Err` the watches are worth nothing.
     pub fn sweep(&mut self, kernel: &Kernel) -> Result<(), Refused> {
         let renewed = self.clauses.renew(self.alloc, kernel)?;
-        for index in 0..self.lists.len() {
-            self.sweep_literal(index, kernel);
+        for lists in self.lists.iter_mut() {
+            lists.short = self.shorts.sweep(lists.short, kernel);
+            move_watches(&mut lists.long, &self.clauses);
         }
         self.clauses = renewed;
         Ok(())
-    }
-
-    /// Takes the watches of clauses out that are gone, of the literal at the index.
-    fn sweep_literal(&mut self, index: usize, kernel: &Kernel) {
-        if index < self.lists.len() && index < self.longs.len() {
-            let span = self.lists[index].short;
-            self.lists[index].short = self.shorts.sweep(span, kernel);
-            move_watches(&mut self.longs[index], &self.clauses);
-            self.lists[index].has_long = !self.longs[index].is_empty();
-        }
     }
 }
