@@ -6,9 +6,9 @@
 //! learned (literal block distance, Audemard and Simon 2009); of two alike the longer, and then the older one.
 //!
 //! Where there are many clauses, a conflict propagates through many of them, and a few thousand learned ones cost little
-//! beside those. So the conflicts from one reduction to the next are at least a tenth of the clauses, and some thousand where
-//! something is assumed, since what one question teaches serves the next ones too; but for questions about a part, which see a
-//! small share of the clauses.
+//! beside those. So the conflicts from one reduction to the next are at least a tenth of all clauses that were added or learned,
+//! forgotten ones too, and some thousand where something is assumed, since what one question teaches serves the next ones too;
+//! but for questions about a part, which see a small share of the clauses.
 
 ghost use Rattle.std.specs.Prelude.{◌≡◌, IfErr};
 ghost use Rattle.cdcl_log.specs.Keeping.{Keeps};
@@ -63,8 +63,8 @@ impl Reductions {
     }
 }
 
-/// How many conflicts there are at least from one reduction to the next, in a question about a part or all of this number of
-/// clauses.
+/// How many conflicts there are at least from one reduction to the next, in a question about a part or about all clauses, of
+/// which so many were added or learned.
 pub fn least_between(clauses: usize, is_part: bool, assume: &[i32]) -> u64 {
     let share = clauses as u64 / SHARE;
     if is_part {

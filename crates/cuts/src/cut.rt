@@ -15,7 +15,7 @@ pub(crate) type Leaves = (u32, u32, u32, u32);
 pub struct Cut {
     /// the truth table of the function
     pub table: u16,
-    /// the variables, each once
+    /// the variables
     pub leaves: (u32, u32, u32, u32),
 }
 

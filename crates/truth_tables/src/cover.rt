@@ -122,10 +122,10 @@ fn cover_rest(cubes: &mut Vec<Cube>, table: u16, essential: u16) -> Result<(), R
     Ok(())
 }
 
-/// Cubes of which one holds exactly where the function is true, none of them part of a greater one that would do.
+/// Cubes of which one holds exactly where the function is true.
 ///
 /// First come those that alone hold a row as cubes that can't be made greater (essential primes). Each row that is left gets one that is
-/// made greater input by input.
+/// made greater input by input. That makes them few and great; nothing rests on it.
 pub(crate) fn cover_of(alloc: Global, table: u16) -> Result<Vec<Cube>, Refused>
     ensures { IfOk result (λ cubes. IsCover table cubes.items) }
 {
