@@ -47,7 +47,7 @@ impl<S: PartSat> FrameSolver<S> {
                 self.add_clause(alloc, circuit, level + 1, clause)?;
                 self.count_propagated();
                 let kept = frames.propagate(alloc, place)?;
-                Ok(kept.saturating_add(1))
+                Ok(kept + 1)
             }
             Consecution::Broken(time) => {
                 failures.note(alloc, level, clause, time.state.as_slice())?;

@@ -110,7 +110,7 @@ raised_among es fs i p e i_in same above only each lean p_in at =
       ];
       lean = λ k x k_in. elim (lean k x k_in) [
         | inl other ↦ inl other
-        | inr kept ↦ inr (kept.2 ∙ get_or-set_at es i kept.0 e (get_or fs k x) (one_place kept.0 i (sym kept.1)) i_in)
+        | inr kept ↦ inr (kept.3 ∙ get_or-set_at es i kept.0 e (get_or fs k x) (one_place kept.0 i (sym kept.1)) i_in)
       ];
     }
 

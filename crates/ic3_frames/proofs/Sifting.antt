@@ -87,9 +87,9 @@ nowhere p e = false≢true (ap is_some e)
 pub not_at : (except : Option ℕ) (i : ℕ) → option_eq eqb except (Some i) ≡ false → except ≡ Some i → ⊥
 not_at except i e is = false≢true (sym e ∙ ap (λ o. option_eq eqb o (Some i)) is ∙ eq-eqb i i refl)
 
--- where the element of the excepted place is, once the sifting has passed it
+-- where the element of the excepted place is, once the sifting has passed it: no further back
 abbrev pub IsStill : {X : Type 0} → List X → List X → Option ℕ → ℕ → ℕ → ℕ → Type 0
-IsStill {X} old now except place kept i = (p : ℕ) (d : X) → except ≡ Some p → p < i → (place < kept) × (get_or now place d ≡ get_or old p d)
+IsStill {X} old now except place kept i = (p : ℕ) (d : X) → except ≡ Some p → p < i → (place < kept) × (get_or now place d ≡ get_or old p d) × (place ≤ p)
 
 pub still_gone : {X : Type 0} (old now : List X) (except : Option ℕ) (place kept i : ℕ) → (except ≡ Some i → ⊥) → IsStill old now except place kept i → IsStill old now except place kept (i + 1)
 still_gone {X} old now except place kept i other h p d is p_in = elim (cases_lt p i) [
@@ -103,15 +103,15 @@ still_kept {X} old now next except place kept i other behind swapped h p d is p_
   | inl below ↦
       let found = h p d is below in
       let front : place < kept = found.0 in
-      (omega (arith, front), swapped.2 place d (λ e. omega (arith, e, front)) (λ e. omega (arith, e, front, behind)) ∙ found.1)
+      (omega (arith, front), swapped.2 place d (λ e. omega (arith, e, front)) (λ e. omega (arith, e, front, behind)) ∙ found.1, found.2)
   | inr above ↦ let last : p ≡ i = omega arith in absurd (other (is ∙ ap Some last))
 ]
 
-pub still_here : {X : Type 0} (old now next : List X) (except : Option ℕ) (kept i : ℕ) → except ≡ Some i → ((d : X) → get_or now i d ≡ get_or old i d) → SwappedAt now next kept i →
+pub still_here : {X : Type 0} (old now next : List X) (except : Option ℕ) (kept i : ℕ) → except ≡ Some i → kept ≤ i → ((d : X) → get_or now i d ≡ get_or old i d) → SwappedAt now next kept i →
     IsStill old next except kept (kept + 1) (i + 1)
-still_here {X} old now next except kept i at rest swapped p d is p_in =
+still_here {X} old now next except kept i at behind rest swapped p d is p_in =
     let same : i ≡ p = one_place i p (sym at ∙ is) in
-    (omega arith, swapped.0 d ∙ rest d ∙ ap (λ n. get_or old n d) same)
+    (omega arith, swapped.0 d ∙ rest d ∙ ap (λ n. get_or old n d) same, omega (arith, behind, same))
 
 -- at the end
 pub still_taken : {X : Type 0} (old now : List X) (except : Option ℕ) (place kept i : ℕ) → length old ≤ i → kept ≤ length now → IsStill old now except place kept i → (p : ℕ) (d : X) → except ≡ Some p → p < length old →

@@ -4,7 +4,7 @@ use Rattle.std.specs.Int.{bit_at, bit_not}
 use Rattle.std.specs.Int.Bits.{bit_and}
 use Rattle.std.specs.List.{SwappedAt}
 use Rattle.std.proofs.lemmas.Bool.{cases_eq, cases_lt}
-use Rattle.std.proofs.lemmas.Nat.Bits.{bit_at_and, bit_at_not, bit_at-zero, same_from_bits}
+use Rattle.std.proofs.lemmas.Nat.Bits.{bit_at_and, bit_at_not, bit_at_above, bit_at-lt, bit_at-zero, same_from_bits}
 use Rattle.std.proofs.lemmas.List.{get_or-take, length-take, length-set, get_or-set_same, get_or-set_other, get_or_append_left, get_or_push, length_push}
 use Rattle.std.proofs.lemmas.List.Elements.{All-contains, Contains-get_or}
 use Rattle.ic3_step.specs.declared.state.StateLit.{StateLit}
@@ -13,25 +13,43 @@ use Rattle.ic3_frames.specs.declared.frames.Entry.{Entry}
 use Rattle.ic3_frames.specs.Signatures.{signature_bit, IsSignature, AreSignatures}
 
 -- a part's bits are the whole's
-no_bit : (c d : List StateLit) (whole part i : ℕ) → whole < 18446744073709551616 → IsSignature c whole → IsSignature d part → IsPartOf d c → bit_at (bit_and part (bit_not w64 whole)) i ≡ 0
-no_bit c d whole part i fits of_whole of_part within =
+pub part_bits : (c d : List StateLit) (whole part i : ℕ) → IsSignature c whole → IsSignature d part → IsPartOf d c → bit_at part i ≡ 1 → bit_at whole i ≡ 1
+part_bits c d whole part i of_whole of_part within bit = elim (cases_eq (bit_at whole i) 1) [
+  | inl set ↦ set
+  | inr unset ↦
+      let clear : bit_at part i ≡ 0 = of_part.none i (λ k a k_in same.
+      unset (ap (bit_at whole) (sym same) ∙ All-contains (λ (b : StateLit). bit_at whole (signature_bit b) ≡ 1) c (get_or d k a) of_whole.each (within (get_or d k a) (Contains-get_or d k a k_in)))) in
+      absurd (omega (arith, bit, clear))
+]
+
+no_bit : (whole part i : ℕ) → whole < 18446744073709551616 → part < 18446744073709551616 → (bit_at part i ≡ 1 → bit_at whole i ≡ 1) → bit_at (bit_and part (bit_not w64 whole)) i ≡ 0
+no_bit whole part i fits part_fits has =
     let both = bit_at_and part (bit_not w64 whole) i in
-    elim (cases_eq (bit_at whole i) 1) [
-      | inl set ↦ elim (cases_lt i 64) [
-        | inl below ↦ let opposite = bit_at_not w64 whole i fits below in omega (arith, both, opposite, set)
-        | inr above ↦
-            let clear : bit_at part i ≡ 0 = of_part.none i (λ k a k_in same. omega (arith, same, above)) in
-            omega (arith, both, clear)
+    let few = bit_at-lt part i in
+    elim (cases_lt (bit_at part i) 1) [
+      | inl clear ↦ omega (arith, both, clear)
+      | inr set ↦ elim (cases_lt i 64) [
+        | inl below ↦
+            let opposite = bit_at_not w64 whole i fits below in
+            let also : bit_at whole i ≡ 1 = has (omega (arith, set, few)) in
+            omega (arith, both, opposite, also)
+        | inr above ↦ let clear = bit_at_above part 64 i part_fits above in omega (arith, both, clear)
       ]
-      | inr unset ↦
-          let clear : bit_at part i ≡ 0 = of_part.none i (λ k a k_in same.
-          unset (ap (bit_at whole) (sym same) ∙ All-contains (λ (b : StateLit). bit_at whole (signature_bit b) ≡ 1) c (get_or d k a) of_whole.each (within (get_or d k a) (Contains-get_or d k a k_in)))) in
-          omega (arith, both, clear)
     ]
 
-pub nothing_missing : (c d : List StateLit) (whole part : ℕ) → whole < 18446744073709551616 → IsSignature c whole → IsSignature d part → IsPartOf d c → bit_and part (bit_not w64 whole) ≡ 0
-nothing_missing c d whole part fits of_whole of_part within =
-    same_from_bits (bit_and part (bit_not w64 whole)) 0 (λ i. no_bit c d whole part i fits of_whole of_part within ∙ sym (bit_at-zero i))
+-- no bit is left of a word without another's bits exactly where each of its bits is the other's
+pub nothing_left : (whole part : ℕ) → whole < 18446744073709551616 → part < 18446744073709551616 → ((i : ℕ) → bit_at part i ≡ 1 → bit_at whole i ≡ 1) → bit_and part (bit_not w64 whole) ≡ 0
+nothing_left whole part fits part_fits has = same_from_bits (bit_and part (bit_not w64 whole)) 0 (λ i. no_bit whole part i fits part_fits (has i) ∙ sym (bit_at-zero i))
+
+pub nothing_missing : (whole part i : ℕ) → whole < 18446744073709551616 → part < 18446744073709551616 → bit_and part (bit_not w64 whole) ≡ 0 → bit_at part i ≡ 1 → bit_at whole i ≡ 1
+nothing_missing whole part i fits part_fits nothing bit =
+    let both = bit_at_and part (bit_not w64 whole) i in
+    let none : bit_at (bit_and part (bit_not w64 whole)) i ≡ 0 = ap (λ n. bit_at n i) nothing ∙ bit_at-zero i in
+    let few = bit_at-lt whole i in
+    elim (cases_lt i 64) [
+      | inl below ↦ let opposite = bit_at_not w64 whole i fits below in omega (arith, both, none, opposite, few, bit)
+      | inr above ↦ let clear = bit_at_above part 64 i part_fits above in absurd (omega (arith, bit, clear))
+    ]
 
 -- an equal clause has an equal signature
 moved : (e f : Entry) (w v : ℕ) → IsSignature e.clause w → f ≡ e → v ≡ w → IsSignature f.clause v

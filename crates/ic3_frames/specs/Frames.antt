@@ -67,9 +67,9 @@ IsSubsumed c level e = (e.level ≤ level) × IsPartOf c e.clause
 abbrev pub IsNotSubsumed : List StateLit → ℕ → Entry → Type 0
 IsNotSubsumed c level e = IsRising c → IsRising e.clause → IsSubsumed c level e → ⊥
 
--- the entry is the one at the place that is excepted, if one is
+-- the entry is the one at the place of the list that is excepted, if one is
 abbrev pub IsExcepted : List Entry → Option ℕ → Entry → Type 0
-IsExcepted es except e = (p : ℕ) × (except ≡ Some p) × (e ≡ slice_index_or es p e)
+IsExcepted es except e = (p : ℕ) × (except ≡ Some p) × (p < length es) × (e ≡ slice_index_or es p e)
 
 -- the second entries are the first and one more, without those that it makes subsumption
 pub record IsAdded (es fs : List Entry) (e : Entry) : Type 0 where

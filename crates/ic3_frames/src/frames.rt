@@ -156,13 +156,14 @@ impl Frames {
     }
 
     /// Propagates the clause at a place to the next frame, drops the other clauses that it subsumes there, in the order of those
-    /// that stay, and answers where it is then. It takes a look at the signature of each clause, and a search only in a clause of
-    /// such a level whose signature has all bits of this one's. A refusal changes nothing.
+    /// that stay, and answers where it is then, no further back. It takes a look at the signature of each clause, and a search
+    /// only in a clause of such a level whose signature has all bits of this one's. A refusal changes nothing.
     pub fn propagate(&mut self, alloc: Global, place: usize) -> Result<usize, Refused>
         requires place { place < length self.old.entries }
         requires level { All (λ e. e.level < 4294967295) self.old.entries }
         ensures top { self.new.top ≡ self.old.top }
         ensures place { (d : Entry) → IfOk result (λ p. (p < length self.new.entries) × (slice_index_or self.new.entries p d ≡ record { clause = (slice_index_or self.old.entries place d).clause; level = (slice_index_or self.old.entries place d).level + 1 })) }
+        ensures front { IfOk result (λ p. p ≤ place) }
         ensures only { (d : Entry) → OnOk result ((e : Entry) → Contains self.new.entries e → Contains self.old.entries e ⊎ (e ≡ record { clause = (slice_index_or self.old.entries place d).clause; level = (slice_index_or self.old.entries place d).level + 1 })) }
         ensures lean { (d : Entry) → OnOk result (All (λ e. IsNotSubsumed (slice_index_or self.old.entries place d).clause ((slice_index_or self.old.entries place d).level + 1) e ⊎
             (e ≡ record { clause = (slice_index_or self.old.entries place d).clause; level = (slice_index_or self.old.entries place d).level + 1 })) self.new.entries) }

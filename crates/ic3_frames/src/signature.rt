@@ -1,6 +1,6 @@
 //! Signatures of clauses, which show in one look of most clauses that they are no part of another.
 
-ghost use Rattle.std.specs.Prelude.{◌≡◌, ◌≢◌, ◌<◌, ℕ, List, IsTrue, IfOk};
+ghost use Rattle.std.specs.Prelude.{◌≡◌, ◌≢◌, ◌↔◌, ◌<◌, ℕ, List, IsTrue, IfOk};
 ghost use Rattle.std.specs.Int.{bit_at};
 ghost use Rattle.ic3_step.specs.declared.state.StateLit.{StateLit as Lit};
 ghost use Rattle.ic3_step.specs.States.{IsPartOf};
@@ -42,7 +42,8 @@ pub(crate) fn signature_of(clause: &[StateLit]) -> u64
 
 /// Whether the first signature has each bit of the second. Where it has not, the second's clause is no part of the first's.
 pub(crate) fn covers(whole: u64, part: u64) -> bool
-    ensures { (c d : List Lit) → IsSignature c whole → IsSignature d part → IsPartOf d c → IsTrue result }
+    ensures is { IsTrue result ↔ ((i : ℕ) → bit_at part i ≡ 1 → bit_at whole i ≡ 1) }
+    ensures parts { (c d : List Lit) → IsSignature c whole → IsSignature d part → IsPartOf d c → IsTrue result }
 {
     part & !whole == 0
 }

@@ -73,7 +73,7 @@ fn keep(entries: &mut Vec<Entry>, signatures: &mut Vec<u64>, kept: usize, i: usi
 }
 
 /// Leaves the entries that the clause does not subsume, and the one at the place that is excepted, in their order, and counts
-/// the others out. It answers where the excepted one is then.
+/// the others out. It answers where the excepted one is then, no further back.
 pub(crate) fn remove_subsumed(
     entries: &mut Vec<Entry>,
     signatures: &mut Vec<u64>,
@@ -91,6 +91,7 @@ pub(crate) fn remove_subsumed(
     ensures lean { All (λ e. IsNotSubsumed clause.now level e ⊎ IsExcepted entries.old.items except e) entries.new.items }
     ensures place { (p : ℕ) (d : Kept) → except ≡ Some p → p < length entries.old.items →
         (result < length entries.new.items) × (slice_index_or entries.new.items result d ≡ slice_index_or entries.old.items p d) }
+    ensures front { (p : ℕ) → except ≡ Some p → p < length entries.old.items → result ≤ p }
     ensures len { vec_len entries.new ≤ vec_len entries.old }
     ensures capacity { vec_capacity entries.new ≡ vec_capacity entries.old }
     ensures signatures_len { vec_len signatures.new ≤ vec_len signatures.old }

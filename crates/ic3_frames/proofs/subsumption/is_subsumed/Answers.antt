@@ -18,5 +18,5 @@ returns-then-entry-level c = record {
 pub returns-else-entry-level-clause-complete : goal.returns-else-entry-level-clause-complete
 returns-else-entry-level-clause-complete c = λ rising entry_rising subsumption. elim c.if-covers.branch [
   | then-covers w ↦ w.value-is ∙ le-leb _ _ subsumption.0
-  | else-covers w ↦ w.value-is ∙ c.covers.ensures c.args.entry.now.clause c.args.clause.now c.requires.entry c.requires.clause subsumption.1
+  | else-covers w ↦ w.value-is ∙ c.covers.ensures.parts c.args.entry.now.clause c.args.clause.now c.requires.entry c.requires.clause subsumption.1
 ]

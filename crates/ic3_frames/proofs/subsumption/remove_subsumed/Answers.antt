@@ -49,12 +49,12 @@ sifting-preserved c =
                 let y : Entry = v.index.result.now in
                 let same : y ≡ x = v.index.ensures ∙ get_or_default now i y d (omega arith) in
                 inl (subst (IsNotSubsumed c.args.clause.now c.args.level) same (λ rising entry_rising subsumption. false≢true (v.if-is_subsumed.ensures.complete rising entry_rising subsumption)))
-            | else-not-stays-via-else-not-stays v ↦ inr (i, at_place except i (sym c.eq-stays.ensures ∙ v.if-not-stays.false), at ∙ h.rest i x (omega arith))
+            | else-not-stays-via-else-not-stays v ↦ inr (i, at_place except i (sym c.eq-stays.ensures ∙ v.if-not-stays.false), omega arith, at ∙ h.rest i x (omega arith))
           ] in
           let still : IsStill old next except c.if-not-stays.place (kept + 1) (i + 1) = elim w.if-stays.branch [
             | then-stays v ↦
                 let is : except ≡ Some i = at_place except i (sym c.eq-stays.ensures ∙ v.if-stays.true) in
-                rw (w.place-is, v.place-is) (still_here old now next except kept i is (λ e. h.rest i e (omega arith)) w.keep.ensures.entries)
+                rw (w.place-is, v.place-is) (still_here old now next except kept i is behind (λ e. h.rest i e (omega arith)) w.keep.ensures.entries)
             | else-stays v ↦
                 let other : except ≡ Some i → ⊥ = not_at except i (sym c.eq-stays.ensures ∙ v.if-stays.false) in
                 rw (w.place-is, v.place-is) (still_kept old now next except c.sifting.place kept i other behind w.keep.ensures.entries c.sifting.invariant.still)
@@ -94,6 +94,11 @@ returns-clause-place c = λ p d is p_in.
     let behind = c.sifting.invariant.sifted.behind in
     let long = c.sifting.invariant.sifted.long in
     rw c.truncate.ensures.items (still_taken old c.sifting.entries.items c.args.except c.sifting.place c.sifting.kept c.sifting.i (omega arith) (omega (arith, behind, long)) c.sifting.invariant.still p d is p_in)
+
+pub returns-clause-front : goal.returns-clause-front
+returns-clause-front c = λ p is p_in.
+    let d : Entry = record { clause = c.args.clause.now; level = 0 } in
+    (c.sifting.invariant.still p d is (omega arith)).2
 
 pub returns-clause-signatures : goal.returns-clause-signatures
 returns-clause-signatures c =

@@ -62,6 +62,15 @@ returns-clause-only c = λ d. (is_added c d).only
 pub returns-clause-lean : goal.returns-clause-lean
 returns-clause-lean c = λ d. (is_added c d).lean
 
+pub returns-clause-front : goal.returns-clause-front
+returns-clause-front c =
+    let items = c.self.inside.entries.items in
+    let i = c.args.place in
+    let i_in : i < length items = subst (λ es. i < length es) (sym (ap (λ f. f.entries) c.self.view_is)) c.requires.place in
+    let x : Entry = c.index_mut.result.now in
+    let e : Entry = record { clause = x.clause; level = x.level + 1 } in
+    c.remove_subsumed.ensures.front i refl (subst (λ n. i < n) (sym (length-set items i e)) i_in)
+
 pub returns-clause-place : goal.returns-clause-place
 returns-clause-place c = λ d.
     let items = c.self.inside.entries.items in
