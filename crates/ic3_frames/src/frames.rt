@@ -112,7 +112,7 @@ impl Frames {
         Ok(marks.have_one(entries, self.signatures.as_slice(), level))
     }
 
-    /// Where the longest is of the clauses that end at `level` and are part of this one, the first of several: the clause that a
+    /// Where the longest is of the clauses that end at `level` and are part of this one, or one of several: the clause that a
     /// frame before excluded these states by. It costs as `implies`.
     pub fn longest_part(
         &self,
@@ -155,9 +155,9 @@ impl Frames {
         )
     }
 
-    /// Propagates the clause at a place to the next frame, drops the other clauses that it subsumes there, in the order of those
-    /// that stay, and answers where it is then, no further back. It takes a look at the signature of each clause, and a search
-    /// only in a clause of such a level whose signature has all bits of this one's. A refusal changes nothing.
+    /// Propagates the clause at a place to the next frame, drops the other clauses that it subsumes there, and answers where it is
+    /// then, no further back. Nothing is promised of the order of the others. It takes a look at the signature of each clause, and
+    /// a search only in a clause of such a level whose signature has all bits of this one's. A refusal changes nothing.
     pub fn propagate(&mut self, alloc: Global, place: usize) -> Result<usize, Refused>
         requires place { place < length self.old.entries }
         requires level { All (λ e. e.level < 4294967295) self.old.entries }

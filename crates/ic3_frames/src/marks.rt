@@ -129,7 +129,7 @@ impl Marks {
             && self.have(entry.clause.as_slice())
     }
 
-    /// Where the longest is of the clauses that end at the level and have marked literals alone, the first of several. The
+    /// Where the longest is of the clauses that end at the level and have marked literals alone, or one of several. The
     /// clauses have these signatures.
     pub(crate) fn longest(&self, entries: &[Entry], signatures: &[u64], level: u32) -> Option<usize>
         requires { AreSignatures entries.now signatures.now }

@@ -72,8 +72,7 @@ fn keep(entries: &mut Vec<Entry>, signatures: &mut Vec<u64>, kept: usize, i: usi
     }
 }
 
-/// Leaves the entries that the clause does not subsume, and the one at the place that is excepted, in their order, and counts
-/// the others out. It answers where the excepted one is then, no further back.
+/// Leaves the entries that the clause does not subsume, and the one at the place that is excepted, and counts the others out. It answers where the excepted one is then, no further back.
 pub(crate) fn remove_subsumed(
     entries: &mut Vec<Entry>,
     signatures: &mut Vec<u64>,
