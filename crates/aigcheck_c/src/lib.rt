@@ -54,8 +54,8 @@ pub extern "C" fn aigcheck_safe(
     count: &mut usize,
 ) -> u8
     ensures status { (result ≡ 0) ⊎ (result ≡ 1) ⊎ (result ≡ 3) }
-    ensures yes { result ≡ 0 → (p : AProperty) × Accepts circuit.now certificate.now p × IsUpheldText circuit.now p × (take count.new line.new ≡ yes_line Safe p) }
-    ensures no { result ≡ 1 → (n : ℕ) × IsRefusal circuit.now certificate.now n × (take count.new line.new ≡ no_line n) }
+    ensures yes { result ≡ 0 → (p : AProperty) × Accepts circuit.now certificate.now p × IsUpheldText circuit.now p × (count.new ≤ length line.new) × (take count.new line.new ≡ yes_line Safe p) }
+    ensures no { result ≡ 1 → (n : ℕ) × IsRefusal circuit.now certificate.now n × (count.new ≤ length line.new) × (take count.new line.new ≡ no_line n) }
     ensures none { result ≡ 3 → count.new ≡ 0 }
     // What is accepted never gets a no.
     ensures exact { (p : AProperty) → Accepts circuit.now certificate.now p → result ≢ 1 }
@@ -77,8 +77,8 @@ pub extern "C" fn aigcheck_run(
     count: &mut usize,
 ) -> u8
     ensures status { (result ≡ 0) ⊎ (result ≡ 1) ⊎ (result ≡ 3) }
-    ensures yes { result ≡ 0 → (p : AProperty) × Confirms circuit.now stimulus.now p × (take count.new line.new ≡ yes_line Run p) }
-    ensures no { result ≡ 1 → (n : ℕ) × IsRunRefusal circuit.now stimulus.now n × (take count.new line.new ≡ no_line n) }
+    ensures yes { result ≡ 0 → (p : AProperty) × Confirms circuit.now stimulus.now p × (count.new ≤ length line.new) × (take count.new line.new ≡ yes_line Run p) }
+    ensures no { result ≡ 1 → (n : ℕ) × IsRunRefusal circuit.now stimulus.now n × (count.new ≤ length line.new) × (take count.new line.new ≡ no_line n) }
     ensures none { result ≡ 3 → count.new ≡ 0 }
     // What shows its violation never gets a no.
     ensures exact { (p : AProperty) → Confirms circuit.now stimulus.now p → result ≢ 1 }

@@ -1,7 +1,6 @@
 -- Files in either layout.
-use Rattle.std.proofs.Common.{◌≡◌, ◌≢◌, ℕ, ◌≤◌, List, ◌++◌, length, Option, Some, None, Result, Ok, Err, inl, inr, refl, sym, ◌∙◌, ap, subst, append-nil, arith}
+use Rattle.std.proofs.Common.{◌≡◌, ◌≢◌, ℕ, ◌≤◌, List, length, Result, Ok, Err, inl, inr, refl, sym, ◌∙◌, ap, subst, arith}
 use Rattle.std.specs.Prelude.{MatchResult, IsErrAnd}
-use Rattle.std.specs.Io.KnownBytes.{Consumes, IsAtEnd}
 use Rattle.std.proofs.lemmas.Option.{same_Some}
 use Rattle.base.specs.Witness.{witness}
 use Rattle.graph.specs.declared.error.ReadError.{ReadError}
@@ -72,12 +71,6 @@ refused xs e only is short ne other = record {
   other = other;
   too_long = (λ n. absurd (ne (only_too_long e n)), λ lt. absurd (omega (arith, lt, short)));
 }
-
--- a source that is at its end gave all its bytes
-pub all_read : (a b : Option (List ℕ)) (v xs : List ℕ) → Consumes a b v → IsAtEnd b → a ≡ Some xs → v ≡ xs
-all_read None b v xs read end known = absurd cc
-all_read (Some x) None v xs read end known = absurd read
-all_read (Some x) (Some y) v xs read end known = sym (append-nil v) ∙ ap (λ l. v ++ l) (sym end) ∙ sym read ∙ same_Some x xs known
 
 -- a result that is this error
 pub match_gives : {X E : Type 0} (P : X → Type 0) (Q : E → Type 0) (r : Result X E) (e : E) → IsErrAnd r (λ f. f ≡ e) → Q e → MatchResult r P Q

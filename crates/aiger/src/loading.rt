@@ -1,6 +1,7 @@
 //! Reading all the bytes of a source.
 
-ghost use Rattle.std.specs.Prelude.{◌≡◌, ◌+◌, ◌-◌, ◌<◌, ◌^◌, ℕ, List, Some, MatchResult, IsErrOf};
+ghost use Rattle.std.specs.Prelude.{◌≡◌, ◌+◌, ◌-◌, ◌<◌, ◌^◌, MatchResult, IsErrOf, IfOk};
+ghost use Rattle.base.specs.Devices.{IsAtEnd, Reads};
 ghost use Rattle.aiger.specs.Loading.{IsFileOf, IsRefusal};
 ghost use Rattle.aiger.specs.declared.load_error.LoadError.TheVariants.{Device};
 
@@ -19,7 +20,9 @@ pub fn load<S: Source>(alloc: Global, source: &mut S) -> Result<AigerFile, LoadE
     requires { S.failed source.old < 2 ^ 64 - 1 }
     // The one file that the bytes spell; and where it is refused, they spell none, or memory was refused. But for
     // that, it is refused as too long exactly where there are more than 67108864 bytes.
-    ensures says { (xs : List ℕ) → S.remaining source.old ≡ Some xs → MatchResult result (IsFileOf xs) (IsRefusal xs) }
+    ensures says { Reads (S.leaves source.old) (S.leaves source.new) (λ xs _. MatchResult result (IsFileOf xs) (IsRefusal xs)) }
+    // A file is of all the bytes: the source told its end.
+    ensures ended { IfOk result (λ _. IsAtEnd (S.leaves source.new)) }
     // The source failed once where it is reported so, and else not.
     ensures failed { IsErrOf result Device → S.failed source.new ≡ S.failed source.old + 1 }
     ensures kept { (IsErrOf result Device → ⊥) → S.failed source.new ≡ S.failed source.old }

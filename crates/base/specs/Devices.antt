@@ -1,5 +1,5 @@
 -- What a device does in one call.
-use Rattle.std.specs.Prelude.{◌≡◌, ℕ, ◌+◌, ◌<◌, ◌≤◌, List, ◌++◌, length, Option, Result, IfOk, MatchResult}
+use Rattle.std.specs.Prelude.{◌≡◌, ℕ, ◌+◌, ◌<◌, ◌≤◌, List, [], ◌++◌, length, take, Bool, Option, Result, IfOk, MatchResult}
 use Rattle.std.specs.Io.KnownBytes.{Appends}
 
 -- no more bytes are moved than the slice has
@@ -18,6 +18,28 @@ CountsFailure before after result = MatchResult result (λ _. after ≡ before) 
 abbrev pub LowersMost : {E : Type 0} → ℕ → ℕ → Result ℕ E → Type 0
 LowersMost before after result = MatchResult result (λ n. after + n ≡ before) (λ _. after ≡ before)
 
+-- a source's state, as a relation: the first list is a text that it may be giving, the second is the part that is still to come
+abbrev pub Leaves : Type 1
+Leaves = List ℕ → List ℕ → Type 0
+
+-- the bytes were moved, in this order and no others
+abbrev pub Moves : Leaves → Leaves → List ℕ → Type 0
+Moves before after bytes = (text later : List ℕ) → after text later → before text (bytes ++ later)
+
+-- nothing is still to come
+abbrev pub IsAtEnd : Leaves → Type 0
+IsAtEnd after = (text later : List ℕ) → after text later → later ≡ []
+
+-- the first n bytes of the slice were moved, none into room only at the end, and nothing after a failure
+abbrev pub TakeMoves : {E : Type 0} → Leaves → Leaves → Result ℕ E → List ℕ → Type 0
+TakeMoves before after result bytes =
+    MatchResult result (λ n. Moves before after (take n bytes) × (n ≡ 0 → 0 < length bytes → IsAtEnd after)) (λ _. Moves before after [])
+
+-- the fact is true of the bytes that were to come before the call and of those that are to come after it, whatever the latter
+-- turn out to be
+abbrev pub Reads : Leaves → Leaves → (List ℕ → List ℕ → Type 0) → Type 0
+Reads before after P = (text later : List ℕ) → after text later → (xs : List ℕ) × before text xs × P xs later
+
 -- a beginning of the bytes was put, and nothing else
 pub record PutsBeginning (before after : Option (List ℕ)) (bytes : List ℕ) : Type 0 where
   pub done : List ℕ
@@ -30,10 +52,12 @@ pub record Written : Type 0 where
   pub bytes : List ℕ
   pub failures : ℕ
 
--- a reader of std behind a source: how many bytes it gave, and how often it failed
+-- a reader of std behind a source: the bytes that it gave, how many, whether it told its end, and how often it failed
 pub record Reader (R : Type 0) : Type 0 where
   pub reader : R
-  pub given : ℕ
+  pub given : List ℕ
+  pub count : ℕ
+  pub ended : Bool
   pub failures : ℕ
 
 -- a writer of std behind a sink, and how often it failed

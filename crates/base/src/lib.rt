@@ -12,8 +12,10 @@
 #![tactic(auto)]
 
 mod budget;
+mod given;
 mod grow;
 mod lists;
+mod readers;
 mod refused;
 mod seq;
 mod sink;
@@ -26,6 +28,7 @@ pub use grow::{
     reserve_one, small,
 };
 pub use lists::Lists;
+pub use readers::{bytes_left, read_given};
 pub use refused::Refused;
 pub use seq::Seq;
 pub use sink::{Sink, ToVec, ToWrite};

@@ -1,9 +1,12 @@
 //! Where bytes come from.
 
-ghost use Rattle.std.specs.Prelude.{◌≡◌, ℕ, ◌+◌, ◌-◌, ◌^◌, ◌<◌, List, Option, Some, None, Ok, length};
-ghost use Rattle.std.specs.Io.KnownBytes.{ReadConsumes};
-ghost use Rattle.base.specs.Devices.{FitsSlice, CountsFailure, LowersMost};
+ghost use Rattle.std.specs.Prelude.{◌≡◌, ℕ, ◌+◌, ◌-◌, ◌^◌, ◌<◌, List, [], false, Ok, length};
+ghost use Rattle.base.specs.Devices.{FitsSlice, CountsFailure, LowersMost, TakeMoves};
+ghost use Rattle.std.proofs.Common.{refl, sym, ◌∙◌};
+ghost use Rattle.std.proofs.lemmas.List.{append_cancel_left};
+ghost use Rattle.base.specs.Left.{IsLeft, some_left};
 
+use crate::given::Given;
 use std::io::Read;
 
 /// A device failed: nothing was moved, and its count of failures rose by one.
@@ -18,8 +21,8 @@ pub trait Source {
     /// How many bytes it can still give at most.
     ghost most: { Self → ℕ };
 
-    /// The bytes still to come, where the source tells them.
-    ghost remaining: { Self → Option (List ℕ) };
+    /// A text that this source may be giving, and the part of it that is still to come.
+    ghost leaves: { Self → List ℕ → List ℕ → Type 0 };
 
     /// Moves the next bytes to the front of the slice and answers how many. A slice that is not
     /// empty gets 0 only at the end.
@@ -29,11 +32,17 @@ pub trait Source {
         ensures empty { length into.old ≡ 0 → result ≡ Ok 0 }
         ensures counts { CountsFailure (failed self.old) (failed self.new) result }
         ensures lowers { LowersMost (most self.old) (most self.new) result }
-        ensures bytes { ReadConsumes (remaining self.old) (remaining self.new) result into.new };
+        ensures bytes { TakeMoves (leaves self.old) (leaves self.new) result into.new };
 
     /// How often the source has failed.
     fn failures(&self) -> u64
         ensures { result ≡ failed self.now };
+
+    /// There is always a text that it may be giving.
+    ghost some: { (s : Self) → (text : List ℕ) × (later : List ℕ) × leaves s text later };
+
+    /// The text determines what is still to come.
+    ghost one: { (s : Self) (text a b : List ℕ) → leaves s text a → leaves s text b → a ≡ b };
 }
 
 /// The bytes of a slice. A contract sees those that are still to come.
@@ -64,7 +73,7 @@ impl Source for FromBytes<'_> {
 
     ghost most = { λ bytes. length bytes };
 
-    ghost remaining = { λ bytes. Some bytes };
+    ghost leaves = { λ bytes _ later. later ≡ bytes };
 
     fn take(&mut self, into: &mut [u8]) -> Result<usize, Failed> {
         let n = self.rest.len().min(into.len());
@@ -76,6 +85,10 @@ impl Source for FromBytes<'_> {
     fn failures(&self) -> u64 {
         0
     }
+
+    ghost some = { λ s. ([], s, refl) };
+
+    ghost one = { λ s text a b x y. x ∙ sym y };
 }
 
 /// A reader of std. It gives 2^64 - 1 bytes in all at most and fails from then on, so that every
@@ -83,7 +96,9 @@ impl Source for FromBytes<'_> {
 #[derive(Drop)]
 pub struct FromRead<R> {
     reader: R,
-    given: u64,
+    given: Given,
+    count: u64,
+    ended: bool,
     failures: u64,
 }
 
@@ -92,17 +107,19 @@ impl<R> std::marker::Model for FromRead<R> {
 
     ghost Value = { Reader R };
 
-    ghost view = { λ s. record { reader = s.reader; given = s.given; failures = s.failures } };
+    ghost view = { λ s. record { reader = s.reader; given = s.given.bytes; count = s.count; ended = s.ended; failures = s.failures } };
 }
 
 impl<R: Read> FromRead<R> {
     /// A source over the reader, which has not failed.
     pub fn new(reader: R) -> FromRead<R>
-        ensures { result ≡ record { reader = reader; given = 0; failures = 0 } }
+        ensures { result ≡ record { reader = reader; given = []; count = 0; ended = false; failures = 0 } }
     {
         FromRead {
             reader,
-            given: 0,
+            given: Given::new(),
+            count: 0,
+            ended: false,
             failures: 0,
         }
     }
@@ -111,15 +128,16 @@ impl<R: Read> FromRead<R> {
 impl<R: Read> Source for FromRead<R> {
     ghost failed = { λ s. s.failures };
 
-    ghost most = { λ s. 2 ^ 64 - 1 - s.given };
+    ghost most = { λ s. 2 ^ 64 - 1 - s.count };
 
-    ghost remaining = { λ s. R.remaining s.reader };
+    // What was given is the text's beginning, after the end nothing is given, and a reader that tells its bytes gives these.
+    ghost leaves = { λ s. IsLeft s.given s.ended (R.remaining s.reader) };
 
     fn take(&mut self, into: &mut [u8]) -> Result<usize, Failed> {
-        if into.is_empty() {
+        if into.is_empty() || self.ended {
             return Ok(0);
         }
-        let left = u64::MAX - self.given;
+        let left = u64::MAX - self.count;
         if left == 0 {
             self.failures += 1;
             return Err(Failed);
@@ -127,7 +145,9 @@ impl<R: Read> Source for FromRead<R> {
         let room = into.len().min(left as usize);
         match self.reader.read(&mut into[..room]) {
             Ok(n) => {
-                self.given += n as u64;
+                self.given = self.given.and(&into[..n]);
+                self.count += n as u64;
+                self.ended = n == 0;
                 Ok(n)
             }
             Err(_) => {
@@ -140,4 +160,8 @@ impl<R: Read> Source for FromRead<R> {
     fn failures(&self) -> u64 {
         self.failures
     }
+
+    ghost some = { λ s. some_left s.given s.ended (R.remaining s.reader) };
+
+    ghost one = { λ s text a b x y. append_cancel_left s.given a b (sym x.0 ∙ y.0) };
 }

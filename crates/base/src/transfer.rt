@@ -1,8 +1,8 @@
 //! Whole texts, moved from a source and to a sink.
 
-ghost use Rattle.std.specs.Prelude.{◌≡◌, ◌+◌, ◌-◌, ◌^◌, ◌<◌, ◌≤◌, ◌↔◌, length, Err, IfOk, IfSome, IsErrOf, OnOk, OnErr};
-ghost use Rattle.std.specs.Io.KnownBytes.{Consumes, IsAtEnd, Appends};
-ghost use Rattle.base.specs.Devices.{CountsFailure, PutsBeginning};
+ghost use Rattle.std.specs.Prelude.{◌≡◌, ◌+◌, ◌-◌, ◌^◌, ◌<◌, ◌≤◌, ◌↔◌, [], length, MatchResult, IfOk, IsErrOf, OnOk, OnErr};
+ghost use Rattle.std.specs.Io.KnownBytes.{Appends};
+ghost use Rattle.base.specs.Devices.{CountsFailure, PutsBeginning, Reads};
 
 use crate::grow;
 use crate::refused::Refused;
@@ -32,9 +32,8 @@ pub fn read_all<S: Source>(
     limit: usize,
 ) -> Result<Vec<u8>, ReadAllError>
     requires { S.failed source.old < 2 ^ 64 - 1 }
-    ensures bytes { IfOk result (λ v. Consumes (S.remaining source.old) (S.remaining source.new) v.items × IsAtEnd (S.remaining source.new)) }
+    ensures reads { Reads (S.leaves source.old) (S.leaves source.new) (λ xs later. MatchResult result (λ v. (v.items ≡ xs) × (later ≡ [])) (λ e. e ≡ ReadAllError.TooLong → limit < length xs)) }
     ensures within { IfOk result (λ v. length v.items ≤ limit) }
-    ensures too_long { result ≡ Err ReadAllError.TooLong → IfSome (S.remaining source.old) (λ bytes. limit < length bytes) }
     ensures device { IsErrOf result ReadAllError.Device ↔ (S.failed source.new ≡ S.failed source.old + 1) }
     ensures others { (IsErrOf result ReadAllError.Device → ⊥) → S.failed source.new ≡ S.failed source.old }
 {
@@ -69,7 +68,7 @@ pub enum ReadToEndError {
 /// All the bytes that a source still gives, however many there are.
 pub fn read_to_end<S: Source>(alloc: Global, source: &mut S) -> Result<Vec<u8>, ReadToEndError>
     requires { S.failed source.old < 2 ^ 64 - 1 }
-    ensures bytes { IfOk result (λ v. Consumes (S.remaining source.old) (S.remaining source.new) v.items × IsAtEnd (S.remaining source.new)) }
+    ensures reads { Reads (S.leaves source.old) (S.leaves source.new) (λ xs later. IfOk result (λ v. (v.items ≡ xs) × (later ≡ []))) }
     ensures device { IsErrOf result ReadToEndError.Device ↔ (S.failed source.new ≡ S.failed source.old + 1) }
     ensures others { (IsErrOf result ReadToEndError.Device → ⊥) → S.failed source.new ≡ S.failed source.old }
 {

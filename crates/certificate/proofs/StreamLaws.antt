@@ -24,44 +24,27 @@ use Rattle.certificate.specs.Refusals.{error_of}
 use Rattle.certificate.specs.declared.kinds.SectionKind.{SectionKind}
 use Rattle.certificate.specs.declared.certificate.Certificate.{Certificate}
 use Rattle.certificate.specs.Reading.{greatest, first_line_at, property_at, clause_at, item_at, section_at, certificate_at}
-use Rattle.certificate.specs.Streams.{AreLeft, Finds, FindsWith, ForText, StillReads, end_at, letter_at, letter_of, parts_at}
+use Rattle.certificate.specs.Streams.{Finds, FindsWith, ForText, StillReads, end_at, letter_at, letter_of, parts_at}
 use Rattle.certificate.specs.Texts.{SpellsCertificate}
 use Rattle.certificate.proofs.CertificateLaws.{certificate_reads}
 use Rattle.certificate.proofs.LineLaws.{none_alone, read_alone, rest_skipped}
 use Rattle.certificate.proofs.SectionLaws.{item_reads, item_takes}
 
--- what is read is x, and what follows it is left
-abbrev pub Moves : {A : Type 0} → Read A → A → List ℕ → Option (List ℕ) → Type 0
-Moves read x held source = (rest : List ℕ) × (read ≡ Some (x, rest)) × AreLeft held source rest
-
 -- the first bytes that are held have the next piece, so the whole text is read as they are
-whole_found : {A : Type 0} {p : List ℕ → Read A} → IsOfPiece p → (held ys later zs : List ℕ) (n : ℕ) (x : A) (rest : List ℕ) → Lies held (Some ys) later (Some zs) n → p (take n later) ≡ Some (x, rest) → p (held ++ ys) ≡ Some (x, rest ++ (drop n later ++ zs))
+whole_found : {A : Type 0} {p : List ℕ → Read A} → IsOfPiece p → (held ys later zs : List ℕ) (n : ℕ) (x : A) (rest : List ℕ) → Lies held ys later zs n → p (take n later) ≡ Some (x, rest) → p (held ++ ys) ≡ Some (x, rest ++ (drop n later ++ zs))
 whole_found {A} {p} law held ys later zs n x rest lies e =
     let (alone, after) = read_alone law (take n later) x rest e in
     law.from_piece (held ++ ys) ∙ ap (λ (w : List ℕ × List ℕ). ended (p w.0) >>= λ x. Some (x, w.1)) (ap piece_at lies.0 ∙ lies.1) ∙ ap (λ o. o >>= λ x. Some (x, (piece_at (take n later)).1 ++ (drop n later ++ zs))) alone ∙ ap (λ (w : List ℕ). Some (x, w ++ (drop n later ++ zs))) after
 
-whole_none : {A : Type 0} {p : List ℕ → Read A} → IsOfPiece p → (held ys later zs : List ℕ) (n : ℕ) → Lies held (Some ys) later (Some zs) n → p (take n later) ≡ None → p (held ++ ys) ≡ None
-whole_none {A} {p} law held ys later zs n lies e =
-    law.from_piece (held ++ ys) ∙ ap (λ (w : List ℕ × List ℕ). ended (p w.0) >>= λ x. Some (x, w.1)) (ap piece_at lies.0 ∙ lies.1) ∙ ap (λ o. o >>= λ x. Some (x, (piece_at (take n later)).1 ++ (drop n later ++ zs))) (none_alone law (take n later) e)
-
-first_found : {A : Type 0} {p : List ℕ → Read A} → IsOfPiece p → (held later now ys : List ℕ) (b : Option (List ℕ)) (n : ℕ) (x : A) (rest : List ℕ) → Lies held (Some ys) later b n → n ≤ length later → p (take n later) ≡ Some (x, rest) → now ≡ drop (n - length rest) later → Moves (p (held ++ ys)) x now b
-first_found law held later now ys None n x rest lies within e is = absurd lies
-first_found law held later now ys (Some zs) n x rest lies within e is =
+pub moves_from : {A : Type 0} (p : List ℕ → Read A) → IsOfPiece p → (held later now ys zs : List ℕ) (n : ℕ) (x : A) (rest : List ℕ) → Lies held ys later zs n → n ≤ length later → p (take n later) ≡ Some (x, rest) → now ≡ drop (n - length rest) later → p (held ++ ys) ≡ Some (x, now ++ zs)
+moves_from p law held later now ys zs n x rest lies within e is =
     let left : now ≡ rest ++ drop n later = is ∙ rest_skipped law later n x rest within e in
     let behind : rest ++ (drop n later ++ zs) ≡ now ++ zs = sym (append_assoc rest (drop n later) zs) ∙ ap (λ (w : List ℕ). w ++ zs) (sym left) in
-    (rest ++ (drop n later ++ zs), whole_found law held ys later zs n x rest lies e, (zs, refl, behind))
+    whole_found law held ys later zs n x rest lies e ∙ ap (λ (w : List ℕ). Some (x, w)) behind
 
-none_found : {A : Type 0} {p : List ℕ → Read A} → IsOfPiece p → (held later ys : List ℕ) (b : Option (List ℕ)) (n : ℕ) → Lies held (Some ys) later b n → p (take n later) ≡ None → p (held ++ ys) ≡ None
-none_found law held later ys None n lies e = absurd lies
-none_found law held later ys (Some zs) n lies e = whole_none law held ys later zs n lies e
-
-pub moves_from : {A : Type 0} (p : List ℕ → Read A) → IsOfPiece p → (held later now ys : List ℕ) (a b : Option (List ℕ)) (n : ℕ) (x : A) (rest : List ℕ) → a ≡ Some ys → Lies held a later b n → n ≤ length later → p (take n later) ≡ Some (x, rest) → now ≡ drop (n - length rest) later → Moves (p (held ++ ys)) x now b
-moves_from p law held later now ys None b n x rest known lies within e is = absurd (none-some ys known)
-moves_from p law held later now ys (Some xs) b n x rest known lies within e is = first_found law held later now ys b n x rest (subst (λ w. Lies held (Some w) later b n) (same_Some xs ys known) lies) within e is
-
-pub stuck_from : {A : Type 0} (p : List ℕ → Read A) → IsOfPiece p → (held later ys : List ℕ) (a b : Option (List ℕ)) (n : ℕ) → a ≡ Some ys → Lies held a later b n → p (take n later) ≡ None → p (held ++ ys) ≡ None
-stuck_from p law held later ys None b n known lies e = absurd (none-some ys known)
-stuck_from p law held later ys (Some xs) b n known lies e = none_found law held later ys b n (subst (λ w. Lies held (Some w) later b n) (same_Some xs ys known) lies) e
+pub stuck_from : {A : Type 0} (p : List ℕ → Read A) → IsOfPiece p → (held later ys zs : List ℕ) (n : ℕ) → Lies held ys later zs n → p (take n later) ≡ None → p (held ++ ys) ≡ None
+stuck_from p law held later ys zs n lies e =
+    law.from_piece (held ++ ys) ∙ ap (λ (w : List ℕ × List ℕ). ended (p w.0) >>= λ x. Some (x, w.1)) (ap piece_at lies.0 ∙ lies.1) ∙ ap (λ o. o >>= λ x. Some (x, (piece_at (take n later)).1 ++ (drop n later ++ zs))) (none_alone law (take n later) e)
 
 -- a text refusal is reported only of a text from which nothing is read
 pub for_text : (total : ℕ) (fault : Fault Refusal) (P : Type 0) {A : Type 0} (o : Option A) → (o ≡ None → P) → Fails fault o → ForText (Refused (error_of total fault)) P
@@ -79,24 +62,15 @@ nil_piece : (piece_at []).0 ≡ []
 unfolding piece_at
 nil_piece = refl
 
-over_from : (held later ys : List ℕ) (b : Option (List ℕ)) → Lies held (Some ys) later b 0 → held ++ ys ≡ []
-over_from held later ys None lies = absurd lies
-over_from held later ys (Some zs) lies = lies.0 ∙ piece_nil (later ++ zs) (ap (λ (w : List ℕ × List ℕ). w.0) lies.1 ∙ nil_piece)
-
 -- no piece comes where no byte is left
-pub none_left : (held later ys : List ℕ) (a b : Option (List ℕ)) (n : ℕ) → a ≡ Some ys → n ≡ 0 → Lies held a later b n → held ++ ys ≡ []
-none_left held later ys None b n known is lies = absurd (none-some ys known)
-none_left held later ys (Some xs) b n known is lies = over_from held later ys b (subst (λ k. Lies held (Some ys) later b k) is (subst (λ w. Lies held (Some w) later b n) (same_Some xs ys known) lies))
+pub none_left : (held later ys zs : List ℕ) (n : ℕ) → n ≡ 0 → Lies held ys later zs n → held ++ ys ≡ []
+none_left held later ys zs n is lies =
+    lies.0 ∙ piece_nil (later ++ zs) (ap (λ (w : List ℕ × List ℕ). w.0) lies.1 ∙ ap (λ k. (piece_at (take k later)).0) is ∙ nil_piece)
 
-no_piece : (held later ys : List ℕ) (b : Option (List ℕ)) (n : ℕ) → Lies held (Some ys) later b n → n ≤ length later → held ++ ys ≡ [] → n ≡ 0
-no_piece held later ys None n lies within none = absurd lies
-no_piece held later ys (Some zs) n lies within none =
+pub some_left : (held later ys zs : List ℕ) (n : ℕ) → Lies held ys later zs n → n ≤ length later → held ++ ys ≡ [] → n ≡ 0
+some_left held later ys zs n lies within none =
     let all = ap length (sym lies.0 ∙ none) in
     omega (arith, within, all, length-append later zs)
-
-pub some_left : (held later ys : List ℕ) (a b : Option (List ℕ)) (n : ℕ) → a ≡ Some ys → Lies held a later b n → n ≤ length later → held ++ ys ≡ [] → n ≡ 0
-some_left held later ys None b n known lies within none = absurd (none-some ys known)
-some_left held later ys (Some xs) b n known lies within none = no_piece held later ys b n (subst (λ w. Lies held (Some w) later b n) (same_Some xs ys known) lies) within none
 
 pub for_text_map : (e : ReaderError) (P Q : Type 0) → (P → Q) → ForText e P → ForText e Q
 for_text_map (Refused (text.OutOfMemory refused)) P Q f p = tt
@@ -110,46 +84,44 @@ for_text_map Device P Q f p = tt
 
 -- ---- one part after another
 
-pub err_finds : {A X : Type 0} (P : A → X → Type 0) (read : Read A) (r : Result X ReaderError) (e : ReaderError) (held : List ℕ) (source : Option (List ℕ)) → IsErrAnd r (λ x. x ≡ e) → ForText e (read ≡ None) → FindsWith P read r held source
-err_finds P read (Ok x) e held source is f = absurd is
-err_finds P read (Err x) e held source is f = subst (λ y. ForText y (read ≡ None)) (sym is) f
+pub err_finds : {A X : Type 0} (P : A → X → Type 0) (read : Read A) (r : Result X ReaderError) (e : ReaderError) (held later : List ℕ) → IsErrAnd r (λ x. x ≡ e) → ForText e (read ≡ None) → FindsWith P read r held later
+err_finds P read (Ok x) e held later is f = absurd is
+err_finds P read (Err x) e held later is f = subst (λ y. ForText y (read ≡ None)) (sym is) f
 
-pub err_read : {A : Type 0} (read : Read A) (r : Result A ReaderError) (e : ReaderError) (held : List ℕ) (source : Option (List ℕ)) → IsErrAnd r (λ x. x ≡ e) → ForText e (read ≡ None) → Finds read r held source
-err_read read (Ok x) e held source is f = absurd is
-err_read read (Err x) e held source is f = subst (λ y. ForText y (read ≡ None)) (sym is) f
+pub err_read : {A : Type 0} (read : Read A) (r : Result A ReaderError) (e : ReaderError) (held later : List ℕ) → IsErrAnd r (λ x. x ≡ e) → ForText e (read ≡ None) → Finds read r held later
+err_read read (Ok x) e held later is f = absurd is
+err_read read (Err x) e held later is f = subst (λ y. ForText y (read ≡ None)) (sym is) f
 
 -- for want of memory
-pub memory_read : {A : Type 0} (read : Read A) (r : Result A ReaderError) (held : List ℕ) (source : Option (List ℕ)) → IsErrAnd r (λ x. x ≡ Refused (text.OutOfMemory witness)) → Finds read r held source
-memory_read read r held source is = err_read read r (Refused (text.OutOfMemory witness)) held source is tt
+pub memory_read : {A : Type 0} (read : Read A) (r : Result A ReaderError) (held later : List ℕ) → IsErrAnd r (λ x. x ≡ Refused (text.OutOfMemory witness)) → Finds read r held later
+memory_read read r held later is = err_read read r (Refused (text.OutOfMemory witness)) held later is tt
 
-pub memory_finds : {A X : Type 0} (P : A → X → Type 0) (read : Read A) (r : Result X ReaderError) (held : List ℕ) (source : Option (List ℕ)) → IsErrAnd r (λ x. x ≡ Refused (text.OutOfMemory witness)) → FindsWith P read r held source
-memory_finds P read r held source is = err_finds P read r (Refused (text.OutOfMemory witness)) held source is tt
+pub memory_finds : {A X : Type 0} (P : A → X → Type 0) (read : Read A) (r : Result X ReaderError) (held later : List ℕ) → IsErrAnd r (λ x. x ≡ Refused (text.OutOfMemory witness)) → FindsWith P read r held later
+memory_finds P read r held later is = err_finds P read r (Refused (text.OutOfMemory witness)) held later is tt
 
 -- the first part is refused
 pub then_none : {A B : Type 0} (read : Read A) (q : A → List ℕ → Read B) (e : ReaderError) → ForText e (read ≡ None) → ForText e ((read >>= λ r. q r.0 r.1) ≡ None)
 then_none read q e f = for_text_map e (read ≡ None) ((read >>= λ r. q r.0 r.1) ≡ None) (λ none. ap (λ o. o >>= λ r. q r.0 r.1) none) f
 
 -- the first part was read, and the second part decides
-pub then_finds : {A B X : Type 0} (P : B → X → Type 0) (read : Read A) (q : A → List ℕ → Read B) (x : A) (held later : List ℕ) (source last : Option (List ℕ)) (r : Result X ReaderError)
-    → Finds read (Ok x) held source → ((zs : List ℕ) → source ≡ Some zs → FindsWith P (q x (held ++ zs)) r later last) → FindsWith P (read >>= λ r. q r.0 r.1) r later last
-then_finds P read q x held later source last (Ok y) (rest, is, (zs, known, left)) next =
-    let (b, after, second, p, end) = next zs known in
-    (b, after, ap (λ o. o >>= λ r. q r.0 r.1) is ∙ ap (q x) left ∙ second, p, end)
-then_finds P read q x held later source last (Err e) (rest, is, (zs, known, left)) next =
-    for_text_map e (q x (held ++ zs) ≡ None) ((read >>= λ r. q r.0 r.1) ≡ None) (λ none. ap (λ o. o >>= λ r. q r.0 r.1) is ∙ ap (q x) left ∙ none) (next zs known)
+pub then_finds : {A B X : Type 0} (P : B → X → Type 0) (read : Read A) (q : A → List ℕ → Read B) (x : A) (held later zs ws : List ℕ) (r : Result X ReaderError)
+    → Finds read (Ok x) held zs → FindsWith P (q x (held ++ zs)) r later ws → FindsWith P (read >>= λ r. q r.0 r.1) r later ws
+then_finds P read q x held later zs ws (Ok y) is (b, second, p) = (b, ap (λ o. o >>= λ r. q r.0 r.1) is ∙ second, p)
+then_finds P read q x held later zs ws (Err e) is next =
+    for_text_map e (q x (held ++ zs) ≡ None) ((read >>= λ r. q r.0 r.1) ≡ None) (λ none. ap (λ o. o >>= λ r. q r.0 r.1) is ∙ none) next
 
 -- the same, where the first part was read with an answer
-pub then_finds_with : {A B X Y : Type 0} (O : A → Y → Type 0) (P : B → X → Type 0) (read : Read A) (q : A → List ℕ → Read B) (y : Y) (held later : List ℕ) (source last : Option (List ℕ)) (r : Result X ReaderError)
-    → FindsWith O read (Ok y) held source → ((x : A) (zs : List ℕ) → O x y → source ≡ Some zs → FindsWith P (q x (held ++ zs)) r later last) → FindsWith P (read >>= λ r. q r.0 r.1) r later last
-then_finds_with O P read q y held later source last r (x, rest, is, o, left) next = then_finds P read q x held later source last r (rest, is, left) (λ zs known. next x zs o known)
+pub then_finds_with : {A B X Y : Type 0} (O : A → Y → Type 0) (P : B → X → Type 0) (read : Read A) (q : A → List ℕ → Read B) (y : Y) (held later zs ws : List ℕ) (r : Result X ReaderError)
+    → FindsWith O read (Ok y) held zs → ((x : A) → O x y → FindsWith P (q x (held ++ zs)) r later ws) → FindsWith P (read >>= λ r. q r.0 r.1) r later ws
+then_finds_with O P read q y held later zs ws r (x, is, o) next = then_finds P read q x held later zs ws r is (next x o)
 
 -- what is found is reported of another value
-pub finds_if : {A X Y : Type 0} (P : A → X → Type 0) (Q : A → Y → Type 0) (f : X → Y) (read : Read A) (x : X) (held : List ℕ) (source : Option (List ℕ)) → ((a : A) → P a x → Q a (f x)) → FindsWith P read (Ok x) held source → FindsWith Q read (Ok (f x)) held source
-finds_if P Q f read x held source h (a, rest, is, p, left) = (a, rest, is, h a p, left)
+pub finds_if : {A X Y : Type 0} (P : A → X → Type 0) (Q : A → Y → Type 0) (f : X → Y) (read : Read A) (x : X) (held later : List ℕ) → ((a : A) → P a x → Q a (f x)) → FindsWith P read (Ok x) held later → FindsWith Q read (Ok (f x)) held later
+finds_if P Q f read x held later h (a, is, p) = (a, is, h a p)
 
 -- what is read so is read so too
-pub same_finds : {A X : Type 0} (P : A → X → Type 0) (read other : Read A) (r : Result X ReaderError) (held : List ℕ) (source : Option (List ℕ)) → read ≡ other → FindsWith P read r held source → FindsWith P other r held source
-same_finds P read other r held source same f = subst (λ o. FindsWith P o r held source) same f
+pub same_finds : {A X : Type 0} (P : A → X → Type 0) (read other : Read A) (r : Result X ReaderError) (held later : List ℕ) → read ≡ other → FindsWith P read r held later → FindsWith P other r held later
+same_finds P read other r held later same f = subst (λ o. FindsWith P o r held later) same f
 
 -- ---- many values
 
@@ -183,32 +155,28 @@ none_of_step : {A : Type 0} (front : List A) (o : Read A) (q : List ℕ → Read
 none_of_step front o q none = rw none refl
 
 -- one value more
-pub many_goes : {A : Type 0} (one : List ℕ → Read A) (read : Read (List A)) (front : List A) (count i : ℕ) (x : A) (held later : List ℕ) (source last : Option (List ℕ)) → i < count → StillReads read front (many_at one (count - i)) held source
-    → ((zs : List ℕ) → source ≡ Some zs → Finds (one (held ++ zs)) (Ok x) later last) → StillReads read (front ++ x ∷ []) (many_at one (count - (i + 1))) later last
-many_goes one read front count i x held later source last lt (zs, known, so_far) next =
-    let (rest, is, (us, left, whole)) = next zs known in
-    (us, left, many_more one front count i (held ++ zs) x (later ++ us) read lt (is ∙ ap (λ w. Some (x, w)) whole) so_far)
+pub many_goes : {A : Type 0} (one : List ℕ → Read A) (read : Read (List A)) (front : List A) (count i : ℕ) (x : A) (held later zs ws : List ℕ) → i < count → StillReads read front (many_at one (count - i)) held zs
+    → Finds (one (held ++ zs)) (Ok x) later ws → StillReads read (front ++ x ∷ []) (many_at one (count - (i + 1))) later ws
+many_goes one read front count i x held later zs ws lt so_far is = many_more one front count i (held ++ zs) x (later ++ ws) read lt is so_far
 
 -- a value is refused
-pub many_refused : {A : Type 0} (one : List ℕ → Read A) (read : Read (List A)) (front : List A) (count i : ℕ) (e : ReaderError) (held : List ℕ) (source : Option (List ℕ)) → i < count → StillReads read front (many_at one (count - i)) held source
-    → ((zs : List ℕ) → source ≡ Some zs → ForText e (one (held ++ zs) ≡ None)) → ForText e (read ≡ None)
+pub many_refused : {A : Type 0} (one : List ℕ → Read A) (read : Read (List A)) (front : List A) (count i : ℕ) (e : ReaderError) (held zs : List ℕ) → i < count → StillReads read front (many_at one (count - i)) held zs
+    → ForText e (one (held ++ zs) ≡ None) → ForText e (read ≡ None)
 unfolding many_at
-many_refused one read front count i e held source lt (zs, known, so_far) next =
+many_refused one read front count i e held zs lt so_far next =
     let k : count - i ≡ suc (count - (i + 1)) = omega arith in
     for_text_map e (one (held ++ zs) ≡ None) (read ≡ None)
     (λ none. sym so_far ∙ ap (λ n. with_front front (many_at one n (held ++ zs))) k ∙ none_of_step front (one (held ++ zs)) (many_at one (count - (i + 1))) none)
-    (next zs known)
+    next
 
 -- the same, where the value was read with an answer
-pub many_goes_with : {A X : Type 0} (P : A → X → Type 0) (one : List ℕ → Read A) (read : Read (List A)) (front : List A) (count i : ℕ) (y : X) (held later : List ℕ) (source last : Option (List ℕ)) → i < count → StillReads read front (many_at one (count - i)) held source
-    → ((zs : List ℕ) → source ≡ Some zs → FindsWith P (one (held ++ zs)) (Ok y) later last) → (x : A) × P x y × StillReads read (front ++ x ∷ []) (many_at one (count - (i + 1))) later last
-many_goes_with one_of one read front count i y held later source last lt (zs, known, so_far) next =
-    let (x, rest, is, p, left) = next zs known in
-    (x, p, many_goes one read front count i x held later source last lt (zs, known, so_far) (λ us other. (rest, ap (λ (w : List ℕ). one (held ++ w)) (same_Some us zs (sym other ∙ known)) ∙ is, left)))
+pub many_goes_with : {A X : Type 0} (P : A → X → Type 0) (one : List ℕ → Read A) (read : Read (List A)) (front : List A) (count i : ℕ) (y : X) (held later zs ws : List ℕ) → i < count → StillReads read front (many_at one (count - i)) held zs
+    → FindsWith P (one (held ++ zs)) (Ok y) later ws → (x : A) × P x y × StillReads read (front ++ x ∷ []) (many_at one (count - (i + 1))) later ws
+many_goes_with P one read front count i y held later zs ws lt so_far (x, is, p) = (x, p, many_goes one read front count i x held later zs ws lt so_far is)
 
 -- all of them were read
-pub many_read : {A : Type 0} (one : List ℕ → Read A) (read : Read (List A)) (front : List A) (count i : ℕ) (held : List ℕ) (source : Option (List ℕ)) → count ≤ i → StillReads read front (many_at one (count - i)) held source → Finds read (Ok front) held source
-many_read one read front count i held source le (zs, known, so_far) = (held ++ zs, many_done one front count i (held ++ zs) read le so_far, (zs, known, refl))
+pub many_read : {A : Type 0} (one : List ℕ → Read A) (read : Read (List A)) (front : List A) (count i : ℕ) (held zs : List ℕ) → count ≤ i → StillReads read front (many_at one (count - i)) held zs → Finds read (Ok front) held zs
+many_read one read front count i held zs le so_far = many_done one front count i (held ++ zs) read le so_far
 
 -- ---- values up to an end
 
@@ -224,31 +192,24 @@ item_none : (read : Read (List ALine)) (front : List ALine) (bytes : List ℕ) �
 item_none read front bytes so_far none =
     sym so_far ∙ ap (with_front front) (items_step bytes) ∙ ap (λ o. with_front front (o >>= λ x. value_then x.0 x.1 (items_at item_at x.1))) none
 
-pub items_go : (read : Read (List ALine)) (front : List ALine) (line : ALine) (held later : List ℕ) (source last : Option (List ℕ)) → StillReads read front (items_at item_at) held source
-    → ((zs : List ℕ) → source ≡ Some zs → Finds (item_at (held ++ zs)) (Ok (Some line)) later last) → StillReads read (front ++ line ∷ []) (items_at item_at) later last
-items_go read front line held later source last (zs, known, so_far) next =
-    let (rest, is, (us, left, whole)) = next zs known in
-    (us, left, item_next read front (held ++ zs) (later ++ us) line so_far (is ∙ ap (λ (w : List ℕ). Some (Some line, w)) whole))
+pub items_go : (read : Read (List ALine)) (front : List ALine) (line : ALine) (held later zs ws : List ℕ) → StillReads read front (items_at item_at) held zs
+    → Finds (item_at (held ++ zs)) (Ok (Some line)) later ws → StillReads read (front ++ line ∷ []) (items_at item_at) later ws
+items_go read front line held later zs ws so_far is = item_next read front (held ++ zs) (later ++ ws) line so_far is
 
-pub items_end : (read : Read (List ALine)) (front : List ALine) (held later : List ℕ) (source last : Option (List ℕ)) → StillReads read front (items_at item_at) held source
-    → ((zs : List ℕ) → source ≡ Some zs → Finds (item_at (held ++ zs)) (Ok None) later last) → Finds read (Ok front) later last
-items_end read front held later source last (zs, known, so_far) next =
-    let (rest, is, left) = next zs known in
-    (rest, item_last read front (held ++ zs) rest so_far is, left)
+pub items_end : (read : Read (List ALine)) (front : List ALine) (held later zs ws : List ℕ) → StillReads read front (items_at item_at) held zs
+    → Finds (item_at (held ++ zs)) (Ok None) later ws → Finds read (Ok front) later ws
+items_end read front held later zs ws so_far is = item_last read front (held ++ zs) (later ++ ws) so_far is
 
-pub items_refused : (read : Read (List ALine)) (front : List ALine) (e : ReaderError) (held : List ℕ) (source : Option (List ℕ)) → StillReads read front (items_at item_at) held source
-    → ((zs : List ℕ) → source ≡ Some zs → ForText e (item_at (held ++ zs) ≡ None)) → ForText e (read ≡ None)
-items_refused read front e held source (zs, known, so_far) next =
-    for_text_map e (item_at (held ++ zs) ≡ None) (read ≡ None) (item_none read front (held ++ zs) so_far) (next zs known)
+pub items_refused : (read : Read (List ALine)) (front : List ALine) (e : ReaderError) (held zs : List ℕ) → StillReads read front (items_at item_at) held zs
+    → ForText e (item_at (held ++ zs) ≡ None) → ForText e (read ≡ None)
+items_refused read front e held zs so_far next = for_text_map e (item_at (held ++ zs) ≡ None) (read ≡ None) (item_none read front (held ++ zs) so_far) next
 
 -- the others were read at once
-pub others_found : {A X : Type 0} (P Q : List A → X → Type 0) (read : Read (List A)) (front : List A) (f : List ℕ → Read (List A)) (held later : List ℕ) (source last : Option (List ℕ)) (r : Result X ReaderError)
-    → StillReads read front f held source → ((zs : List ℕ) → source ≡ Some zs → FindsWith P (f (held ++ zs)) r later last) → ((more : List A) (x : X) → P more x → Q (front ++ more) x) → FindsWith Q read r later last
-others_found P Q read front f held later source last (Ok x) (zs, known, so_far) next h =
-    let (more, rest, is, p, left) = next zs known in
-    (front ++ more, rest, sym so_far ∙ ap (with_front front) is, h more x p, left)
-others_found P Q read front f held later source last (Err e) (zs, known, so_far) next h =
-    for_text_map e (f (held ++ zs) ≡ None) (read ≡ None) (λ none. sym so_far ∙ ap (with_front front) none) (next zs known)
+pub others_found : {A X : Type 0} (P Q : List A → X → Type 0) (read : Read (List A)) (front : List A) (f : List ℕ → Read (List A)) (held later zs ws : List ℕ) (r : Result X ReaderError)
+    → StillReads read front f held zs → FindsWith P (f (held ++ zs)) r later ws → ((more : List A) (x : X) → P more x → Q (front ++ more) x) → FindsWith Q read r later ws
+others_found P Q read front f held later zs ws (Ok x) so_far (more, is, p) h = (front ++ more, sym so_far ∙ ap (with_front front) is, h more x p)
+others_found P Q read front f held later zs ws (Err e) so_far next h =
+    for_text_map e (f (held ++ zs) ≡ None) (read ≡ None) (λ none. sym so_far ∙ ap (with_front front) none) next
 
 -- ---- sections
 
@@ -273,32 +234,21 @@ pub section_refused : (k : SectionKind) (e : ReaderError) (bytes : List ℕ) →
 section_refused k e bytes f = subst (λ o. ForText e (o ≡ None)) (section_is k bytes) (then_none (letter_at k bytes) (λ u. items_at item_at) e f)
 
 -- the line of its letter was read, and then its lines
-pub section_finds : {X : Type 0} (P : List ALine → X → Type 0) (k : SectionKind) (bytes held later : List ℕ) (source last : Option (List ℕ)) (r : Result X ReaderError)
-    → Finds (letter_at k bytes) (Ok (tt {0})) held source → ((zs : List ℕ) → source ≡ Some zs → FindsWith P (items_at item_at (held ++ zs)) r later last) → FindsWith P (section_at (letter_of k) bytes) r later last
-section_finds P k bytes held later source last r first next =
-    subst (λ o. FindsWith P o r later last) (section_is k bytes) (then_finds P (letter_at k bytes) (λ u. items_at item_at) tt held later source last r first next)
+pub section_finds : {X : Type 0} (P : List ALine → X → Type 0) (k : SectionKind) (bytes held later zs ws : List ℕ) (r : Result X ReaderError)
+    → Finds (letter_at k bytes) (Ok (tt {0})) held zs → FindsWith P (items_at item_at (held ++ zs)) r later ws → FindsWith P (section_at (letter_of k) bytes) r later ws
+section_finds P k bytes held later zs ws r first next =
+    subst (λ o. FindsWith P o r later ws) (section_is k bytes) (then_finds P (letter_at k bytes) (λ u. items_at item_at) tt held later zs ws r first next)
 
 -- ---- the end
 
-nil_parts : (a b : List ℕ) → a ++ b ≡ [] → b ≡ []
-nil_parts a b e = nil_from_length b (omega (arith, ap length e, length-append a b))
-
-left_of : (held later ys : List ℕ) (b : Option (List ℕ)) (n : ℕ) → Lies held (Some ys) later b n → held ++ ys ≡ [] → AreLeft later b []
-left_of held later ys None n lies none = absurd lies
-left_of held later ys (Some zs) n lies none = (zs, refl, sym none ∙ lies.0)
-
-left_over : (held later ys : List ℕ) (a b : Option (List ℕ)) (n : ℕ) → a ≡ Some ys → Lies held a later b n → held ++ ys ≡ [] → AreLeft later b []
-left_over held later ys None b n known lies none = absurd (none-some ys known)
-left_over held later ys (Some xs) b n known lies none = left_of held later ys b n (subst (λ w. Lies held (Some w) later b n) (same_Some xs ys known) lies) none
-
-end_of : (bytes later : List ℕ) (b : Option (List ℕ)) → bytes ≡ [] → AreLeft later b [] → Finds (end_at bytes) (Ok (tt {0})) later b
+end_of : (bytes left : List ℕ) → bytes ≡ [] → left ≡ [] → end_at bytes ≡ Some (tt, left)
 unfolding end_at
-end_of bytes later b none left = ([], rw none refl, left)
+end_of bytes left none over = rw (none, over) refl
 
-pub end_found : (held later ys : List ℕ) (a b : Option (List ℕ)) (n : ℕ) → a ≡ Some ys → n ≡ 0 → Lies held a later b n → Finds (end_at (held ++ ys)) (Ok (tt {0})) later b
-end_found held later ys a b n known is lies =
-    let none = none_left held later ys a b n known is lies in
-    end_of (held ++ ys) later b none (left_over held later ys a b n known lies none)
+pub end_found : (held later ys zs : List ℕ) (n : ℕ) → n ≡ 0 → Lies held ys later zs n → Finds (end_at (held ++ ys)) (Ok (tt {0})) later zs
+end_found held later ys zs n is lies =
+    let none = none_left held later ys zs n is lies in
+    end_of (held ++ ys) (later ++ zs) none (sym lies.0 ∙ none)
 
 -- the text goes on
 no_end : (bytes : List ℕ) → (bytes ≡ [] → ⊥) → end_at bytes ≡ None
@@ -306,8 +256,16 @@ unfolding end_at
 no_end [] some = absurd (some refl)
 no_end (c ∷ cs) some = refl
 
-pub end_missed : (held later ys : List ℕ) (a b : Option (List ℕ)) (n : ℕ) → a ≡ Some ys → Lies held a later b n → n ≤ length later → 0 < n → end_at (held ++ ys) ≡ None
-end_missed held later ys a b n known lies within some = no_end (held ++ ys) (λ none. let nought = some_left held later ys a b n known lies within none in omega (arith, nought, some))
+pub end_missed : (held later ys zs : List ℕ) (n : ℕ) → Lies held ys later zs n → n ≤ length later → 0 < n → end_at (held ++ ys) ≡ None
+end_missed held later ys zs n lies within some = no_end (held ++ ys) (λ none. let nought = some_left held later ys zs n lies within none in omega (arith, nought, some))
+
+-- behind the end nothing is left
+pub over : (bytes held later : List ℕ) → end_at bytes ≡ Some (tt {0}, held ++ later) → later ≡ []
+unfolding end_at
+over [] held later e =
+    let none : held ++ later ≡ [] = ap (λ (w : Unit {0} × List ℕ). w.1) (same_Some (tt {0}, held ++ later) (tt {0}, []) (sym e)) in
+    nil_from_length later (omega (arith, ap length none, length-append held later))
+over (c ∷ cs) held later e = absurd (none-some (tt {0}, held ++ later) e)
 
 pub at_end : (bytes rest : List ℕ) (u : Unit {0}) → end_at bytes ≡ Some (u, rest) → bytes ≡ []
 unfolding end_at

@@ -14,25 +14,22 @@ use Rattle.certificate.specs.declared.kinds.SectionKind.TheVariants.{Lemmas, Ini
 use Rattle.certificate.specs.declared.reader_error.ReaderError.{ReaderError}
 use Rattle.certificate.specs.declared.reader_error.ReaderError.TheVariants.{Refused, Device}
 
--- the bytes that are still to come are these: those that are held, and then those of the source
-abbrev pub AreLeft : List ℕ → Option (List ℕ) → List ℕ → Type 0
-AreLeft held source bytes = (zs : List ℕ) × (source ≡ Some zs) × (bytes ≡ held ++ zs)
-
 -- out of memory and a failing device aside, this holds of a refusal
 abbrev pub ForText : ReaderError → Type 0 → Type 0
 ForText (Refused (OutOfMemory refused)) P = Unit {0}
 ForText (Refused other) P = P
 ForText Device P = Unit {0}
 
--- what is read, with what was answered, is of P, and what follows it is left; or nothing is read
-abbrev pub FindsWith : {A X : Type 0} → (A → X → Type 0) → Read A → Result X ReaderError → List ℕ → Option (List ℕ) → Type 0
-FindsWith P read (Ok x) held source = (a : _) × (rest : List ℕ) × (read ≡ Some (a, rest)) × P a x × AreLeft held source rest
-FindsWith P read (Err e) held source = ForText e (read ≡ None)
+-- what is read, with what was answered, is of P, and what follows it are the bytes that are held, and then the later ones of the
+-- source; or nothing is read
+abbrev pub FindsWith : {A X : Type 0} → (A → X → Type 0) → Read A → Result X ReaderError → List ℕ → List ℕ → Type 0
+FindsWith P read (Ok x) held later = (a : _) × (read ≡ Some (a, held ++ later)) × P a x
+FindsWith P read (Err e) held later = ForText e (read ≡ None)
 
--- what is read was answered, and what follows it is left; or nothing is read
-abbrev pub Finds : {A : Type 0} → Read A → Result A ReaderError → List ℕ → Option (List ℕ) → Type 0
-Finds read (Ok x) held source = (rest : List ℕ) × (read ≡ Some (x, rest)) × AreLeft held source rest
-Finds read (Err e) held source = ForText e (read ≡ None)
+-- what is read was answered, and what follows it are the bytes that are held, and then the later ones; or nothing is read
+abbrev pub Finds : {A : Type 0} → Read A → Result A ReaderError → List ℕ → List ℕ → Type 0
+Finds read (Ok x) held later = read ≡ Some (x, held ++ later)
+Finds read (Err e) held later = ForText e (read ≡ None)
 
 -- ---- what is read of lines
 
@@ -71,6 +68,6 @@ end_at (c ∷ cs) = None
 
 -- ---- lists that are read one value after the other
 
--- these values were read of a list that is read, and the others are read of the bytes that are left
-abbrev pub StillReads : {A : Type 0} → Read (List A) → List A → (List ℕ → Read (List A)) → List ℕ → Option (List ℕ) → Type 0
-StillReads read front later held source = (zs : List ℕ) × (source ≡ Some zs) × ((later (held ++ zs) >>= λ x. Some (front ++ x.0, x.1)) ≡ read)
+-- these values were read of a list that is read, and the others are read of the bytes that are held, and then the later ones
+abbrev pub StillReads : {A : Type 0} → Read (List A) → List A → (List ℕ → Read (List A)) → List ℕ → List ℕ → Type 0
+StillReads read front others held later = (others (held ++ later) >>= λ x. Some (front ++ x.0, x.1)) ≡ read

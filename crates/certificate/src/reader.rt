@@ -1,6 +1,7 @@
 //! The text of a certificate, read line by line.
 
 ghost use Rattle.std.specs.Prelude.{◌≡◌, ◌+◌, ◌-◌, ◌^◌, ◌<◌, ◌≤◌, ◌↔◌, ℕ, List, [], ◌++◌, Some, IfOk, IfSome, IsErrOf, length};
+ghost use Rattle.base.specs.Devices.{Reads};
 ghost use Rattle.scan.specs.Reading.{ended};
 ghost use Rattle.scan.specs.Words.{any, field_at};
 ghost use Rattle.lrat.specs.Limits.{IsLine};
@@ -35,7 +36,7 @@ fn line_from<L: LineKind<Refusal = Refusal>, S: Source>(
     requires allows { L.allows context }
     requires line { IsOfPiece (L.at context) }
     requires source { S.failed from.old < 2 ^ 64 - 1 }
-    ensures says { (ys : List ℕ) → S.remaining from.old ≡ Some ys → Finds (L.at context (pieces.old ++ ys)) result pieces.new (S.remaining from.new) }
+    ensures says { Reads (S.leaves from.old) (S.leaves from.new) (λ ys zs. Finds (L.at context (pieces.old ++ ys)) result pieces.new zs) }
     ensures given { IfOk result (λ x. (text : List ℕ) × (ended (L.at context text) ≡ Some x)) }
     ensures moves { IfOk result (λ _. length pieces.new + S.most from.new < length pieces.old + S.most from.old) }
     ensures device { IsErrOf result Device ↔ (S.failed from.new ≡ S.failed from.old + 1) }
@@ -62,7 +63,7 @@ fn clause_from<S: Source>(
     from: &mut S,
 ) -> Result<(), ReaderError>
     requires source { S.failed from.old < 2 ^ 64 - 1 }
-    ensures says { (ys : List ℕ) → S.remaining from.old ≡ Some ys → Finds (clause_at (pieces.old ++ ys)) (with_list result clause.new.items) pieces.new (S.remaining from.new) }
+    ensures says { Reads (S.leaves from.old) (S.leaves from.new) (λ ys zs. Finds (clause_at (pieces.old ++ ys)) (with_list result clause.new.items) pieces.new zs) }
     ensures device { IsErrOf result Device ↔ (S.failed from.new ≡ S.failed from.old + 1) }
     ensures others { (IsErrOf result Device → ⊥) → S.failed from.new ≡ S.failed from.old }
 {
@@ -87,7 +88,7 @@ fn item_from<S: Source>(
     from: &mut S,
 ) -> Result<bool, ReaderError>
     requires source { S.failed from.old < 2 ^ 64 - 1 }
-    ensures says { (ys : List ℕ) → S.remaining from.old ≡ Some ys → Finds (item_at (pieces.old ++ ys)) (with_line result line.new) pieces.new (S.remaining from.new) }
+    ensures says { Reads (S.leaves from.old) (S.leaves from.new) (λ ys zs. Finds (item_at (pieces.old ++ ys)) (with_line result line.new) pieces.new zs) }
     ensures line { IfOk (with_line result line.new) (λ l. IfSome l IsLine) }
     ensures moves { IfOk result (λ _. length pieces.new + S.most from.new < length pieces.old + S.most from.old) }
     ensures device { IsErrOf result Device ↔ (S.failed from.new ≡ S.failed from.old + 1) }
@@ -146,7 +147,7 @@ impl Reader {
         from: &mut S,
     ) -> Result<Version, ReaderError>
         requires source { S.failed from.old < 2 ^ 64 - 1 }
-        ensures says { (ys : List ℕ) → S.remaining from.old ≡ Some ys → Finds (first_line_at (self.old ++ ys)) result self.new (S.remaining from.new) }
+        ensures says { Reads (S.leaves from.old) (S.leaves from.new) (λ ys zs. Finds (first_line_at (self.old ++ ys)) result self.new zs) }
         ensures device { IsErrOf result Device ↔ (S.failed from.new ≡ S.failed from.old + 1) }
         ensures others { (IsErrOf result Device → ⊥) → S.failed from.new ≡ S.failed from.old }
     {
@@ -161,7 +162,7 @@ impl Reader {
         from: &mut S,
     ) -> Result<Property, ReaderError>
         requires source { S.failed from.old < 2 ^ 64 - 1 }
-        ensures says { (ys : List ℕ) → S.remaining from.old ≡ Some ys → Finds (property_at (self.old ++ ys)) result self.new (S.remaining from.new) }
+        ensures says { Reads (S.leaves from.old) (S.leaves from.new) (λ ys zs. Finds (property_at (self.old ++ ys)) result self.new zs) }
         ensures device { IsErrOf result Device ↔ (S.failed from.new ≡ S.failed from.old + 1) }
         ensures others { (IsErrOf result Device → ⊥) → S.failed from.new ≡ S.failed from.old }
     {
@@ -172,7 +173,7 @@ impl Reader {
     #[tactic(auto, using(crate::proofs::LineLaws::count_of_piece, crate::proofs::LineLaws::count_few))]
     pub fn count<S: Source>(&mut self, alloc: Global, from: &mut S) -> Result<u32, ReaderError>
         requires source { S.failed from.old < 2 ^ 64 - 1 }
-        ensures says { (ys : List ℕ) → S.remaining from.old ≡ Some ys → Finds (field_at greatest any 10 (self.old ++ ys)) result self.new (S.remaining from.new) }
+        ensures says { Reads (S.leaves from.old) (S.leaves from.new) (λ ys zs. Finds (field_at greatest any 10 (self.old ++ ys)) result self.new zs) }
         ensures few { IfOk result (λ n. n ≤ 4194303) }
         ensures device { IsErrOf result Device ↔ (S.failed from.new ≡ S.failed from.old + 1) }
         ensures others { (IsErrOf result Device → ⊥) → S.failed from.new ≡ S.failed from.old }
@@ -188,7 +189,7 @@ impl Reader {
         from: &mut S,
     ) -> Result<(), ReaderError>
         requires source { S.failed from.old < 2 ^ 64 - 1 }
-        ensures says { (ys : List ℕ) → S.remaining from.old ≡ Some ys → Finds (clause_at (self.old ++ ys)) (with_list result clause.new.items) self.new (S.remaining from.new) }
+        ensures says { Reads (S.leaves from.old) (S.leaves from.new) (λ ys zs. Finds (clause_at (self.old ++ ys)) (with_list result clause.new.items) self.new zs) }
         ensures device { IsErrOf result Device ↔ (S.failed from.new ≡ S.failed from.old + 1) }
         ensures others { (IsErrOf result Device → ⊥) → S.failed from.new ≡ S.failed from.old }
     {
@@ -204,7 +205,7 @@ impl Reader {
         from: &mut S,
     ) -> Result<(), ReaderError>
         requires source { S.failed from.old < 2 ^ 64 - 1 }
-        ensures says { (ys : List ℕ) → S.remaining from.old ≡ Some ys → Finds (letter_at kind (self.old ++ ys)) result self.new (S.remaining from.new) }
+        ensures says { Reads (S.leaves from.old) (S.leaves from.new) (λ ys zs. Finds (letter_at kind (self.old ++ ys)) result self.new zs) }
         ensures device { IsErrOf result Device ↔ (S.failed from.new ≡ S.failed from.old + 1) }
         ensures others { (IsErrOf result Device → ⊥) → S.failed from.new ≡ S.failed from.old }
     {
@@ -221,7 +222,7 @@ impl Reader {
         from: &mut S,
     ) -> Result<bool, ReaderError>
         requires source { S.failed from.old < 2 ^ 64 - 1 }
-        ensures says { (ys : List ℕ) → S.remaining from.old ≡ Some ys → Finds (item_at (self.old ++ ys)) (with_line result line.new) self.new (S.remaining from.new) }
+        ensures says { Reads (S.leaves from.old) (S.leaves from.new) (λ ys zs. Finds (item_at (self.old ++ ys)) (with_line result line.new) self.new zs) }
         ensures line { IfOk (with_line result line.new) (λ l. IfSome l IsLine) }
         ensures moves { IfOk result (λ _. length self.new + S.most from.new < length self.old + S.most from.old) }
         ensures device { IsErrOf result Device ↔ (S.failed from.new ≡ S.failed from.old + 1) }
@@ -233,7 +234,7 @@ impl Reader {
     /// Says that nothing is left: the source must be at its end.
     pub fn end<S: Source>(&mut self, from: &mut S) -> Result<(), ReaderError>
         requires source { S.failed from.old < 2 ^ 64 - 1 }
-        ensures says { (ys : List ℕ) → S.remaining from.old ≡ Some ys → Finds (end_at (self.old ++ ys)) result self.new (S.remaining from.new) }
+        ensures says { Reads (S.leaves from.old) (S.leaves from.new) (λ ys zs. Finds (end_at (self.old ++ ys)) result self.new zs) }
         ensures device { IsErrOf result Device ↔ (S.failed from.new ≡ S.failed from.old + 1) }
         ensures others { (IsErrOf result Device → ⊥) → S.failed from.new ≡ S.failed from.old }
     {

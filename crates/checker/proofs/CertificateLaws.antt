@@ -1,14 +1,15 @@
 -- What the answers to a circuit and a certificate say.
-use Rattle.std.proofs.Common.{ℕ, List, inl, inr, refl, subst}
+use Rattle.std.proofs.Common.{◌≡◌, ℕ, List, inl, inr, refl, sym, ◌∙◌, ap, subst}
 use Rattle.graph.specs.declared.circuit.Property.{Property}
 use Rattle.graph.specs.File.{File}
 use Rattle.aiger.specs.Loading.{IsFileOf, SpellsNoFile}
 use Rattle.aiger.proofs.LayoutLaws.{one_file, well_formed}
 use Rattle.certificate.specs.declared.certificate.Certificate.{Certificate}
+use Rattle.certificate.proofs.CertificateLaws.{one_certificate}
 use Rattle.checker.specs.declared.stop.Stop.{Stop}
 use Rattle.checker.specs.Accepted.{IsAcceptedCertificate, IsUpheld}
 use Rattle.checker.specs.Stops.{IsStop}
-use Rattle.checker.specs.Verdicts.{Accepts, IsUpheldText, IsCertificateOf, IsRefusal}
+use Rattle.checker.specs.Verdicts.{Accepts, IsUpheldText, IsCertificateOf, IsRefusal, IsRefusalFor}
 use Rattle.checker.proofs.Accepted.{accepted_law, cause_refuses}
 use Rattle.checker.proofs.Said.{stops_more}
 
@@ -41,3 +42,13 @@ refusal_not xs ys p a n (inr (inl (f, first, no_certificate))) = no_certificate.
 refusal_not xs ys p a n (inr (inr (f, c, first, second, not))) =
     let one : IsAcceptedCertificate f.model a.certificate = subst (λ g. IsAcceptedCertificate g.model a.certificate) (first.only a.file a.first) a.accepted in
     cause_refuses f.model c not.error not.cause not.other (subst (IsAcceptedCertificate f.model) (second.only a.certificate a.second) one)
+
+-- ---- of one property alone
+
+-- all that is accepted of a text is of one property
+one_property : (xs ys : List ℕ) (p q : Property) → Accepts xs ys p → Accepts xs ys q → p ≡ q
+one_property xs ys p q a b = sym a.property ∙ ap (λ (c : Certificate). c.property) (one_certificate ys a.certificate b.certificate a.second b.second) ∙ b.property
+
+pub for_not : (xs ys : List ℕ) (p : Property) → Accepts xs ys p → (n : ℕ) → IsRefusalFor p xs ys n → ⊥
+for_not xs ys p a n (inl refusal) = refusal_not xs ys p a n refusal
+for_not xs ys p a n (inr (q, of, ne, is)) = ne (one_property xs ys q p of a)

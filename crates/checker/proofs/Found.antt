@@ -1,6 +1,6 @@
 -- What is found of a certificate while its text is read.
 use Rattle.base.specs.Witness.{witness}
-use Rattle.std.proofs.Common.{◌≡◌, ◌≢◌, ℕ, ◌+◌, ◌*◌, ◌≤◌, List, length, All, Option, None, Some, Result, Ok, Err, inl, inr, refl, sym, ap, subst, arith}
+use Rattle.std.proofs.Common.{◌≡◌, ◌≢◌, ℕ, ◌+◌, ◌*◌, ◌≤◌, List, ◌++◌, length, All, Option, None, Some, Result, Ok, Err, inl, inr, refl, sym, ap, subst, arith}
 use Rattle.graph.specs.declared.circuit.Lit.{Lit}
 use Rattle.graph.specs.declared.circuit.Property.{Property as AProperty}
 use Rattle.graph.specs.declared.parts.Parts.{Parts}
@@ -61,20 +61,20 @@ counted inv c few is count = record {
 }
 
 -- the sections were checked, and what was found has this number
-pub parts_found : (m : Parts) (a : Lit) (v : Version) (p : AProperty) (inv : List (List Lit)) (bytes held : List ℕ) (source : Option (List ℕ)) (found : Option Fault) (n : Option ℕ) → length inv ≤ 4194303 → All (IsGood m) inv → n ≡ number found
-    → FindsWith (HasSections m a) (parts_at v p (length inv) inv bytes) (Ok found) held source → FindsWith (IsFoundFor m a) (parts_at v p (length inv) inv bytes) (Ok n) held source
-parts_found m a v p inv bytes held source found n few good same (c, rest, is, has, left) =
-    let (clauses, count) = parts_read v p (length inv) inv bytes c rest is in
-    (c, rest, is, subst (λ o. IsFoundFor m a c o) (sym same) (found_for m a c found (counted inv c few clauses count) (subst (All (IsGood m)) (sym clauses) good) has), left)
+pub parts_found : (m : Parts) (a : Lit) (v : Version) (p : AProperty) (inv : List (List Lit)) (bytes held later : List ℕ) (found : Option Fault) (n : Option ℕ) → length inv ≤ 4194303 → All (IsGood m) inv → n ≡ number found
+    → FindsWith (HasSections m a) (parts_at v p (length inv) inv bytes) (Ok found) held later → FindsWith (IsFoundFor m a) (parts_at v p (length inv) inv bytes) (Ok n) held later
+parts_found m a v p inv bytes held later found n few good same (c, is, has) =
+    let (clauses, count) = parts_read v p (length inv) inv bytes c (held ++ later) is in
+    (c, is, subst (λ o. IsFoundFor m a c o) (sym same) (found_for m a c found (counted inv c few clauses count) (subst (All (IsGood m)) (sym clauses) good) has))
 
 -- a cause was found before the sections, and they were only read
-pub parts_refused : (m : Parts) (a : Lit) (v : Version) (p : AProperty) (inv : List (List Lit)) (bytes held : List ℕ) (source : Option (List ℕ)) (e : CheckError) (r : Result (Option ℕ) ReaderError) → length inv ≤ 4194303
-    → ((c : Certificate) → c.invariant ≡ inv → IsCounted c → HasCauseFor m a c e) → FindsWith (λ (c : Certificate) found. (found ≡ Some (number_of e)) × (e ≢ OutOfMemory witness)) (parts_at v p (length inv) inv bytes) r held source
-    → FindsWith (IsFoundFor m a) (parts_at v p (length inv) inv bytes) r held source
-parts_refused m a v p inv bytes held source e (Ok found) few cause (c, rest, is, (numbered, ne), left) =
-    let (clauses, count) = parts_read v p (length inv) inv bytes c rest is in
-    (c, rest, is, refused_for m a c e found (number_of e) numbered ne (cause c clauses (counted inv c few clauses count)) refl, left)
-parts_refused m a v p inv bytes held source e (Err x) few cause none = none
+pub parts_refused : (m : Parts) (a : Lit) (v : Version) (p : AProperty) (inv : List (List Lit)) (bytes held later : List ℕ) (e : CheckError) (r : Result (Option ℕ) ReaderError) → length inv ≤ 4194303
+    → ((c : Certificate) → c.invariant ≡ inv → IsCounted c → HasCauseFor m a c e) → FindsWith (λ (c : Certificate) found. (found ≡ Some (number_of e)) × (e ≢ OutOfMemory witness)) (parts_at v p (length inv) inv bytes) r held later
+    → FindsWith (IsFoundFor m a) (parts_at v p (length inv) inv bytes) r held later
+parts_refused m a v p inv bytes held later e (Ok found) few cause (c, is, (numbered, ne)) =
+    let (clauses, count) = parts_read v p (length inv) inv bytes c (held ++ later) is in
+    (c, is, refused_for m a c e found (number_of e) numbered ne (cause c clauses (counted inv c few clauses count)) refl)
+parts_refused m a v p inv bytes held later e (Err x) few cause none = none
 
 -- what is found for the circuit and the literal of the property
 pub found_of : (m s : Parts) (a : Lit) (c : Certificate) (found : Option ℕ) → IsShowable m c.property → s ≡ circuit_of m c.property → a ≡ bad_of m c.property → IsFoundFor s a c found → IsFound m c found

@@ -12,3 +12,4 @@ pub mod Found
 pub mod TextFound
 pub mod SourceLaws
 pub mod StimulusLaws
+pub mod ReaderLaws

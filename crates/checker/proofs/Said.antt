@@ -1,5 +1,5 @@
 -- What the line says of what was asked.
-use Rattle.std.proofs.Common.{◌≡◌, ℕ, ◌⊎◌, Bool, true, false, List, Option, Result, Ok, Err, IfOk, OnErr, inl, inr, sym, ◌∙◌}
+use Rattle.std.proofs.Common.{◌≡◌, ◌≢◌, ℕ, ◌⊎◌, Bool, true, false, List, Option, Result, Ok, Err, IfOk, IsOkAnd, OnErr, inl, inr, sym, subst, ◌∙◌}
 use Rattle.std.specs.Prelude.{MatchResult}
 use Rattle.std.specs.Io.KnownBytes.{Appends}
 use Rattle.std.proofs.lemmas.Bool.{cases_eq, eq-eqb, ne_eqb}
@@ -55,12 +55,50 @@ told_exact q P N (Err (stop.No n)) said before after says told none = absurd (no
 told_exact q P N (Err (stop.OutOfMemory refused)) said before after says told none = absurd told
 told_exact q P N (Err stop.Device) said before after says told none = absurd told
 
+-- what holds wherever there is a property
+pub told_ended : (q : Question) (E : Type 0) (r : Result Property Stop) (said : Bool) (before after : Option (List ℕ)) → IfOk r (λ _. E) → Tells q r said before after → said ≡ true → E
+told_ended q E (Ok p) said before after ended told holds = ended
+told_ended q E (Err (stop.No n)) said before after ended told holds = absurd (let e : false ≡ true = sym told.0 ∙ holds in cc)
+told_ended q E (Err (stop.OutOfMemory refused)) said before after ended told holds = absurd told
+told_ended q E (Err stop.Device) said before after ended told holds = absurd told
+
 pub told_begun : (q : Question) (P : Property → Type 0) (N : ℕ → Type 0) (r : Result Property Stop) (before after : Option (List ℕ)) → MatchResult r P (IsStop N) → BeginsToTell q r before after →
     ((p : Property) × P p × PutsBeginning before after (yes_line q p)) ⊎ ((n : ℕ) × N n × PutsBeginning before after (no_line n))
 told_begun q P N (Ok p) before after says begun = inl (p, says, begun)
 told_begun q P N (Err (stop.No n)) before after says begun = inr (n, says, begun)
 told_begun q P N (Err (stop.OutOfMemory refused)) before after says begun = absurd begun
 told_begun q P N (Err stop.Device) before after says begun = absurd begun
+
+-- ---- of one property alone
+
+-- a yes to another property became a no
+pub about_says : (P : Property → Type 0) (N M : ℕ → Type 0) (p : Property) (before after : Result Property Stop) → MatchResult before P (IsStop N) →
+    MatchResult after (λ q. (q ≡ p) × (before ≡ Ok q)) (λ s. (before ≡ Err s) ⊎ ((s ≡ stop.No 30) × IsOkAnd before (λ q. q ≢ p))) →
+    ((n : ℕ) → N n → M n) → ((q : Property) → P q → q ≢ p → M 30) → MatchResult after (λ q. (q ≡ p) × P q) (IsStop M)
+about_says P N M p before (Ok q) says (same, is) more other = (same, subst (λ r. MatchResult r P (IsStop N)) is says)
+about_says P N M p before (Err s) says (inl is) more other = stops_more N M s more (subst (λ r. MatchResult r P (IsStop N)) is says)
+about_says P N M p (Ok q) (Err s) says (inr (is, ne)) more other = subst (IsStop M) (sym is) (other q says ne)
+about_says P N M p (Err e) (Err s) says (inr (is, ne)) more other = absurd ne
+
+pub about_yes : (q : Question) (P : Property → Type 0) (M : ℕ → Type 0) (p : Property) (r : Result Property Stop) (said : Bool) (before after : Option (List ℕ)) → MatchResult r (λ k. (k ≡ p) × P k) (IsStop M) →
+    Tells q r said before after → said ≡ true → P p × Appends before after (yes_line q p)
+about_yes q P M p (Ok k) said before after says told holds = (subst P says.0 says.1, subst (λ k. Appends before after (yes_line q k)) says.0 told.1)
+about_yes q P M p (Err (stop.No n)) said before after says told holds = absurd (let e : false ≡ true = sym told.0 ∙ holds in cc)
+about_yes q P M p (Err (stop.OutOfMemory refused)) said before after says told holds = absurd told
+about_yes q P M p (Err stop.Device) said before after says told holds = absurd told
+
+pub about_begun : (q : Question) (P : Property → Type 0) (M : ℕ → Type 0) (p : Property) (r : Result Property Stop) (before after : Option (List ℕ)) → MatchResult r (λ q. (q ≡ p) × P q) (IsStop M) → BeginsToTell q r before after →
+    (P p × PutsBeginning before after (yes_line q p)) ⊎ ((n : ℕ) × M n × PutsBeginning before after (no_line n))
+about_begun q P M p (Ok k) before after says begun = inl (subst P says.0 says.1, subst (λ k. PutsBeginning before after (yes_line q k)) says.0 begun)
+about_begun q P M p (Err (stop.No n)) before after says begun = inr (n, says, begun)
+about_begun q P M p (Err (stop.OutOfMemory refused)) before after says begun = absurd begun
+about_begun q P M p (Err stop.Device) before after says begun = absurd begun
+
+-- what holds wherever there is a property
+pub about_ended : (E : Type 0) (p : Property) (before after : Result Property Stop) → IfOk before (λ _. E) →
+    MatchResult after (λ q. (q ≡ p) × (before ≡ Ok q)) (λ s. (before ≡ Err s) ⊎ ((s ≡ stop.No 30) × IsOkAnd before (λ q. q ≢ p))) → IfOk after (λ _. E)
+about_ended E p before (Ok q) ended (same, is) = subst (λ r. IfOk r (λ _. E)) is ended
+about_ended E p before (Err s) ended says = tt
 
 -- ---- of results
 

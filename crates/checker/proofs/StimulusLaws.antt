@@ -1,5 +1,5 @@
 -- What the answers to a circuit and a stimulus say.
-use Rattle.std.proofs.Common.{◌≡◌, ◌≢◌, ℕ, List, None, Some, inl, inr, refl, sym, ap, subst}
+use Rattle.std.proofs.Common.{◌≡◌, ◌≢◌, ℕ, List, None, Some, inl, inr, refl, sym, ◌∙◌, ap, subst}
 use Rattle.base.specs.Witness.{witness}
 use Rattle.scan.proofs.Toolbox.{spells_one}
 use Rattle.graph.specs.declared.circuit.Property.{Property}
@@ -24,7 +24,7 @@ use Rattle.replay.specs.Found.{IsFound}
 use Rattle.replay.specs.Streams.{ForText}
 use Rattle.checker.specs.declared.stop.Stop.{Stop}
 use Rattle.checker.specs.Stops.{stop_of, stop_of_text, IsStop}
-use Rattle.checker.specs.Replayed.{Confirms, IsStimulusOf, IsRunRefusal}
+use Rattle.checker.specs.Replayed.{Confirms, IsStimulusOf, IsRunRefusal, IsRunRefusalFor}
 use Rattle.checker.proofs.Said.{stops, stops_more}
 
 -- ---- where it stops
@@ -88,3 +88,13 @@ refusal_not xs ys p a n (inr (inl (f, first, no_stimulus))) = no_stimulus.none a
 refusal_not xs ys p a n (inr (inr (f, s, first, second, not))) =
     let one : Shows f.model a.stimulus = subst (λ g. Shows g.model a.stimulus) (first.only a.file a.first) a.shows in
     not.none (subst (Shows f.model) (second.only a.stimulus a.second) one)
+
+-- ---- of one property alone
+
+-- all that is confirmed of a text is of one property
+one_property : (xs ys : List ℕ) (p q : Property) → Confirms xs ys p → Confirms xs ys q → p ≡ q
+one_property xs ys p q a b = sym a.property ∙ ap property_of (spells_one stimulus_reads ys a.stimulus b.stimulus a.second b.second) ∙ b.property
+
+pub for_not : (xs ys : List ℕ) (p : Property) → Confirms xs ys p → (n : ℕ) → IsRunRefusalFor p xs ys n → ⊥
+for_not xs ys p a n (inl refusal) = refusal_not xs ys p a n refusal
+for_not xs ys p a n (inr (q, of, ne, is)) = ne (one_property xs ys q p of a)

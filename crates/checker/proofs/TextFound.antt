@@ -29,9 +29,9 @@ use Rattle.checker.proofs.Found.{found_of}
 use Rattle.checker.proofs.TextParts.{made, parts_is, then_sections}
 
 -- what is found is more of what is read
-finds_of : {A X : Type 0} (P Q : A → X → Type 0) (read : Read A) (r : Result X ReaderError) (held : List ℕ) (source : Option (List ℕ)) → ((a : A) (rest : List ℕ) (x : X) → read ≡ Some (a, rest) → P a x → Q a x) → FindsWith P read r held source → FindsWith Q read r held source
-finds_of P Q read (Ok x) held source h (a, rest, is, p, left) = (a, rest, is, h a rest x is p, left)
-finds_of P Q read (Err e) held source h none = none
+finds_of : {A X : Type 0} (P Q : A → X → Type 0) (read : Read A) (r : Result X ReaderError) (held later : List ℕ) → ((a : A) (x : X) → read ≡ Some (a, held ++ later) → P a x → Q a x) → FindsWith P read r held later → FindsWith Q read r held later
+finds_of P Q read (Ok x) held later h (a, is, p) = (a, is, h a x is p)
+finds_of P Q read (Err e) held later h none = none
 
 -- ---- the property of a certificate
 
@@ -50,19 +50,19 @@ parts_property : (v : Version) (p : AProperty) (n : ℕ) (inv : List (List Lit))
 parts_property v p n inv bytes c rest e = sections_property p n inv (lemmas_at v bytes) c rest (parts_is v p n inv bytes ∙ e)
 
 -- what is found for the circuit and the literal of the property
-pub found_here : (m s : Parts) (a : Lit) (v : Version) (p : AProperty) (n : ℕ) (inv : List (List Lit)) (bytes held : List ℕ) (source : Option (List ℕ)) (r : Result (Option ℕ) ReaderError) → IsShowable m p → s ≡ circuit_of m p → a ≡ bad_of m p
-    → FindsWith (IsFoundFor s a) (parts_at v p n inv bytes) r held source → FindsWith (IsFound m) (parts_at v p n inv bytes) r held source
-found_here m s a v p n inv bytes held source r showable circuit literal =
-    finds_of (IsFoundFor s a) (IsFound m) (parts_at v p n inv bytes) r held source (λ c rest x is found.
-    let same : c.property ≡ p = parts_property v p n inv bytes c rest is in
+pub found_here : (m s : Parts) (a : Lit) (v : Version) (p : AProperty) (n : ℕ) (inv : List (List Lit)) (bytes held later : List ℕ) (r : Result (Option ℕ) ReaderError) → IsShowable m p → s ≡ circuit_of m p → a ≡ bad_of m p
+    → FindsWith (IsFoundFor s a) (parts_at v p n inv bytes) r held later → FindsWith (IsFound m) (parts_at v p n inv bytes) r held later
+found_here m s a v p n inv bytes held later r showable circuit literal =
+    finds_of (IsFoundFor s a) (IsFound m) (parts_at v p n inv bytes) r held later (λ c x is found.
+    let same : c.property ≡ p = parts_property v p n inv bytes c (held ++ later) is in
     found_of m s a c x (subst (IsShowable m) (sym same) showable) (circuit ∙ ap (circuit_of m) (sym same)) (literal ∙ ap (bad_of m) (sym same)) found)
 
 -- a cause that was found before the clauses
-pub refused_here : (m : Parts) (e : CheckError) (v : Version) (p : AProperty) (n : ℕ) (inv : List (List Lit)) (bytes held : List ℕ) (source : Option (List ℕ)) (r : Result (Option ℕ) ReaderError) → ((c : Certificate) → c.property ≡ p → HasCause m c e)
-    → FindsWith (λ c found. (found ≡ Some (number_of e)) × (e ≢ OutOfMemory witness)) (parts_at v p n inv bytes) r held source → FindsWith (IsFound m) (parts_at v p n inv bytes) r held source
-refused_here m e v p n inv bytes held source r cause =
-    finds_of (λ c found. (found ≡ Some (number_of e)) × (e ≢ OutOfMemory witness)) (IsFound m) (parts_at v p n inv bytes) r held source (λ c rest x is found.
-    subst (λ o. IsFound m c o) (sym found.0) (e, found.1, cause c (parts_property v p n inv bytes c rest is), refl))
+pub refused_here : (m : Parts) (e : CheckError) (v : Version) (p : AProperty) (n : ℕ) (inv : List (List Lit)) (bytes held later : List ℕ) (r : Result (Option ℕ) ReaderError) → ((c : Certificate) → c.property ≡ p → HasCause m c e)
+    → FindsWith (λ c found. (found ≡ Some (number_of e)) × (e ≢ OutOfMemory witness)) (parts_at v p n inv bytes) r held later → FindsWith (IsFound m) (parts_at v p n inv bytes) r held later
+refused_here m e v p n inv bytes held later r cause =
+    finds_of (λ c found. (found ≡ Some (number_of e)) × (e ≢ OutOfMemory witness)) (IsFound m) (parts_at v p n inv bytes) r held later (λ c x is found.
+    subst (λ o. IsFound m c o) (sym found.0) (e, found.1, cause c (parts_property v p n inv bytes c (held ++ later) is), refl))
 
 -- the circuit has not the property
 pub no_such : (m : Parts) (p : AProperty) (e : CheckError) → e ≡ NoProperty (position_of p) → (HasProperty m p → ⊥) → (c : Certificate) → c.property ≡ p → HasCause m c e
@@ -100,30 +100,30 @@ pub clauses_stop : (v : Version) (p : AProperty) (n : ℕ) (bytes : List ℕ) (e
 clauses_stop v p n bytes e f = then_none (many_at clause_at n bytes) (parts_at v p n) e f
 
 -- they were read, and what is behind them decides
-pub behind_version : {X : Type 0} (P : Certificate → X → Type 0) (v : Version) (bytes held later : List ℕ) (source last : Option (List ℕ)) (r : Result X ReaderError) → Finds (first_line_at bytes) (Ok v) held source
-    → ((zs : List ℕ) → source ≡ Some zs → FindsWith P (then_property v (held ++ zs)) r later last) → FindsWith P (certificate_at bytes) r later last
-behind_version P v bytes held later source last r first next = subst (λ o. FindsWith P o r later last) (text_is bytes) (then_finds P (first_line_at bytes) then_property v held later source last r first next)
+pub behind_version : {X : Type 0} (P : Certificate → X → Type 0) (v : Version) (bytes held later zs ws : List ℕ) (r : Result X ReaderError) → Finds (first_line_at bytes) (Ok v) held zs
+    → FindsWith P (then_property v (held ++ zs)) r later ws → FindsWith P (certificate_at bytes) r later ws
+behind_version P v bytes held later zs ws r first next = subst (λ o. FindsWith P o r later ws) (text_is bytes) (then_finds P (first_line_at bytes) then_property v held later zs ws r first next)
 
-pub behind_property : {X : Type 0} (P : Certificate → X → Type 0) (v : Version) (p : AProperty) (bytes held later : List ℕ) (source last : Option (List ℕ)) (r : Result X ReaderError) → Finds (property_at bytes) (Ok p) held source
-    → ((zs : List ℕ) → source ≡ Some zs → FindsWith P (then_count v p (held ++ zs)) r later last) → FindsWith P (then_property v bytes) r later last
-behind_property P v p bytes held later source last r first next = then_finds P (property_at bytes) (then_count v) p held later source last r first next
+pub behind_property : {X : Type 0} (P : Certificate → X → Type 0) (v : Version) (p : AProperty) (bytes held later zs ws : List ℕ) (r : Result X ReaderError) → Finds (property_at bytes) (Ok p) held zs
+    → FindsWith P (then_count v p (held ++ zs)) r later ws → FindsWith P (then_property v bytes) r later ws
+behind_property P v p bytes held later zs ws r first next = then_finds P (property_at bytes) (then_count v) p held later zs ws r first next
 
-pub behind_count : {X : Type 0} (P : Certificate → X → Type 0) (v : Version) (p : AProperty) (n : ℕ) (bytes held later : List ℕ) (source last : Option (List ℕ)) (r : Result X ReaderError) → Finds (field_at greatest any 10 bytes) (Ok n) held source
-    → ((zs : List ℕ) → source ≡ Some zs → FindsWith P (then_clauses v p n (held ++ zs)) r later last) → FindsWith P (then_count v p bytes) r later last
-behind_count P v p n bytes held later source last r first next = then_finds P (field_at greatest any 10 bytes) (then_clauses v p) n held later source last r first next
+pub behind_count : {X : Type 0} (P : Certificate → X → Type 0) (v : Version) (p : AProperty) (n : ℕ) (bytes held later zs ws : List ℕ) (r : Result X ReaderError) → Finds (field_at greatest any 10 bytes) (Ok n) held zs
+    → FindsWith P (then_clauses v p n (held ++ zs)) r later ws → FindsWith P (then_count v p bytes) r later ws
+behind_count P v p n bytes held later zs ws r first next = then_finds P (field_at greatest any 10 bytes) (then_clauses v p) n held later zs ws r first next
 
-pub behind_clauses : {X : Type 0} (P : Certificate → X → Type 0) (v : Version) (p : AProperty) (n : ℕ) (inv : List (List Lit)) (bytes held later : List ℕ) (source last : Option (List ℕ)) (r : Result X ReaderError) → length inv ≡ n
-    → Finds (many_at clause_at n bytes) (Ok inv) held source → ((zs : List ℕ) → source ≡ Some zs → FindsWith P (parts_at v p (length inv) inv (held ++ zs)) r later last) → FindsWith P (then_clauses v p n bytes) r later last
-behind_clauses P v p n inv bytes held later source last r many first next =
-    then_finds P (many_at clause_at n bytes) (parts_at v p n) inv held later source last r first (λ zs known. subst (λ k. FindsWith P (parts_at v p k inv (held ++ zs)) r later last) many (next zs known))
+pub behind_clauses : {X : Type 0} (P : Certificate → X → Type 0) (v : Version) (p : AProperty) (n : ℕ) (inv : List (List Lit)) (bytes held later zs ws : List ℕ) (r : Result X ReaderError) → length inv ≡ n
+    → Finds (many_at clause_at n bytes) (Ok inv) held zs → FindsWith P (parts_at v p (length inv) inv (held ++ zs)) r later ws → FindsWith P (then_clauses v p n bytes) r later ws
+behind_clauses P v p n inv bytes held later zs ws r many first next =
+    then_finds P (many_at clause_at n bytes) (parts_at v p n) inv held later zs ws r first (subst (λ k. FindsWith P (parts_at v p k inv (held ++ zs)) r later ws) many next)
 
 -- the property is reported with what is found
 abbrev pub IsOutcome : Parts → AProperty → Certificate → Option ℕ → Type 0
 IsOutcome m p c found = (p ≡ c.property) × IsFound m c found
 
-pub outcome_found : {X : Type 0} (P : Certificate → X → Type 0) (m : Parts) (v : Version) (p : AProperty) (n : ℕ) (inv : List (List Lit)) (bytes held : List ℕ) (source : Option (List ℕ)) (found : Option ℕ) (x : X) → ((c : Certificate) → IsOutcome m p c found → P c x)
-    → FindsWith (IsFound m) (parts_at v p n inv bytes) (Ok found) held source → FindsWith P (parts_at v p n inv bytes) (Ok x) held source
-outcome_found P m v p n inv bytes held source found x h (c, rest, is, judged, left) = (c, rest, is, h c (sym (parts_property v p n inv bytes c rest is), judged), left)
+pub outcome_found : {X : Type 0} (P : Certificate → X → Type 0) (m : Parts) (v : Version) (p : AProperty) (n : ℕ) (inv : List (List Lit)) (bytes held later : List ℕ) (found : Option ℕ) (x : X) → ((c : Certificate) → IsOutcome m p c found → P c x)
+    → FindsWith (IsFound m) (parts_at v p n inv bytes) (Ok found) held later → FindsWith P (parts_at v p n inv bytes) (Ok x) held later
+outcome_found P m v p n inv bytes held later found x h (c, is, judged) = (c, is, h c (sym (parts_property v p n inv bytes c (held ++ later) is), judged))
 
 -- ---- the whole text
 
@@ -134,17 +134,16 @@ text_refused held ys e nothing f =
     (subst (λ (h : List ℕ). ForText e (certificate_at (h ++ ys) ≡ None)) nothing f)
 
 -- it goes on behind a certificate
-pub text_goes_on : {X : Type 0} (P : Certificate → X → Type 0) (held later ys : List ℕ) (source : Option (List ℕ)) (x : X) (e : ReaderError) → held ≡ [] → FindsWith P (certificate_at (held ++ ys)) (Ok x) later source
-    → ((zs : List ℕ) → source ≡ Some zs → ForText e (end_at (later ++ zs) ≡ None)) → ForText e ((c : Certificate) → SpellsCertificate ys c → ⊥)
-text_goes_on P held later ys source x e nothing (c, rest, is, p, (zs, known, left)) next =
-    let read : certificate_at ys ≡ Some (c, rest) = subst (λ (h : List ℕ). certificate_at (h ++ ys) ≡ Some (c, rest)) nothing is in
+pub text_goes_on : {X : Type 0} (P : Certificate → X → Type 0) (held later ys zs : List ℕ) (x : X) (e : ReaderError) → held ≡ [] → FindsWith P (certificate_at (held ++ ys)) (Ok x) later zs
+    → ForText e (end_at (later ++ zs) ≡ None) → ForText e ((c : Certificate) → SpellsCertificate ys c → ⊥)
+text_goes_on P held later ys zs x e nothing (c, is, p) next =
+    let read : certificate_at ys ≡ Some (c, later ++ zs) = subst (λ (h : List ℕ). certificate_at (h ++ ys) ≡ Some (c, later ++ zs)) nothing is in
     for_text_map e (end_at (later ++ zs) ≡ None) ((d : Certificate) → SpellsCertificate ys d → ⊥)
-    (λ more d. text_more ys rest c d read (λ none. not_at_end (later ++ zs) more (sym left ∙ none))) (next zs known)
+    (λ more d. text_more ys (later ++ zs) c d read (not_at_end (later ++ zs) more)) next
 
 -- it is a certificate
-pub text_whole : {X : Type 0} (P : Certificate → X → Type 0) (held later last ys : List ℕ) (source final : Option (List ℕ)) (x : X) → held ≡ [] → FindsWith P (certificate_at (held ++ ys)) (Ok x) later source
-    → ((zs : List ℕ) → source ≡ Some zs → Finds (end_at (later ++ zs)) (Ok (tt {0})) last final) → (c : Certificate) × SpellsCertificate ys c × P c x
-text_whole P held later last ys source final x nothing (c, rest, is, p, (zs, known, left)) next =
-    let (after, ended, more) = next zs known in
-    let read : certificate_at ys ≡ Some (c, rest) = subst (λ (h : List ℕ). certificate_at (h ++ ys) ≡ Some (c, rest)) nothing is in
-    (c, text_spelled ys rest c read (left ∙ at_end (later ++ zs) after tt ended), p)
+pub text_whole : {X : Type 0} (P : Certificate → X → Type 0) (held later last ys zs ws : List ℕ) (x : X) → held ≡ [] → FindsWith P (certificate_at (held ++ ys)) (Ok x) later zs
+    → Finds (end_at (later ++ zs)) (Ok (tt {0})) last ws → (c : Certificate) × SpellsCertificate ys c × P c x
+text_whole P held later last ys zs ws x nothing (c, is, p) ended =
+    let read : certificate_at ys ≡ Some (c, later ++ zs) = subst (λ (h : List ℕ). certificate_at (h ++ ys) ≡ Some (c, later ++ zs)) nothing is in
+    (c, text_spelled ys (later ++ zs) c read (at_end (later ++ zs) (last ++ ws) tt ended), p)

@@ -21,18 +21,18 @@ use Rattle.certificate.proofs.StreamLaws.{for_text_map, then_finds_with, then_no
 abbrev mapped : {A B : Type 0} → (A → B) → Read A → Read B
 mapped f read = read >>= λ a. Some (f a.0, a.1)
 
-pub finds_made : {A B X : Type 0} (P : A → X → Type 0) (Q : B → X → Type 0) (f : A → B) (read : Read A) (r : Result X ReaderError) (held : List ℕ) (source : Option (List ℕ)) → ((a : A) (x : X) → P a x → Q (f a) x) → FindsWith P read r held source → FindsWith Q (mapped f read) r held source
-finds_made P Q f read (Ok x) held source h (a, rest, is, p, left) = (f a, rest, ap (mapped f) is, h a x p, left)
-finds_made P Q f read (Err e) held source h none = for_text_map e (read ≡ None) (mapped f read ≡ None) (λ n. ap (mapped f) n) none
+pub finds_made : {A B X : Type 0} (P : A → X → Type 0) (Q : B → X → Type 0) (f : A → B) (read : Read A) (r : Result X ReaderError) (held later : List ℕ) → ((a : A) (x : X) → P a x → Q (f a) x) → FindsWith P read r held later → FindsWith Q (mapped f read) r held later
+finds_made P Q f read (Ok x) held later h (a, is, p) = (f a, ap (mapped f) is, h a x p)
+finds_made P Q f read (Err e) held later h none = for_text_map e (read ≡ None) (mapped f read ≡ None) (λ n. ap (mapped f) n) none
 
 -- what is found is more
-pub finds_more : {A X : Type 0} (P Q : A → X → Type 0) (read : Read A) (r : Result X ReaderError) (held : List ℕ) (source : Option (List ℕ)) → ((a : A) (x : X) → P a x → Q a x) → FindsWith P read r held source → FindsWith Q read r held source
-finds_more P Q read (Ok x) held source h (a, rest, is, p, left) = (a, rest, is, h a x p, left)
-finds_more P Q read (Err e) held source h none = none
+pub finds_more : {A X : Type 0} (P Q : A → X → Type 0) (read : Read A) (r : Result X ReaderError) (held later : List ℕ) → ((a : A) (x : X) → P a x → Q a x) → FindsWith P read r held later → FindsWith Q read r held later
+finds_more P Q read (Ok x) held later h (a, is, p) = (a, is, h a x p)
+finds_more P Q read (Err e) held later h none = none
 
 -- the others are refused
-pub others_refused : {A : Type 0} (read : Read (List A)) (front : List A) (f : List ℕ → Read (List A)) (e : ReaderError) (held : List ℕ) (source : Option (List ℕ)) → StillReads read front f held source → ((zs : List ℕ) → source ≡ Some zs → ForText e (f (held ++ zs) ≡ None)) → ForText e (read ≡ None)
-others_refused read front f e held source (zs, known, so_far) next = for_text_map e (f (held ++ zs) ≡ None) (read ≡ None) (λ none. sym so_far ∙ ap (λ o. o >>= λ x. Some (front ++ x.0, x.1)) none) (next zs known)
+pub others_refused : {A : Type 0} (read : Read (List A)) (front : List A) (f : List ℕ → Read (List A)) (e : ReaderError) (held zs : List ℕ) → StillReads read front f held zs → ForText e (f (held ++ zs) ≡ None) → ForText e (read ≡ None)
+others_refused read front f e held zs so_far next = for_text_map e (f (held ++ zs) ≡ None) (read ≡ None) (λ none. sym so_far ∙ ap (λ o. o >>= λ x. Some (front ++ x.0, x.1)) none) next
 
 -- ---- the sections
 
@@ -59,13 +59,13 @@ unfolding parts_at
 parts_is v p n inv bytes = refl
 
 -- version 1 has no lemmas
-pub no_lemmas : {X : Type 0} (P : Option (List ALine) → X → Type 0) (x : X) (held : List ℕ) (source : Option (List ℕ)) (ys : List ℕ) → source ≡ Some ys → P None x → FindsWith P (lemmas_at One (held ++ ys)) (Ok x) held source
+pub no_lemmas : {X : Type 0} (P : Option (List ALine) → X → Type 0) (x : X) (held later : List ℕ) → P None x → FindsWith P (lemmas_at One (held ++ later)) (Ok x) held later
 unfolding lemmas_at
-no_lemmas P x held source ys known p = (None, held ++ ys, refl, p, (ys, known, refl))
+no_lemmas P x held later p = (None, refl, p)
 
-pub some_lemmas : {X : Type 0} (P : List ALine → X → Type 0) (Q : Option (List ALine) → X → Type 0) (bytes held : List ℕ) (source : Option (List ℕ)) (r : Result X ReaderError) → ((lines : List ALine) (x : X) → P lines x → Q (Some lines) x) → FindsWith P (section_at 108 bytes) r held source → FindsWith Q (lemmas_at Two bytes) r held source
+pub some_lemmas : {X : Type 0} (P : List ALine → X → Type 0) (Q : Option (List ALine) → X → Type 0) (bytes held later : List ℕ) (r : Result X ReaderError) → ((lines : List ALine) (x : X) → P lines x → Q (Some lines) x) → FindsWith P (section_at 108 bytes) r held later → FindsWith Q (lemmas_at Two bytes) r held later
 unfolding lemmas_at
-some_lemmas P Q bytes held source r h found = finds_made P Q (λ lines. Some lines) (section_at 108 bytes) r held source h found
+some_lemmas P Q bytes held later r h found = finds_made P Q (λ lines. Some lines) (section_at 108 bytes) r held later h found
 
 -- ---- how many there are
 
@@ -86,30 +86,30 @@ steps_refused n initial bytes e f = then_none (many_at (section_at 115) n bytes)
 pub bad_refused : (initial steps : List (List ALine)) (bytes : List ℕ) (e : ReaderError) → ForText e (section_at 98 bytes ≡ None) → ForText e (then_bad initial steps bytes ≡ None)
 bad_refused initial steps bytes e f = for_text_map e (section_at 98 bytes ≡ None) (then_bad initial steps bytes ≡ None) (λ none. ap (mapped (λ bad. initial ++ steps ++ bad ∷ [])) none) f
 
-pub behind_initial : {X Y : Type 0} (O : List (List ALine) → Y → Type 0) (P : List (List ALine) → X → Type 0) (n : ℕ) (bytes held later : List ℕ) (source last : Option (List ℕ)) (y : Y) (r : Result X ReaderError) → FindsWith O (many_at (section_at 105) n bytes) (Ok y) held source
-    → ((i : List (List ALine)) (zs : List ℕ) → O i y → source ≡ Some zs → FindsWith P (then_steps n i (held ++ zs)) r later last) → FindsWith P (sections_at n bytes) r later last
-behind_initial O P n bytes held later source last y r first next =
-    subst (λ o. FindsWith P o r later last) (sections_is n bytes) (then_finds_with O P (many_at (section_at 105) n bytes) (then_steps n) y held later source last r first next)
+pub behind_initial : {X Y : Type 0} (O : List (List ALine) → Y → Type 0) (P : List (List ALine) → X → Type 0) (n : ℕ) (bytes held later zs ws : List ℕ) (y : Y) (r : Result X ReaderError) → FindsWith O (many_at (section_at 105) n bytes) (Ok y) held zs
+    → ((i : List (List ALine)) → O i y → FindsWith P (then_steps n i (held ++ zs)) r later ws) → FindsWith P (sections_at n bytes) r later ws
+behind_initial O P n bytes held later zs ws y r first next =
+    subst (λ o. FindsWith P o r later ws) (sections_is n bytes) (then_finds_with O P (many_at (section_at 105) n bytes) (then_steps n) y held later zs ws r first next)
 
-pub behind_steps : {X Y : Type 0} (O : List (List ALine) → Y → Type 0) (P : List (List ALine) → X → Type 0) (n : ℕ) (initial : List (List ALine)) (bytes held later : List ℕ) (source last : Option (List ℕ)) (y : Y) (r : Result X ReaderError) → FindsWith O (many_at (section_at 115) n bytes) (Ok y) held source
-    → ((s : List (List ALine)) (zs : List ℕ) → O s y → source ≡ Some zs → FindsWith P (then_bad initial s (held ++ zs)) r later last) → FindsWith P (then_steps n initial bytes) r later last
-behind_steps O P n initial bytes held later source last y r first next = then_finds_with O P (many_at (section_at 115) n bytes) (then_bad initial) y held later source last r first next
+pub behind_steps : {X Y : Type 0} (O : List (List ALine) → Y → Type 0) (P : List (List ALine) → X → Type 0) (n : ℕ) (initial : List (List ALine)) (bytes held later zs ws : List ℕ) (y : Y) (r : Result X ReaderError) → FindsWith O (many_at (section_at 115) n bytes) (Ok y) held zs
+    → ((s : List (List ALine)) → O s y → FindsWith P (then_bad initial s (held ++ zs)) r later ws) → FindsWith P (then_steps n initial bytes) r later ws
+behind_steps O P n initial bytes held later zs ws y r first next = then_finds_with O P (many_at (section_at 115) n bytes) (then_bad initial) y held later zs ws r first next
 
-pub bad_found : {X : Type 0} (O : List ALine → X → Type 0) (P : List (List ALine) → X → Type 0) (initial steps : List (List ALine)) (bytes held : List ℕ) (source : Option (List ℕ)) (r : Result X ReaderError) → ((bad : List ALine) (x : X) → O bad x → P (initial ++ steps ++ bad ∷ []) x) → FindsWith O (section_at 98 bytes) r held source → FindsWith P (then_bad initial steps bytes) r held source
-bad_found O P initial steps bytes held source r h found = finds_made O P (λ bad. initial ++ steps ++ bad ∷ []) (section_at 98 bytes) r held source h found
+pub bad_found : {X : Type 0} (O : List ALine → X → Type 0) (P : List (List ALine) → X → Type 0) (initial steps : List (List ALine)) (bytes held later : List ℕ) (r : Result X ReaderError) → ((bad : List ALine) (x : X) → O bad x → P (initial ++ steps ++ bad ∷ []) x) → FindsWith O (section_at 98 bytes) r held later → FindsWith P (then_bad initial steps bytes) r held later
+bad_found O P initial steps bytes held later r h found = finds_made O P (λ bad. initial ++ steps ++ bad ∷ []) (section_at 98 bytes) r held later h found
 
 -- ---- the lemmas and all sections
 
-pub behind_lemmas : {X Y : Type 0} (O : Option (List ALine) → Y → Type 0) (P : Certificate → X → Type 0) (v : Version) (p : AProperty) (n : ℕ) (inv : List (List Lit)) (bytes held later : List ℕ) (source last : Option (List ℕ)) (y : Y) (r : Result X ReaderError) → FindsWith O (lemmas_at v bytes) (Ok y) held source
-    → ((l : Option (List ALine)) (zs : List ℕ) → O l y → source ≡ Some zs → FindsWith P (then_sections p n inv l (held ++ zs)) r later last) → FindsWith P (parts_at v p n inv bytes) r later last
-behind_lemmas O P v p n inv bytes held later source last y r first next =
-    subst (λ o. FindsWith P o r later last) (parts_is v p n inv bytes) (then_finds_with O P (lemmas_at v bytes) (then_sections p n inv) y held later source last r first next)
+pub behind_lemmas : {X Y : Type 0} (O : Option (List ALine) → Y → Type 0) (P : Certificate → X → Type 0) (v : Version) (p : AProperty) (n : ℕ) (inv : List (List Lit)) (bytes held later zs ws : List ℕ) (y : Y) (r : Result X ReaderError) → FindsWith O (lemmas_at v bytes) (Ok y) held zs
+    → ((l : Option (List ALine)) → O l y → FindsWith P (then_sections p n inv l (held ++ zs)) r later ws) → FindsWith P (parts_at v p n inv bytes) r later ws
+behind_lemmas O P v p n inv bytes held later zs ws y r first next =
+    subst (λ o. FindsWith P o r later ws) (parts_is v p n inv bytes) (then_finds_with O P (lemmas_at v bytes) (then_sections p n inv) y held later zs ws r first next)
 
 pub lemmas_stop : (v : Version) (p : AProperty) (n : ℕ) (inv : List (List Lit)) (bytes : List ℕ) (e : ReaderError) → ForText e (lemmas_at v bytes ≡ None) → ForText e (parts_at v p n inv bytes ≡ None)
 lemmas_stop v p n inv bytes e f = subst (λ o. ForText e (o ≡ None)) (parts_is v p n inv bytes) (then_none (lemmas_at v bytes) (then_sections p n inv) e f)
 
-pub sections_made : {X : Type 0} (O : List (List ALine) → X → Type 0) (P : Certificate → X → Type 0) (p : AProperty) (n : ℕ) (inv : List (List Lit)) (l : Option (List ALine)) (bytes held : List ℕ) (source : Option (List ℕ)) (r : Result X ReaderError) → ((ss : List (List ALine)) (x : X) → O ss x → P (made p inv l ss) x) → FindsWith O (sections_at n bytes) r held source → FindsWith P (then_sections p n inv l bytes) r held source
-sections_made O P p n inv l bytes held source r h found = finds_made O P (made p inv l) (sections_at n bytes) r held source h found
+pub sections_made : {X : Type 0} (O : List (List ALine) → X → Type 0) (P : Certificate → X → Type 0) (p : AProperty) (n : ℕ) (inv : List (List Lit)) (l : Option (List ALine)) (bytes held later : List ℕ) (r : Result X ReaderError) → ((ss : List (List ALine)) (x : X) → O ss x → P (made p inv l ss) x) → FindsWith O (sections_at n bytes) r held later → FindsWith P (then_sections p n inv l bytes) r held later
+sections_made O P p n inv l bytes held later r h found = finds_made O P (made p inv l) (sections_at n bytes) r held later h found
 
 pub sections_stop : (p : AProperty) (n : ℕ) (inv : List (List Lit)) (l : Option (List ALine)) (bytes : List ℕ) (e : ReaderError) → ForText e (sections_at n bytes ≡ None) → ForText e (then_sections p n inv l bytes ≡ None)
 sections_stop p n inv l bytes e f = for_text_map e (sections_at n bytes ≡ None) (then_sections p n inv l bytes ≡ None) (λ none. ap (mapped (made p inv l)) none) f

@@ -59,3 +59,14 @@ abbrev pub BeginsRunLine : List ℕ → List ℕ → Option (List ℕ) → Optio
 BeginsRunLine xs ys before after =
     ((p : Property) × Confirms xs ys p × PutsBeginning before after (yes_line Run p))
     ⊎ ((n : ℕ) × IsRunRefusal xs ys n × PutsBeginning before after (no_line n))
+
+-- ---- of one property alone
+
+-- why the answer about this property is no: as before, or the stimulus shows the violation of another property
+abbrev pub IsRunRefusalFor : Property → List ℕ → List ℕ → ℕ → Type 0
+IsRunRefusalFor p xs ys n = IsRunRefusal xs ys n ⊎ ((q : Property) × Confirms xs ys q × (q ≢ p) × (n ≡ 30))
+
+abbrev pub BeginsRunLineFor : Property → List ℕ → List ℕ → Option (List ℕ) → Option (List ℕ) → Type 0
+BeginsRunLineFor p xs ys before after =
+    (Confirms xs ys p × PutsBeginning before after (yes_line Run p))
+    ⊎ ((n : ℕ) × IsRunRefusalFor p xs ys n × PutsBeginning before after (no_line n))

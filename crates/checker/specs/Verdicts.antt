@@ -64,3 +64,14 @@ abbrev pub BeginsLine : List ℕ → List ℕ → Option (List ℕ) → Option (
 BeginsLine xs ys before after =
     ((p : Property) × Accepts xs ys p × PutsBeginning before after (yes_line Safe p))
     ⊎ ((n : ℕ) × IsRefusal xs ys n × PutsBeginning before after (no_line n))
+
+-- ---- of one property alone
+
+-- why the answer about this property is no: as before, or the certificate is accepted and is of another property
+abbrev pub IsRefusalFor : Property → List ℕ → List ℕ → ℕ → Type 0
+IsRefusalFor p xs ys n = IsRefusal xs ys n ⊎ ((q : Property) × Accepts xs ys q × (q ≢ p) × (n ≡ 30))
+
+abbrev pub BeginsLineFor : Property → List ℕ → List ℕ → Option (List ℕ) → Option (List ℕ) → Type 0
+BeginsLineFor p xs ys before after =
+    (Accepts xs ys p × PutsBeginning before after (yes_line Safe p))
+    ⊎ ((n : ℕ) × IsRefusalFor p xs ys n × PutsBeginning before after (no_line n))

@@ -1,6 +1,7 @@
 //! The cases of an invariant, checked while their sections are read.
 
 ghost use Rattle.std.specs.Prelude.{◌≡◌, ◌+◌, ◌-◌, ◌<◌, ◌^◌, ◌↔◌, ℕ, List, ◌++◌, map, length, Contains, None, Some, IfNone, IfOk, IsErrOf};
+ghost use Rattle.base.specs.Devices.{Reads};
 ghost use Rattle.scan.specs.Lists.{many_at};
 ghost use Rattle.graph.specs.WellFormed.{used};
 ghost use Rattle.lrat.specs.Shared.{base_of};
@@ -35,7 +36,7 @@ pub fn check_initial<S: Source>(
     requires fresh { refuter.old.refusal ≡ None }
     requires base { refuter.old.base ≡ base_of (start_formula circuit.now) }
     requires invariant { IsInvariant circuit.now invariant.now }
-    ensures says { (ys : List ℕ) → S.remaining from.old ≡ Some ys → FindsWith (AreOfCases (map (init_case circuit.now) invariant.now)) (many_at (section_at 105) (length invariant.now) (reader.old ++ ys)) result reader.new (S.remaining from.new) }
+    ensures says { Reads (S.leaves from.old) (S.leaves from.new) (λ ys zs. FindsWith (AreOfCases (map (init_case circuit.now) invariant.now)) (many_at (section_at 105) (length invariant.now) (reader.old ++ ys)) result reader.new zs) }
     ensures device { IsErrOf result Device ↔ (S.failed from.new ≡ S.failed from.old + 1) }
     ensures others { (IsErrOf result Device → ⊥) → S.failed from.new ≡ S.failed from.old }
 {
@@ -81,7 +82,7 @@ pub fn check_steps<S: Source>(
     requires table { IsTableOf circuit.now.latches table.now }
     ensures base { refuter.new.base ≡ refuter.old.base }
     ensures fresh { IfOk result (λ found. IfNone found (refuter.new.refusal ≡ None)) }
-    ensures says { (ys : List ℕ) → S.remaining from.old ≡ Some ys → FindsWith (AreOfCases (map (step_case circuit.now refuter.old.base) invariant.now)) (many_at (section_at 115) (length invariant.now) (reader.old ++ ys)) result reader.new (S.remaining from.new) }
+    ensures says { Reads (S.leaves from.old) (S.leaves from.new) (λ ys zs. FindsWith (AreOfCases (map (step_case circuit.now refuter.old.base) invariant.now)) (many_at (section_at 115) (length invariant.now) (reader.old ++ ys)) result reader.new zs) }
     ensures device { IsErrOf result Device ↔ (S.failed from.new ≡ S.failed from.old + 1) }
     ensures others { (IsErrOf result Device → ⊥) → S.failed from.new ≡ S.failed from.old }
 {
@@ -130,7 +131,7 @@ pub fn check_cases<S: Source>(
     requires start_base { start.old.base ≡ base_of (start_formula circuit.now) }
     requires shared { shared.old.refusal ≡ None }
     requires vars { shared.old.base.vars ≡ circuit.now.max_var + 1 }
-    ensures says { (ys : List ℕ) → S.remaining from.old ≡ Some ys → FindsWith (AreOfCases (cases circuit.now shared.old.base invariant.now bad)) (sections_at (length invariant.now) (reader.old ++ ys)) result reader.new (S.remaining from.new) }
+    ensures says { Reads (S.leaves from.old) (S.leaves from.new) (λ ys zs. FindsWith (AreOfCases (cases circuit.now shared.old.base invariant.now bad)) (sections_at (length invariant.now) (reader.old ++ ys)) result reader.new zs) }
     ensures device { IsErrOf result Device ↔ (S.failed from.new ≡ S.failed from.old + 1) }
     ensures others { (IsErrOf result Device → ⊥) → S.failed from.new ≡ S.failed from.old }
 {

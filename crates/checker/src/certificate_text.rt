@@ -2,6 +2,7 @@
 
 ghost use Rattle.base.specs.Witness.{witness};
 ghost use Rattle.std.specs.Prelude.{◌≡◌, ◌≢◌, ◌+◌, ◌-◌, ◌<◌, ◌≤◌, ◌^◌, ◌↔◌, ℕ, List, ◌++◌, All, length, Contains, None, Some, IfErr, IfNone, IfOk, IsErrOf, MatchResult, OnOk};
+ghost use Rattle.base.specs.Devices.{IsAtEnd, Reads};
 ghost use Rattle.graph.specs.WellFormed.{used};
 ghost use Rattle.graph.specs.declared.circuit.Lit.{Lit as ALit};
 ghost use Rattle.graph.specs.declared.circuit.Property.{Property as AProperty};
@@ -45,7 +46,7 @@ fn skip_cases<S: Source>(
     from: &mut S,
 ) -> Result<(), ReaderError>
     requires source { S.failed from.old < 2 ^ 64 - 1 }
-    ensures says { (ys : List ℕ) → S.remaining from.old ≡ Some ys → FindsWith (λ sections _. Unit {0}) (sections_at count (reader.old ++ ys)) result reader.new (S.remaining from.new) }
+    ensures says { Reads (S.leaves from.old) (S.leaves from.new) (λ ys zs. FindsWith (λ sections _. Unit {0}) (sections_at count (reader.old ++ ys)) result reader.new zs) }
     ensures device { IsErrOf result Device ↔ (S.failed from.new ≡ S.failed from.old + 1) }
     ensures others { (IsErrOf result Device → ⊥) → S.failed from.new ≡ S.failed from.old }
 {
@@ -62,7 +63,7 @@ fn skip_lemmas<S: Source>(
     from: &mut S,
 ) -> Result<(), ReaderError>
     requires source { S.failed from.old < 2 ^ 64 - 1 }
-    ensures says { (ys : List ℕ) → S.remaining from.old ≡ Some ys → FindsWith (λ lemmas _. Unit {0}) (lemmas_at version (reader.old ++ ys)) result reader.new (S.remaining from.new) }
+    ensures says { Reads (S.leaves from.old) (S.leaves from.new) (λ ys zs. FindsWith (λ lemmas _. Unit {0}) (lemmas_at version (reader.old ++ ys)) result reader.new zs) }
     ensures device { IsErrOf result Device ↔ (S.failed from.new ≡ S.failed from.old + 1) }
     ensures others { (IsErrOf result Device → ⊥) → S.failed from.new ≡ S.failed from.old }
 {
@@ -83,7 +84,7 @@ fn skip_parts<S: Source>(
     from: &mut S,
 ) -> Result<Option<u8>, ReaderError>
     requires source { S.failed from.old < 2 ^ 64 - 1 }
-    ensures says { (ys : List ℕ) (p : AProperty) (inv : List (List ALit)) → S.remaining from.old ≡ Some ys → FindsWith (λ c found. (found ≡ Some (number_of error)) × (error ≢ OutOfMemory witness)) (parts_at version p count inv (reader.old ++ ys)) result reader.new (S.remaining from.new) }
+    ensures says { Reads (S.leaves from.old) (S.leaves from.new) (λ ys zs. (p : AProperty) (inv : List (List ALit)) → FindsWith (λ c found. (found ≡ Some (number_of error)) × (error ≢ OutOfMemory witness)) (parts_at version p count inv (reader.old ++ ys)) result reader.new zs) }
     ensures device { IsErrOf result Device ↔ (S.failed from.new ≡ S.failed from.old + 1) }
     ensures others { (IsErrOf result Device → ⊥) → S.failed from.new ≡ S.failed from.old }
 {
@@ -110,7 +111,7 @@ fn share_lemmas<S: Source>(
     requires fresh { refuter.old.refusal ≡ None }
     ensures vars { refuter.new.base.vars ≡ refuter.old.base.vars }
     ensures fresh { IfOk result (λ found. IfNone found (refuter.new.refusal ≡ None)) }
-    ensures says { (ys : List ℕ) (m : AParts) (inv : List (List ALit)) → S.remaining from.old ≡ Some ys → refuter.old ≡ at_formula (shared_formula m inv) → FindsWith (AreTaken m inv refuter.new.base) (lemmas_at version (reader.old ++ ys)) result reader.new (S.remaining from.new) }
+    ensures says { Reads (S.leaves from.old) (S.leaves from.new) (λ ys zs. (m : AParts) (inv : List (List ALit)) → refuter.old ≡ at_formula (shared_formula m inv) → FindsWith (AreTaken m inv refuter.new.base) (lemmas_at version (reader.old ++ ys)) result reader.new zs) }
     ensures device { IsErrOf result Device ↔ (S.failed from.new ≡ S.failed from.old + 1) }
     ensures others { (IsErrOf result Device → ⊥) → S.failed from.new ≡ S.failed from.old }
 {
@@ -153,7 +154,7 @@ fn check_lemmas_and_cases<S: Source>(
     requires bad { Contains (used circuit.now) bad }
     requires start { start.old ≡ at_formula (start_formula circuit.now) }
     requires shared { shared.old ≡ at_formula (shared_formula circuit.now invariant.now) }
-    ensures says { (ys : List ℕ) (p : AProperty) → S.remaining from.old ≡ Some ys → FindsWith (HasSections circuit.now bad) (parts_at version p (length invariant.now) invariant.now (reader.old ++ ys)) result reader.new (S.remaining from.new) }
+    ensures says { Reads (S.leaves from.old) (S.leaves from.new) (λ ys zs. (p : AProperty) → FindsWith (HasSections circuit.now bad) (parts_at version p (length invariant.now) invariant.now (reader.old ++ ys)) result reader.new zs) }
     ensures device { IsErrOf result Device ↔ (S.failed from.new ≡ S.failed from.old + 1) }
     ensures others { (IsErrOf result Device → ⊥) → S.failed from.new ≡ S.failed from.old }
 {
@@ -183,7 +184,7 @@ fn check_parts<S: Source>(
     requires invariant { IsInvariant circuit.now invariant.now }
     requires table { IsTableOf circuit.now.latches table.now }
     requires bad { Contains (used circuit.now) bad }
-    ensures says { (ys : List ℕ) (p : AProperty) → S.remaining from.old ≡ Some ys → FindsWith (HasSections circuit.now bad) (parts_at version p (length invariant.now) invariant.now (reader.old ++ ys)) result reader.new (S.remaining from.new) }
+    ensures says { Reads (S.leaves from.old) (S.leaves from.new) (λ ys zs. (p : AProperty) → FindsWith (HasSections circuit.now bad) (parts_at version p (length invariant.now) invariant.now (reader.old ++ ys)) result reader.new zs) }
     ensures device { IsErrOf result Device ↔ (S.failed from.new ≡ S.failed from.old + 1) }
     ensures others { (IsErrOf result Device → ⊥) → S.failed from.new ≡ S.failed from.old }
 {
@@ -229,7 +230,7 @@ fn check_for<S: Source>(
     requires source { S.failed from.old < 2 ^ 64 - 1 }
     requires bad { Contains (used circuit.now) bad }
     requires few { length invariant.now ≤ 4194303 }
-    ensures says { (ys : List ℕ) (p : AProperty) → S.remaining from.old ≡ Some ys → FindsWith (IsFoundFor circuit.now bad) (parts_at version p (length invariant.now) invariant.now (reader.old ++ ys)) result reader.new (S.remaining from.new) }
+    ensures says { Reads (S.leaves from.old) (S.leaves from.new) (λ ys zs. (p : AProperty) → FindsWith (IsFoundFor circuit.now bad) (parts_at version p (length invariant.now) invariant.now (reader.old ++ ys)) result reader.new zs) }
     ensures device { IsErrOf result Device ↔ (S.failed from.new ≡ S.failed from.old + 1) }
     ensures others { (IsErrOf result Device → ⊥) → S.failed from.new ≡ S.failed from.old }
 {
@@ -261,7 +262,7 @@ fn check_justice<S: Source>(
 ) -> Result<Option<u8>, ReaderError>
     requires source { S.failed from.old < 2 ^ 64 - 1 }
     requires few { length invariant.now ≤ 4194303 }
-    ensures says { (ys : List ℕ) → S.remaining from.old ≡ Some ys → FindsWith (IsFound circuit.now) (parts_at version (Justice n) (length invariant.now) invariant.now (reader.old ++ ys)) result reader.new (S.remaining from.new) }
+    ensures says { Reads (S.leaves from.old) (S.leaves from.new) (λ ys zs. FindsWith (IsFound circuit.now) (parts_at version (Justice n) (length invariant.now) invariant.now (reader.old ++ ys)) result reader.new zs) }
     ensures device { IsErrOf result Device ↔ (S.failed from.new ≡ S.failed from.old + 1) }
     ensures others { (IsErrOf result Device → ⊥) → S.failed from.new ≡ S.failed from.old }
 {
@@ -300,7 +301,7 @@ fn check_property<S: Source>(
 ) -> Result<Option<u8>, ReaderError>
     requires source { S.failed from.old < 2 ^ 64 - 1 }
     requires few { length invariant.now ≤ 4194303 }
-    ensures says { (ys : List ℕ) → S.remaining from.old ≡ Some ys → FindsWith (IsFound circuit.now) (parts_at version property (length invariant.now) invariant.now (reader.old ++ ys)) result reader.new (S.remaining from.new) }
+    ensures says { Reads (S.leaves from.old) (S.leaves from.new) (λ ys zs. FindsWith (IsFound circuit.now) (parts_at version property (length invariant.now) invariant.now (reader.old ++ ys)) result reader.new zs) }
     ensures device { IsErrOf result Device ↔ (S.failed from.new ≡ S.failed from.old + 1) }
     ensures others { (IsErrOf result Device → ⊥) → S.failed from.new ≡ S.failed from.old }
 {
@@ -352,7 +353,7 @@ fn check_text<S: Source>(
     from: &mut S,
 ) -> Result<Outcome, ReaderError>
     requires source { S.failed from.old < 2 ^ 64 - 1 }
-    ensures says { (ys : List ℕ) → S.remaining from.old ≡ Some ys → FindsWith (λ c found. (found.property ≡ c.property) × IsFound circuit.now c found.refusal) (certificate_at (reader.old ++ ys)) result reader.new (S.remaining from.new) }
+    ensures says { Reads (S.leaves from.old) (S.leaves from.new) (λ ys zs. FindsWith (λ c found. (found.property ≡ c.property) × IsFound circuit.now c found.refusal) (certificate_at (reader.old ++ ys)) result reader.new zs) }
     ensures device { IsErrOf result Device ↔ (S.failed from.new ≡ S.failed from.old + 1) }
     ensures others { (IsErrOf result Device → ⊥) → S.failed from.new ≡ S.failed from.old }
 {
@@ -374,7 +375,8 @@ pub fn check_source<S: Source>(
     from: &mut S,
 ) -> Result<Outcome, ReaderError>
     requires source { S.failed from.old < 2 ^ 64 - 1 }
-    ensures says { (ys : List ℕ) → S.remaining from.old ≡ Some ys → MatchResult result (λ found. (c : ACertificate) × SpellsCertificate ys c × (found.property ≡ c.property) × IsFound circuit.now c found.refusal) (λ e. ForText e ((c : ACertificate) → SpellsCertificate ys c → ⊥)) }
+    ensures says { Reads (S.leaves from.old) (S.leaves from.new) (λ ys zs. MatchResult result (λ found. (c : ACertificate) × SpellsCertificate ys c × (found.property ≡ c.property) × IsFound circuit.now c found.refusal) (λ e. ForText e ((c : ACertificate) → SpellsCertificate ys c → ⊥))) }
+    ensures ended { IfOk result (λ _. IsAtEnd (S.leaves from.new)) }
     ensures device { IsErrOf result Device ↔ (S.failed from.new ≡ S.failed from.old + 1) }
     ensures others { (IsErrOf result Device → ⊥) → S.failed from.new ≡ S.failed from.old }
 {

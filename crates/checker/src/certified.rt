@@ -2,17 +2,19 @@
 
 ghost use Rattle.std.specs.Prelude.{◌≡◌, ◌+◌, ◌-◌, ◌<◌, ◌^◌, ℕ, List, Some, IfOk, IsErrOf, IsTrue, MatchResult, OnErr, false};
 ghost use Rattle.std.specs.Io.KnownBytes.{Appends};
+ghost use Rattle.base.specs.Devices.{IsAtEnd, Reads};
 ghost use Rattle.aiger.specs.Layouts.{SpellsFile};
 ghost use Rattle.aiger.specs.Loading.{IsFileOf};
 ghost use Rattle.graph.specs.declared.circuit.Property.{Property as AProperty};
 ghost use Rattle.graph.specs.File.{File};
 ghost use Rattle.checker.specs.Lines.{yes_line, no_line};
-ghost use Rattle.checker.specs.Verdicts.{Accepts, BeginsLine, IsRefusal, IsUpheldText};
+ghost use Rattle.checker.specs.Verdicts.{Accepts, BeginsLine, BeginsLineFor, IsRefusal, IsRefusalFor, IsUpheldText};
 ghost use Rattle.checker.specs.Stops.{IsStop, FailsOne};
 ghost use Rattle.checker.specs.declared.line.Question.TheVariants.{Safe};
 ghost use Rattle.checker.specs.declared.stop.Stop.TheVariants.{Device as Failure};
 ghost use Rattle.checker.specs.declared.run_error.RunError.TheVariants.{Device};
 
+use crate::asked::about;
 use crate::certificate_text::check_source;
 use crate::line::{Question, tell};
 use crate::run_error::RunError;
@@ -28,7 +30,8 @@ fn safe_property_of<C: Source>(
     certificate: &mut C,
 ) -> Result<Property, Stop>
     requires certificate { C.failed certificate.old < 2 ^ 64 - 1 }
-    ensures says { (xs ys : List ℕ) → IsFileOf xs file.now → C.remaining certificate.old ≡ Some ys → MatchResult result (λ p. Accepts xs ys p) (IsStop (IsRefusal xs ys)) }
+    ensures says { (xs : List ℕ) → IsFileOf xs file.now → Reads (C.leaves certificate.old) (C.leaves certificate.new) (λ ys _. MatchResult result (λ p. Accepts xs ys p) (IsStop (IsRefusal xs ys))) }
+    ensures ended { IfOk result (λ _. IsAtEnd (C.leaves certificate.new)) }
     ensures device { IsErrOf result Failure → C.failed certificate.new ≡ C.failed certificate.old + 1 }
     ensures others { (IsErrOf result Failure → ⊥) → C.failed certificate.new ≡ C.failed certificate.old }
 {
@@ -48,8 +51,9 @@ fn safe_property<M: Source, C: Source>(
 ) -> Result<Property, Stop>
     requires circuit { M.failed circuit.old < 2 ^ 64 - 1 }
     requires certificate { C.failed certificate.old < 2 ^ 64 - 1 }
-    ensures says { (xs ys : List ℕ) → M.remaining circuit.old ≡ Some xs → C.remaining certificate.old ≡ Some ys → MatchResult result (λ p. Accepts xs ys p) (IsStop (IsRefusal xs ys)) }
-    ensures unread { (xs : List ℕ) → M.remaining circuit.old ≡ Some xs → ((f : File) → SpellsFile xs f → ⊥) → certificate.new ≡ certificate.old }
+    ensures says { Reads (M.leaves circuit.old) (M.leaves circuit.new) (λ xs _. Reads (C.leaves certificate.old) (C.leaves certificate.new) (λ ys _. MatchResult result (λ p. Accepts xs ys p) (IsStop (IsRefusal xs ys)))) }
+    ensures ended { IfOk result (λ _. IsAtEnd (M.leaves circuit.new) × IsAtEnd (C.leaves certificate.new)) }
+    ensures unread { Reads (M.leaves circuit.old) (M.leaves circuit.new) (λ xs _. ((f : File) → SpellsFile xs f → ⊥) → certificate.new ≡ certificate.old) }
     ensures fails { FailsOne result Failure (record { circuit = M.failed circuit.old; evidence = C.failed certificate.old; out = 0 }) (record { circuit = M.failed circuit.new; evidence = C.failed certificate.new; out = 0 }) }
 {
     let file = load(alloc, circuit)?;
@@ -79,20 +83,54 @@ pub fn run_safe<M: Source, C: Source, W: Sink>(
     requires certificate { C.failed certificate.old < 2 ^ 64 - 1 }
     requires out { W.failed out.old < 2 ^ 64 - 1 }
     // Yes: the certificate is accepted, the property is upheld, and the line says so.
-    ensures yes { (xs ys : List ℕ) → M.remaining circuit.old ≡ Some xs → C.remaining certificate.old ≡ Some ys → IfOk result (λ yes. IsTrue yes → (p : AProperty) × Accepts xs ys p × IsUpheldText xs p × Appends (W.contents out.old) (W.contents out.new) (yes_line Safe p)) }
+    ensures yes { Reads (M.leaves circuit.old) (M.leaves circuit.new) (λ xs _. Reads (C.leaves certificate.old) (C.leaves certificate.new) (λ ys _. IfOk result (λ yes. IsTrue yes → (p : AProperty) × Accepts xs ys p × IsUpheldText xs p × Appends (W.contents out.old) (W.contents out.new) (yes_line Safe p)))) }
+    // A yes is about all the bytes: both sources told their end.
+    ensures ended { IfOk result (λ yes. IsTrue yes → IsAtEnd (M.leaves circuit.new) × IsAtEnd (C.leaves certificate.new)) }
     // No: there is a reason, and the line has its number.
-    ensures no { (xs ys : List ℕ) → M.remaining circuit.old ≡ Some xs → C.remaining certificate.old ≡ Some ys → IfOk result (λ yes. yes ≡ false → (n : ℕ) × IsRefusal xs ys n × Appends (W.contents out.old) (W.contents out.new) (no_line n)) }
+    ensures no { Reads (M.leaves circuit.old) (M.leaves circuit.new) (λ xs _. Reads (C.leaves certificate.old) (C.leaves certificate.new) (λ ys _. IfOk result (λ yes. yes ≡ false → (n : ℕ) × IsRefusal xs ys n × Appends (W.contents out.old) (W.contents out.new) (no_line n)))) }
     // Whatever is accepted gets a yes, unless memory runs out or a device fails.
-    ensures exact { (xs ys : List ℕ) (p : AProperty) → M.remaining circuit.old ≡ Some xs → C.remaining certificate.old ≡ Some ys → Accepts xs ys p → IfOk result (λ yes. IsTrue yes) }
+    ensures exact { Reads (M.leaves circuit.old) (M.leaves circuit.new) (λ xs _. Reads (C.leaves certificate.old) (C.leaves certificate.new) (λ ys _. (p : AProperty) → Accepts xs ys p → IfOk result (λ yes. IsTrue yes))) }
     // Where the text spells no circuit, the second source is not read.
-    ensures unread { (xs : List ℕ) → M.remaining circuit.old ≡ Some xs → ((f : File) → SpellsFile xs f → ⊥) → certificate.new ≡ certificate.old }
+    ensures unread { Reads (M.leaves circuit.old) (M.leaves circuit.new) (λ xs _. ((f : File) → SpellsFile xs f → ⊥) → certificate.new ≡ certificate.old) }
     // A device's fault is answered exactly where one of them failed.
     ensures fails { FailsOne result Device (record { circuit = M.failed circuit.old; evidence = C.failed certificate.old; out = W.failed out.old }) (record { circuit = M.failed circuit.new; evidence = C.failed certificate.new; out = W.failed out.new }) }
     // Without an answer, and without a failure of the sink, nothing was put.
     ensures nothing { OnErr result (W.failed out.new ≡ W.failed out.old → out.new ≡ out.old) }
     // After a failure of the sink a beginning of the line was put.
-    ensures beginning { (xs ys : List ℕ) → M.remaining circuit.old ≡ Some xs → C.remaining certificate.old ≡ Some ys → OnErr result (W.failed out.new ≡ W.failed out.old + 1 → BeginsLine xs ys (W.contents out.old) (W.contents out.new)) }
+    ensures beginning { Reads (M.leaves circuit.old) (M.leaves circuit.new) (λ xs _. Reads (C.leaves certificate.old) (C.leaves certificate.new) (λ ys _. OnErr result (W.failed out.new ≡ W.failed out.old + 1 → BeginsLine xs ys (W.contents out.old) (W.contents out.new)))) }
 {
     let answer = safe_property(alloc, circuit, certificate);
+    tell(alloc, Question::Safe, answer, out)
+}
+
+/// As `run_safe`, of this property alone: where the certificate is of another one, the answer is `no 30`.
+pub fn run_safe_for<M: Source, C: Source, W: Sink>(
+    alloc: Global,
+    property: Property,
+    circuit: &mut M,
+    certificate: &mut C,
+    out: &mut W,
+) -> Result<bool, RunError>
+    requires circuit { M.failed circuit.old < 2 ^ 64 - 1 }
+    requires certificate { C.failed certificate.old < 2 ^ 64 - 1 }
+    requires out { W.failed out.old < 2 ^ 64 - 1 }
+    // Yes: the certificate is accepted, the property is upheld, and the line says so.
+    ensures yes { Reads (M.leaves circuit.old) (M.leaves circuit.new) (λ xs _. Reads (C.leaves certificate.old) (C.leaves certificate.new) (λ ys _. IfOk result (λ yes. IsTrue yes → Accepts xs ys property × IsUpheldText xs property × Appends (W.contents out.old) (W.contents out.new) (yes_line Safe property)))) }
+    // A yes is about all the bytes: both sources told their end.
+    ensures ended { IfOk result (λ yes. IsTrue yes → IsAtEnd (M.leaves circuit.new) × IsAtEnd (C.leaves certificate.new)) }
+    // No: there is a reason, and the line has its number.
+    ensures no { Reads (M.leaves circuit.old) (M.leaves circuit.new) (λ xs _. Reads (C.leaves certificate.old) (C.leaves certificate.new) (λ ys _. IfOk result (λ yes. yes ≡ false → (n : ℕ) × IsRefusalFor property xs ys n × Appends (W.contents out.old) (W.contents out.new) (no_line n)))) }
+    // Whatever is accepted gets a yes, unless memory runs out or a device fails.
+    ensures exact { Reads (M.leaves circuit.old) (M.leaves circuit.new) (λ xs _. Reads (C.leaves certificate.old) (C.leaves certificate.new) (λ ys _. Accepts xs ys property → IfOk result (λ yes. IsTrue yes))) }
+    // Where the text spells no circuit, the second source is not read.
+    ensures unread { Reads (M.leaves circuit.old) (M.leaves circuit.new) (λ xs _. ((f : File) → SpellsFile xs f → ⊥) → certificate.new ≡ certificate.old) }
+    // A device's fault is answered exactly where one of them failed.
+    ensures fails { FailsOne result Device (record { circuit = M.failed circuit.old; evidence = C.failed certificate.old; out = W.failed out.old }) (record { circuit = M.failed circuit.new; evidence = C.failed certificate.new; out = W.failed out.new }) }
+    // Without an answer, and without a failure of the sink, nothing was put.
+    ensures nothing { OnErr result (W.failed out.new ≡ W.failed out.old → out.new ≡ out.old) }
+    // After a failure of the sink a beginning of the line was put.
+    ensures beginning { Reads (M.leaves circuit.old) (M.leaves circuit.new) (λ xs _. Reads (C.leaves certificate.old) (C.leaves certificate.new) (λ ys _. OnErr result (W.failed out.new ≡ W.failed out.old + 1 → BeginsLineFor property xs ys (W.contents out.old) (W.contents out.new)))) }
+{
+    let answer = about(property, safe_property(alloc, circuit, certificate));
     tell(alloc, Question::Safe, answer, out)
 }

@@ -24,6 +24,7 @@
 #![tactic(auto)]
 
 mod acceptance;
+mod asked;
 mod case_text;
 mod certificate_text;
 mod certified;
@@ -31,6 +32,7 @@ mod check_error;
 mod clause_error;
 mod invariant;
 mod line;
+mod of_readers;
 mod replayed;
 mod run_error;
 mod section_text;
@@ -38,9 +40,10 @@ mod sections;
 mod stop;
 
 pub use acceptance::check;
-pub use certified::run_safe;
+pub use certified::{run_safe, run_safe_for};
 pub use check_error::CheckError;
 pub use clause_error::ClauseError;
 pub use invariant::check_clauses;
-pub use replayed::run_stimulus;
+pub use of_readers::{run_of_readers, safe_of_readers};
+pub use replayed::{run_stimulus, run_stimulus_for};
 pub use run_error::RunError;

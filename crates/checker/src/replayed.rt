@@ -2,17 +2,19 @@
 
 ghost use Rattle.std.specs.Prelude.{◌≡◌, ◌+◌, ◌-◌, ◌<◌, ◌^◌, ℕ, List, Some, IfOk, IsErrOf, IsTrue, MatchResult, OnErr, false};
 ghost use Rattle.std.specs.Io.KnownBytes.{Appends};
+ghost use Rattle.base.specs.Devices.{IsAtEnd, Reads};
 ghost use Rattle.aiger.specs.Layouts.{SpellsFile};
 ghost use Rattle.aiger.specs.Loading.{IsFileOf};
 ghost use Rattle.graph.specs.declared.circuit.Property.{Property as AProperty};
 ghost use Rattle.graph.specs.File.{File};
 ghost use Rattle.checker.specs.Lines.{yes_line, no_line};
-ghost use Rattle.checker.specs.Replayed.{BeginsRunLine, Confirms, IsRunRefusal};
+ghost use Rattle.checker.specs.Replayed.{BeginsRunLine, BeginsRunLineFor, Confirms, IsRunRefusal, IsRunRefusalFor};
 ghost use Rattle.checker.specs.Stops.{IsStop, FailsOne};
 ghost use Rattle.checker.specs.declared.line.Question.TheVariants.{Run};
 ghost use Rattle.checker.specs.declared.stop.Stop.TheVariants.{Device as Failure};
 ghost use Rattle.checker.specs.declared.run_error.RunError.TheVariants.{Device};
 
+use crate::asked::about;
 use crate::line::{Question, tell};
 use crate::run_error::RunError;
 use crate::stop::Stop;
@@ -28,7 +30,8 @@ fn violated_property_of<C: Source>(
     stimulus: &mut C,
 ) -> Result<Property, Stop>
     requires stimulus { C.failed stimulus.old < 2 ^ 64 - 1 }
-    ensures says { (xs ys : List ℕ) → IsFileOf xs file.now → C.remaining stimulus.old ≡ Some ys → MatchResult result (λ p. Confirms xs ys p) (IsStop (IsRunRefusal xs ys)) }
+    ensures says { (xs : List ℕ) → IsFileOf xs file.now → Reads (C.leaves stimulus.old) (C.leaves stimulus.new) (λ ys _. MatchResult result (λ p. Confirms xs ys p) (IsStop (IsRunRefusal xs ys))) }
+    ensures ended { IfOk result (λ _. IsAtEnd (C.leaves stimulus.new)) }
     ensures device { IsErrOf result Failure → C.failed stimulus.new ≡ C.failed stimulus.old + 1 }
     ensures others { (IsErrOf result Failure → ⊥) → C.failed stimulus.new ≡ C.failed stimulus.old }
 {
@@ -48,8 +51,9 @@ fn violated_property<M: Source, C: Source>(
 ) -> Result<Property, Stop>
     requires circuit { M.failed circuit.old < 2 ^ 64 - 1 }
     requires stimulus { C.failed stimulus.old < 2 ^ 64 - 1 }
-    ensures says { (xs ys : List ℕ) → M.remaining circuit.old ≡ Some xs → C.remaining stimulus.old ≡ Some ys → MatchResult result (λ p. Confirms xs ys p) (IsStop (IsRunRefusal xs ys)) }
-    ensures unread { (xs : List ℕ) → M.remaining circuit.old ≡ Some xs → ((f : File) → SpellsFile xs f → ⊥) → stimulus.new ≡ stimulus.old }
+    ensures says { Reads (M.leaves circuit.old) (M.leaves circuit.new) (λ xs _. Reads (C.leaves stimulus.old) (C.leaves stimulus.new) (λ ys _. MatchResult result (λ p. Confirms xs ys p) (IsStop (IsRunRefusal xs ys)))) }
+    ensures ended { IfOk result (λ _. IsAtEnd (M.leaves circuit.new) × IsAtEnd (C.leaves stimulus.new)) }
+    ensures unread { Reads (M.leaves circuit.old) (M.leaves circuit.new) (λ xs _. ((f : File) → SpellsFile xs f → ⊥) → stimulus.new ≡ stimulus.old) }
     ensures fails { FailsOne result Failure (record { circuit = M.failed circuit.old; evidence = C.failed stimulus.old; out = 0 }) (record { circuit = M.failed circuit.new; evidence = C.failed stimulus.new; out = 0 }) }
 {
     let file = load(alloc, circuit)?;
@@ -80,20 +84,54 @@ pub fn run_stimulus<M: Source, C: Source, W: Sink>(
     requires stimulus { C.failed stimulus.old < 2 ^ 64 - 1 }
     requires out { W.failed out.old < 2 ^ 64 - 1 }
     // Yes: the stimulus shows its violation, and the line says so.
-    ensures yes { (xs ys : List ℕ) → M.remaining circuit.old ≡ Some xs → C.remaining stimulus.old ≡ Some ys → IfOk result (λ yes. IsTrue yes → (p : AProperty) × Confirms xs ys p × Appends (W.contents out.old) (W.contents out.new) (yes_line Run p)) }
+    ensures yes { Reads (M.leaves circuit.old) (M.leaves circuit.new) (λ xs _. Reads (C.leaves stimulus.old) (C.leaves stimulus.new) (λ ys _. IfOk result (λ yes. IsTrue yes → (p : AProperty) × Confirms xs ys p × Appends (W.contents out.old) (W.contents out.new) (yes_line Run p)))) }
+    // A yes is about all the bytes: both sources told their end.
+    ensures ended { IfOk result (λ yes. IsTrue yes → IsAtEnd (M.leaves circuit.new) × IsAtEnd (C.leaves stimulus.new)) }
     // No: there is a reason, and the line has its number.
-    ensures no { (xs ys : List ℕ) → M.remaining circuit.old ≡ Some xs → C.remaining stimulus.old ≡ Some ys → IfOk result (λ yes. yes ≡ false → (n : ℕ) × IsRunRefusal xs ys n × Appends (W.contents out.old) (W.contents out.new) (no_line n)) }
+    ensures no { Reads (M.leaves circuit.old) (M.leaves circuit.new) (λ xs _. Reads (C.leaves stimulus.old) (C.leaves stimulus.new) (λ ys _. IfOk result (λ yes. yes ≡ false → (n : ℕ) × IsRunRefusal xs ys n × Appends (W.contents out.old) (W.contents out.new) (no_line n)))) }
     // Whatever shows its violation gets a yes, unless memory runs out or a device fails.
-    ensures exact { (xs ys : List ℕ) (p : AProperty) → M.remaining circuit.old ≡ Some xs → C.remaining stimulus.old ≡ Some ys → Confirms xs ys p → IfOk result (λ yes. IsTrue yes) }
+    ensures exact { Reads (M.leaves circuit.old) (M.leaves circuit.new) (λ xs _. Reads (C.leaves stimulus.old) (C.leaves stimulus.new) (λ ys _. (p : AProperty) → Confirms xs ys p → IfOk result (λ yes. IsTrue yes))) }
     // Where the text spells no circuit, the second source is not read.
-    ensures unread { (xs : List ℕ) → M.remaining circuit.old ≡ Some xs → ((f : File) → SpellsFile xs f → ⊥) → stimulus.new ≡ stimulus.old }
+    ensures unread { Reads (M.leaves circuit.old) (M.leaves circuit.new) (λ xs _. ((f : File) → SpellsFile xs f → ⊥) → stimulus.new ≡ stimulus.old) }
     // A device's fault is answered exactly where one of them failed.
     ensures fails { FailsOne result Device (record { circuit = M.failed circuit.old; evidence = C.failed stimulus.old; out = W.failed out.old }) (record { circuit = M.failed circuit.new; evidence = C.failed stimulus.new; out = W.failed out.new }) }
     // Without an answer, and without a failure of the sink, nothing was put.
     ensures nothing { OnErr result (W.failed out.new ≡ W.failed out.old → out.new ≡ out.old) }
     // After a failure of the sink a beginning of the line was put.
-    ensures beginning { (xs ys : List ℕ) → M.remaining circuit.old ≡ Some xs → C.remaining stimulus.old ≡ Some ys → OnErr result (W.failed out.new ≡ W.failed out.old + 1 → BeginsRunLine xs ys (W.contents out.old) (W.contents out.new)) }
+    ensures beginning { Reads (M.leaves circuit.old) (M.leaves circuit.new) (λ xs _. Reads (C.leaves stimulus.old) (C.leaves stimulus.new) (λ ys _. OnErr result (W.failed out.new ≡ W.failed out.old + 1 → BeginsRunLine xs ys (W.contents out.old) (W.contents out.new)))) }
 {
     let answer = violated_property(alloc, circuit, stimulus);
+    tell(alloc, Question::Run, answer, out)
+}
+
+/// As `run_stimulus`, of this property alone: where the stimulus is of another one, the answer is `no 30`.
+pub fn run_stimulus_for<M: Source, C: Source, W: Sink>(
+    alloc: Global,
+    property: Property,
+    circuit: &mut M,
+    stimulus: &mut C,
+    out: &mut W,
+) -> Result<bool, RunError>
+    requires circuit { M.failed circuit.old < 2 ^ 64 - 1 }
+    requires stimulus { C.failed stimulus.old < 2 ^ 64 - 1 }
+    requires out { W.failed out.old < 2 ^ 64 - 1 }
+    // Yes: the stimulus shows its violation, and the line says so.
+    ensures yes { Reads (M.leaves circuit.old) (M.leaves circuit.new) (λ xs _. Reads (C.leaves stimulus.old) (C.leaves stimulus.new) (λ ys _. IfOk result (λ yes. IsTrue yes → Confirms xs ys property × Appends (W.contents out.old) (W.contents out.new) (yes_line Run property)))) }
+    // A yes is about all the bytes: both sources told their end.
+    ensures ended { IfOk result (λ yes. IsTrue yes → IsAtEnd (M.leaves circuit.new) × IsAtEnd (C.leaves stimulus.new)) }
+    // No: there is a reason, and the line has its number.
+    ensures no { Reads (M.leaves circuit.old) (M.leaves circuit.new) (λ xs _. Reads (C.leaves stimulus.old) (C.leaves stimulus.new) (λ ys _. IfOk result (λ yes. yes ≡ false → (n : ℕ) × IsRunRefusalFor property xs ys n × Appends (W.contents out.old) (W.contents out.new) (no_line n)))) }
+    // Whatever shows its violation gets a yes, unless memory runs out or a device fails.
+    ensures exact { Reads (M.leaves circuit.old) (M.leaves circuit.new) (λ xs _. Reads (C.leaves stimulus.old) (C.leaves stimulus.new) (λ ys _. Confirms xs ys property → IfOk result (λ yes. IsTrue yes))) }
+    // Where the text spells no circuit, the second source is not read.
+    ensures unread { Reads (M.leaves circuit.old) (M.leaves circuit.new) (λ xs _. ((f : File) → SpellsFile xs f → ⊥) → stimulus.new ≡ stimulus.old) }
+    // A device's fault is answered exactly where one of them failed.
+    ensures fails { FailsOne result Device (record { circuit = M.failed circuit.old; evidence = C.failed stimulus.old; out = W.failed out.old }) (record { circuit = M.failed circuit.new; evidence = C.failed stimulus.new; out = W.failed out.new }) }
+    // Without an answer, and without a failure of the sink, nothing was put.
+    ensures nothing { OnErr result (W.failed out.new ≡ W.failed out.old → out.new ≡ out.old) }
+    // After a failure of the sink a beginning of the line was put.
+    ensures beginning { Reads (M.leaves circuit.old) (M.leaves circuit.new) (λ xs _. Reads (C.leaves stimulus.old) (C.leaves stimulus.new) (λ ys _. OnErr result (W.failed out.new ≡ W.failed out.old + 1 → BeginsRunLineFor property xs ys (W.contents out.old) (W.contents out.new)))) }
+{
+    let answer = about(property, violated_property(alloc, circuit, stimulus));
     tell(alloc, Question::Run, answer, out)
 }

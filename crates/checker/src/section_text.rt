@@ -2,6 +2,7 @@
 
 ghost use Rattle.base.specs.Witness.{witness};
 ghost use Rattle.std.specs.Prelude.{◌≡◌, ◌≢◌, ◌+◌, ◌-◌, ◌<◌, ◌^◌, ◌↔◌, ℕ, List, ◌++◌, All, None, Some, IfOk, IfNone, IsErrOf};
+ghost use Rattle.base.specs.Devices.{Reads};
 ghost use Rattle.scan.specs.Lists.{items_at};
 ghost use Rattle.lrat.specs.Literals.{IsLiteral};
 ghost use Rattle.lrat.specs.declared.fault.Fault.TheVariants.{OutOfMemory};
@@ -24,7 +25,7 @@ fn skip_refused<S: Source>(
     from: &mut S,
 ) -> Result<Option<Fault>, ReaderError>
     requires source { S.failed from.old < 2 ^ 64 - 1 }
-    ensures says { (ys : List ℕ) → S.remaining from.old ≡ Some ys → FindsWith (λ lines found. (found ≡ Some fault) × (fault ≢ OutOfMemory witness)) (items_at item_at (reader.old ++ ys)) result reader.new (S.remaining from.new) }
+    ensures says { Reads (S.leaves from.old) (S.leaves from.new) (λ ys zs. FindsWith (λ lines found. (found ≡ Some fault) × (fault ≢ OutOfMemory witness)) (items_at item_at (reader.old ++ ys)) result reader.new zs) }
     ensures found { IfOk result (λ found. (found ≡ Some fault) × (fault ≢ OutOfMemory witness)) }
     ensures device { IsErrOf result Device ↔ (S.failed from.new ≡ S.failed from.old + 1) }
     ensures others { (IsErrOf result Device → ⊥) → S.failed from.new ≡ S.failed from.old }
@@ -51,7 +52,7 @@ fn feed_lines<S: Source>(
     requires fresh { refuter.old.refusal ≡ None }
     ensures base { refuter.new.base ≡ refuter.old.base }
     ensures fresh { IfOk result (λ found. IfNone found (refuter.new.refusal ≡ None)) }
-    ensures says { (ys : List ℕ) → S.remaining from.old ≡ Some ys → FindsWith (IsFed refuter.old.base.vars refuter.old.stage) (items_at item_at (reader.old ++ ys)) result reader.new (S.remaining from.new) }
+    ensures says { Reads (S.leaves from.old) (S.leaves from.new) (λ ys zs. FindsWith (IsFed refuter.old.base.vars refuter.old.stage) (items_at item_at (reader.old ++ ys)) result reader.new zs) }
     ensures device { IsErrOf result Device ↔ (S.failed from.new ≡ S.failed from.old + 1) }
     ensures others { (IsErrOf result Device → ⊥) → S.failed from.new ≡ S.failed from.old }
 {
@@ -85,7 +86,7 @@ pub fn check_section<S: Source>(
     requires in_range { All (IsLiteral refuter.old.base.vars) units.now }
     ensures base { refuter.new.base ≡ refuter.old.base }
     ensures fresh { IfOk result (λ found. IfNone found (refuter.new.refusal ≡ None)) }
-    ensures says { (ys : List ℕ) → S.remaining from.old ≡ Some ys → FindsWith (IsOfCase (record { base = refuter.old.base; units = units.now })) (section_at (letter_of kind) (reader.old ++ ys)) result reader.new (S.remaining from.new) }
+    ensures says { Reads (S.leaves from.old) (S.leaves from.new) (λ ys zs. FindsWith (IsOfCase (record { base = refuter.old.base; units = units.now })) (section_at (letter_of kind) (reader.old ++ ys)) result reader.new zs) }
     ensures device { IsErrOf result Device ↔ (S.failed from.new ≡ S.failed from.old + 1) }
     ensures others { (IsErrOf result Device → ⊥) → S.failed from.new ≡ S.failed from.old }
 {
@@ -108,7 +109,7 @@ fn share_lines<S: Source>(
     requires fresh { refuter.old.refusal ≡ None }
     ensures vars { refuter.new.base.vars ≡ refuter.old.base.vars }
     ensures fresh { IfOk result (λ found. IfNone found (refuter.new.refusal ≡ None)) }
-    ensures says { (ys : List ℕ) → S.remaining from.old ≡ Some ys → FindsWith (AreLemmas refuter.old.base.vars refuter.old.stage refuter.new.base) (items_at item_at (reader.old ++ ys)) result reader.new (S.remaining from.new) }
+    ensures says { Reads (S.leaves from.old) (S.leaves from.new) (λ ys zs. FindsWith (AreLemmas refuter.old.base.vars refuter.old.stage refuter.new.base) (items_at item_at (reader.old ++ ys)) result reader.new zs) }
     ensures device { IsErrOf result Device ↔ (S.failed from.new ≡ S.failed from.old + 1) }
     ensures others { (IsErrOf result Device → ⊥) → S.failed from.new ≡ S.failed from.old }
 {
@@ -139,7 +140,7 @@ pub fn take_lemmas<S: Source>(
     requires fresh { refuter.old.refusal ≡ None }
     ensures vars { refuter.new.base.vars ≡ refuter.old.base.vars }
     ensures fresh { IfOk result (λ found. IfNone found (refuter.new.refusal ≡ None)) }
-    ensures says { (ys : List ℕ) → S.remaining from.old ≡ Some ys → FindsWith (AreLemmas refuter.old.base.vars refuter.old.stage refuter.new.base) (section_at 108 (reader.old ++ ys)) result reader.new (S.remaining from.new) }
+    ensures says { Reads (S.leaves from.old) (S.leaves from.new) (λ ys zs. FindsWith (AreLemmas refuter.old.base.vars refuter.old.stage refuter.new.base) (section_at 108 (reader.old ++ ys)) result reader.new zs) }
     ensures device { IsErrOf result Device ↔ (S.failed from.new ≡ S.failed from.old + 1) }
     ensures others { (IsErrOf result Device → ⊥) → S.failed from.new ≡ S.failed from.old }
 {

@@ -1,6 +1,7 @@
 //! Reading stimuli from sources.
 
-ghost use Rattle.std.specs.Prelude.{◌≡◌, ◌+◌, ◌-◌, ◌<◌, ◌^◌, ℕ, List, Some, IfOk, IsErrOf};
+ghost use Rattle.std.specs.Prelude.{◌≡◌, ◌+◌, ◌-◌, ◌<◌, ◌^◌, [], IfOk, IsErrOf};
+ghost use Rattle.base.specs.Devices.{Reads};
 ghost use Rattle.stimulus.specs.Texts.{SpellsStimulus};
 ghost use Rattle.stimulus.specs.declared.value.Stimulus.{Stimulus as AStimulus};
 ghost use Rattle.cli.specs.Loading.{IsLoaded};
@@ -15,10 +16,10 @@ use stimulus::Stimulus;
 /// competition).
 pub fn load_stimulus<S: Source>(alloc: Global, source: &mut S) -> Result<Stimulus, CliError>
     requires { S.failed source.old < 2 ^ 64 - 1 }
-    // What is read is spelled so.
-    ensures found { (ys : List ℕ) → S.remaining source.old ≡ Some ys → IfOk result (λ s. SpellsStimulus ys s) }
+    // What is read is spelled so by all the bytes.
+    ensures found { Reads (S.leaves source.old) (S.leaves source.new) (λ ys later. IfOk result (λ s. SpellsStimulus ys s × (later ≡ []))) }
     // What is spelled so is read, unless memory runs out or the source fails.
-    ensures only { (ys : List ℕ) (s : AStimulus) → S.remaining source.old ≡ Some ys → SpellsStimulus ys s → IsLoaded result s }
+    ensures only { Reads (S.leaves source.old) (S.leaves source.new) (λ ys _. (s : AStimulus) → SpellsStimulus ys s → IsLoaded result s) }
     ensures failed { IsErrOf result Device → S.failed source.new ≡ S.failed source.old + 1 }
     ensures kept { (IsErrOf result Device → ⊥) → S.failed source.new ≡ S.failed source.old }
 {

@@ -1,10 +1,9 @@
 -- Texts are cut into pieces by their bytes alone.
-use Rattle.std.proofs.Common.{◌≡◌, ℕ, ◌+◌, ◌-◌, ◌<◌, ◌≤◌, true, false, List, [], ◌∷◌, ◌++◌, length, take, drop, get_or, Option, Some, None, refl, sym, ap, subst, ◌∙◌, append_assoc, arith, inl, inr}
+use Rattle.std.proofs.Common.{◌≡◌, ℕ, ◌+◌, ◌-◌, ◌<◌, ◌≤◌, true, false, List, [], ◌∷◌, ◌++◌, length, take, drop, get_or, refl, sym, ap, subst, ◌∙◌, append_assoc, arith, inl, inr}
 use Rattle.std.proofs.Math.Seq.{drop-length, drop-append_seam}
 use Rattle.std.proofs.lemmas.Bool.{cases_Bool}
 use Rattle.std.proofs.lemmas.Bool.Decides.{nat_tests}
 use Rattle.std.proofs.lemmas.List.{append-nil, take_more, take_all, take-append-drop, get_or-drop, length-append, length-drop}
-use Rattle.std.specs.Io.KnownBytes.{Consumes, IsAtEnd}
 use Rattle.memchr.specs.Find.{is_byte, Passes}
 use Rattle.pieces.specs.Pieces.{is_inner, piece_at, GoesOn, HoldsPiece, IsReady, Lies}
 
@@ -111,18 +110,15 @@ holds_first later zs n holds =
     ap (λ (w : List ℕ). piece_at (w ++ zs)) (sym (take-append-drop n later)) ∙ ap piece_at (append_assoc (take n later) (drop n later) zs) ∙ holds (drop n later ++ zs)
 
 -- nothing was taken
-pub lies_here : (held : List ℕ) (a : Option (List ℕ)) (n : ℕ) → HoldsPiece (take n held) → Lies held a held a n
-lies_here held None n holds = tt
-lies_here held (Some ys) n holds = (refl, holds_first held ys n holds)
+pub lies_here : (held ys : List ℕ) (n : ℕ) → HoldsPiece (take n held) → Lies held ys held ys n
+lies_here held ys n holds = (refl, holds_first held ys n holds)
 
 -- what was taken behind what was held
-whole_held : (old held taken x y : List ℕ) → x ≡ taken ++ y → held ≡ old ++ taken → old ++ x ≡ held ++ y
-whole_held old held taken x y e is = ap (λ (w : List ℕ). old ++ w) e ∙ sym (append_assoc old taken y) ∙ ap (λ (w : List ℕ). w ++ y) (sym is)
+whole_held : (old held taken y : List ℕ) → held ≡ old ++ taken → old ++ (taken ++ y) ≡ held ++ y
+whole_held old held taken y is = sym (append_assoc old taken y) ∙ ap (λ (w : List ℕ). w ++ y) (sym is)
 
-pub lies_at : (old held taken : List ℕ) (a b : Option (List ℕ)) (n : ℕ) → Consumes a b taken → held ≡ old ++ taken → HoldsPiece (take n held) → Lies old a held b n
-lies_at old held taken None b n e is holds = tt
-lies_at old held taken (Some x) None n e is holds = absurd e
-lies_at old held taken (Some x) (Some y) n e is holds = (whole_held old held taken x y e is, holds_first held y n holds)
+pub lies_at : (old held taken y : List ℕ) (n : ℕ) → held ≡ old ++ taken → HoldsPiece (take n held) → Lies old (taken ++ y) held y n
+lies_at old held taken y n is holds = (whole_held old held taken y is, holds_first held y n holds)
 
 -- all that is left is one piece
 all_goes : (held zs : List ℕ) → zs ≡ [] → GoesOn held → piece_at (held ++ zs) ≡ ((piece_at (take (length held) held)).0, (piece_at (take (length held) held)).1 ++ (drop (length held) held ++ zs))
@@ -131,7 +127,5 @@ all_goes held zs none goes =
     let whole : piece_at held ≡ (held, []) = ap piece_at (sym (append-nil held)) ∙ goes [] ∙ ap (λ (w : List ℕ). (w, [])) (append-nil held) in
     rw (none, take_all (length held) held (omega arith), drop-length held, append-nil held, whole) refl
 
-pub lies_end : (old held taken : List ℕ) (a b : Option (List ℕ)) → Consumes a b taken → held ≡ old ++ taken → IsAtEnd b → GoesOn held → Lies old a held b (length held)
-lies_end old held taken None b e is end goes = tt
-lies_end old held taken (Some x) None e is end goes = absurd e
-lies_end old held taken (Some x) (Some y) e is end goes = (whole_held old held taken x y e is, all_goes held y end goes)
+pub lies_end : (old held taken y : List ℕ) → held ≡ old ++ taken → y ≡ [] → GoesOn held → Lies old (taken ++ y) held y (length held)
+lies_end old held taken y is end goes = (whole_held old held taken y is, all_goes held y end goes)

@@ -1,5 +1,5 @@
 -- The pieces that a text is read in.
-use Rattle.std.specs.Prelude.{◌≡◌, ℕ, ◌-◌, ◌<◌, ◌≤◌, Bool, false, ◌||◌, List, [], ◌∷◌, ◌++◌, length, take, drop, get_or, Option, Some, None, ◌==◌, if◌then◌else◌}
+use Rattle.std.specs.Prelude.{◌≡◌, ℕ, ◌-◌, ◌<◌, ◌≤◌, Bool, false, ◌||◌, List, [], ◌∷◌, ◌++◌, length, take, drop, get_or, ◌==◌, if◌then◌else◌}
 use Rattle.std.specs.Char.{is_ascii_digit, is_ascii_lowercase}
 
 -- a byte that may stand in a line before its end: a digit, a space, a minus, a dot, a lower-case letter
@@ -24,9 +24,7 @@ pub record IsReady (bytes : List ℕ) (n : ℕ) : Type 0 where
   pub within : n ≤ length bytes
   pub ends : 0 < n → is_inner (get_or bytes (n - 1) 0) ≡ false
 
--- bytes that are held, and behind them those that a source still gives, where these are known: the bytes to come are what they
--- were, and of them the next piece ends within the first n that are held now
-abbrev pub Lies : List ℕ → Option (List ℕ) → List ℕ → Option (List ℕ) → ℕ → Type 0
-Lies held None later after n = Unit {0}
-Lies held (Some ys) later None n = ⊥
-Lies held (Some ys) later (Some zs) n = (held ++ ys ≡ later ++ zs) × (piece_at (later ++ zs) ≡ ((piece_at (take n later)).0, (piece_at (take n later)).1 ++ (drop n later ++ zs)))
+-- bytes that are held, and behind them those that a source still gives: the bytes to come are what they were, and of them the
+-- next piece ends within the first n that are held now
+abbrev pub Lies : List ℕ → List ℕ → List ℕ → List ℕ → ℕ → Type 0
+Lies held ys later zs n = (held ++ ys ≡ later ++ zs) × (piece_at (later ++ zs) ≡ ((piece_at (take n later)).0, (piece_at (take n later)).1 ++ (drop n later ++ zs)))

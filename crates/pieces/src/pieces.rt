@@ -1,6 +1,7 @@
 //! The pieces of a text that comes from a source.
 
-ghost use Rattle.std.specs.Prelude.{◌≡◌, ◌+◌, ◌-◌, ◌^◌, ◌<◌, ◌≤◌, [], ◌↔◌, IfOk, IfNone, IfSome, IsErrOf, length, take, drop};
+ghost use Rattle.std.specs.Prelude.{◌≡◌, ◌+◌, ◌-◌, ◌^◌, ◌<◌, ◌≤◌, [], ◌↔◌, IfOk, IfSome, MatchOption, IsErrOf, length, take, drop};
+ghost use Rattle.base.specs.Devices.{Reads};
 ghost use Rattle.pieces.specs.Pieces.{GoesOn, IsReady, Lies};
 ghost use Rattle.pieces.specs.declared.pieces.PieceError.TheVariants.{Device};
 
@@ -32,8 +33,7 @@ fn gather<S: Source>(
     requires source { S.failed from.old < 2 ^ 64 - 1 }
     requires begun { GoesOn held.old.items }
     ensures ready { IfOk result (λ end. IfSome end (λ n. IsReady held.new.items n)) }
-    ensures ends { IfOk result (λ end. IfSome end (λ n. Lies held.old.items (S.remaining from.old) held.new.items (S.remaining from.new) n)) }
-    ensures none { IfOk result (λ end. IfNone end (Lies held.old.items (S.remaining from.old) held.new.items (S.remaining from.new) (length held.new.items))) }
+    ensures reads { Reads (S.leaves from.old) (S.leaves from.new) (λ ys zs. IfOk result (λ end. MatchOption end (Lies held.old.items ys held.new.items zs (length held.new.items)) (λ n. Lies held.old.items ys held.new.items zs n))) }
     ensures moves { IfOk result (λ _. length held.new.items + S.most from.new ≡ length held.old.items + S.most from.old) }
     ensures device { IsErrOf result Device ↔ (S.failed from.new ≡ S.failed from.old + 1) }
     ensures others { (IsErrOf result Device → ⊥) → S.failed from.new ≡ S.failed from.old }
@@ -111,7 +111,7 @@ impl Pieces {
     #[inline]
     pub fn next<S: Source>(&mut self, from: &mut S) -> Result<usize, PieceError>
         requires source { S.failed from.old < 2 ^ 64 - 1 }
-        ensures lies { IfOk result (λ n. Lies self.old (S.remaining from.old) self.new (S.remaining from.new) n) }
+        ensures reads { Reads (S.leaves from.old) (S.leaves from.new) (λ ys zs. IfOk result (λ n. Lies self.old ys self.new zs n)) }
         ensures within { IfOk result (λ n. n ≤ length self.new) }
         ensures moves { IfOk result (λ n. length self.new + S.most from.new ≡ length self.old + S.most from.old) }
         ensures device { IsErrOf result Device ↔ (S.failed from.new ≡ S.failed from.old + 1) }
@@ -127,7 +127,7 @@ impl Pieces {
     #[inline(never)]
     fn more<S: Source>(&mut self, from: &mut S) -> Result<usize, PieceError>
         requires source { S.failed from.old < 2 ^ 64 - 1 }
-        ensures lies { IfOk result (λ n. Lies self.old (S.remaining from.old) self.new (S.remaining from.new) n) }
+        ensures reads { Reads (S.leaves from.old) (S.leaves from.new) (λ ys zs. IfOk result (λ n. Lies self.old ys self.new zs n)) }
         ensures within { IfOk result (λ n. n ≤ length self.new) }
         ensures moves { IfOk result (λ n. length self.new + S.most from.new ≡ length self.old + S.most from.old) }
         ensures device { IsErrOf result Device ↔ (S.failed from.new ≡ S.failed from.old + 1) }

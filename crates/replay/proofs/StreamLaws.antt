@@ -20,14 +20,10 @@ use Rattle.replay.specs.Lines.{IsOfLine}
 use Rattle.stimulus.specs.Reading.{line_at}
 use Rattle.replay.specs.Reading.{end_at, line_where}
 use Rattle.stimulus.specs.Refusals.{error_of}
-use Rattle.replay.specs.Streams.{AreLeft, Finds, FindsWith, ForText, StillReads}
+use Rattle.replay.specs.Streams.{Finds, FindsWith, ForText, StillReads}
 use Rattle.replay.proofs.LineLaws.{input_of_line, piece_whole}
 
 -- ---- one line
-
--- what is read is x, and what follows it is left
-abbrev pub Moves : {A : Type 0} → Read A → A → List ℕ → Option (List ℕ) → Type 0
-Moves read x held source = (rest : List ℕ) × (read ≡ Some (x, rest)) × AreLeft held source rest
 
 drop_front : (a b : List ℕ) → drop (length a) (a ++ b) ≡ b
 drop_front [] b = refl
@@ -47,12 +43,9 @@ front_moves p law later zs rest n k x within count e =
     let left : rest ++ (drop n later ++ zs) ≡ drop k later ++ zs = sym (append_assoc rest (drop n later) zs) ∙ ap (λ (w : List ℕ). w ++ zs) (sym (behind_front later front rest n k whole long)) in
     ap p split ∙ law.goes (take n later) rest (drop n later ++ zs) x e ∙ ap (λ (w : List ℕ). Some (x, w)) left
 
--- the first bytes begin with the line, in which the next piece ends
-pub moves_from : {A : Type 0} (p : List ℕ → Read A) → IsOfLine p → (held later ys rest : List ℕ) (a b : Option (List ℕ)) (n k : ℕ) (x : A) → a ≡ Some ys → Lies held a later b n → n ≤ length later → k ≡ n - length rest → p (take n later) ≡ Some (x, rest) → Moves (p (held ++ ys)) x (drop k later) b
-moves_from p law held later ys rest None b n k x known lies within count e = absurd (none-some ys known)
-moves_from p law held later ys rest (Some xs) None n k x known lies within count e = absurd lies
-moves_from p law held later ys rest (Some xs) (Some zs) n k x known lies within count e =
-    (drop k later ++ zs, ap (λ (w : List ℕ). p (held ++ w)) (sym (same_Some xs ys known)) ∙ ap p lies.0 ∙ front_moves p law later zs rest n k x within count e, (zs, refl, refl))
+-- the first bytes begin with the line, in which the next piece ends, and it is skipped
+pub moves_from : {A : Type 0} (p : List ℕ → Read A) → IsOfLine p → (held later after ys zs rest : List ℕ) (n k : ℕ) (x : A) → Lies held ys later zs n → n ≤ length later → k ≡ n - length rest → after ≡ drop k later → p (take n later) ≡ Some (x, rest) → Finds (p (held ++ ys)) (Ok x) after zs
+moves_from p law held later after ys zs rest n k x lies within count skips e = ap p lies.0 ∙ front_moves p law later zs rest n k x within count e ∙ ap (λ (w : List ℕ). Some (x, w ++ zs)) (sym skips)
 
 no_line : {A : Type 0} (p : List ℕ → Read A) → IsOfLine p → (bytes front more : List ℕ) → piece_at bytes ≡ ((piece_at front).0, (piece_at front).1 ++ more) → p front ≡ None → (o : Read A) → p bytes ≡ o → o ≡ None
 no_line p law bytes front more piece none None e = refl
@@ -62,11 +55,8 @@ no_line {A} p law bytes front more piece none (Some (x, rest)) e =
     absurd (none-some (x, [] ++ (piece_at front).1) (sym none ∙ there))
 
 -- no line is read of the first bytes
-pub stuck_from : {A : Type 0} (p : List ℕ → Read A) → IsOfLine p → (held later ys : List ℕ) (a b : Option (List ℕ)) (n : ℕ) → a ≡ Some ys → Lies held a later b n → p (take n later) ≡ None → p (held ++ ys) ≡ None
-stuck_from p law held later ys None b n known lies none = absurd (none-some ys known)
-stuck_from p law held later ys (Some xs) None n known lies none = absurd lies
-stuck_from p law held later ys (Some xs) (Some zs) n known lies none =
-    ap (λ (w : List ℕ). p (held ++ w)) (sym (same_Some xs ys known)) ∙ ap p lies.0 ∙ no_line p law (later ++ zs) (take n later) (drop n later ++ zs) lies.1 none (p (later ++ zs)) refl
+pub stuck_from : {A : Type 0} (p : List ℕ → Read A) → IsOfLine p → (held later ys zs : List ℕ) (n : ℕ) → Lies held ys later zs n → p (take n later) ≡ None → p (held ++ ys) ≡ None
+stuck_from p law held later ys zs n lies none = ap p lies.0 ∙ no_line p law (later ++ zs) (take n later) (drop n later ++ zs) lies.1 none (p (later ++ zs)) refl
 
 -- a line takes some of the first bytes
 pub some_taken : {A : Type 0} (p : List ℕ → Read A) → IsOfLine p → (later rest : List ℕ) (n : ℕ) (x : A) → n ≤ length later → p (take n later) ≡ Some (x, rest) → length rest < n
@@ -113,16 +103,14 @@ none_held : (later zs : List ℕ) (n : ℕ) → n ≡ 0 → piece_at (later ++ z
 none_held later zs n is piece =
     piece_nil (later ++ zs) (ap (λ (w : List ℕ × List ℕ). w.0) piece ∙ ap (λ k. (piece_at (take k later)).0) is ∙ nil_piece)
 
-end_of : (bytes rest later : List ℕ) (b : Option (List ℕ)) → bytes ≡ [] → rest ≡ [] → AreLeft later b rest → Finds (end_at bytes) (Ok (tt {0})) later b
+end_of : (bytes rest : List ℕ) → bytes ≡ [] → rest ≡ [] → end_at bytes ≡ Some (tt {0}, rest)
 unfolding end_at
-end_of bytes rest later b none ends left = ([], rw none refl, subst (AreLeft later b) ends left)
+end_of bytes rest none ends = rw (none, ends) refl
 
-pub end_found : (held later ys : List ℕ) (a b : Option (List ℕ)) (n : ℕ) → a ≡ Some ys → n ≡ 0 → Lies held a later b n → Finds (end_at (held ++ ys)) (Ok (tt {0})) later b
-end_found held later ys None b n known is lies = absurd (none-some ys known)
-end_found held later ys (Some xs) None n known is lies = absurd lies
-end_found held later ys (Some xs) (Some zs) n known is lies =
+pub end_found : (held later ys zs : List ℕ) (n : ℕ) → n ≡ 0 → Lies held ys later zs n → Finds (end_at (held ++ ys)) (Ok (tt {0})) later zs
+end_found held later ys zs n is lies =
     let none : later ++ zs ≡ [] = none_held later zs n is lies.1 in
-    end_of (held ++ ys) (later ++ zs) later (Some zs) (ap (λ (w : List ℕ). held ++ w) (sym (same_Some xs ys known)) ∙ lies.0 ∙ none) none (zs, refl, refl)
+    end_of (held ++ ys) (later ++ zs) (lies.0 ∙ none) none
 
 -- the text goes on
 no_end : (bytes : List ℕ) → (bytes ≡ [] → ⊥) → end_at bytes ≡ None
@@ -130,12 +118,10 @@ unfolding end_at
 no_end [] some = absurd (some refl)
 no_end (c ∷ cs) some = refl
 
-pub end_missed : (held later ys : List ℕ) (a b : Option (List ℕ)) (n : ℕ) → a ≡ Some ys → Lies held a later b n → n ≤ length later → 0 < n → end_at (held ++ ys) ≡ None
-end_missed held later ys None b n known lies within some = absurd (none-some ys known)
-end_missed held later ys (Some xs) None n known lies within some = absurd lies
-end_missed held later ys (Some xs) (Some zs) n known lies within some =
+pub end_missed : (held later ys zs : List ℕ) (n : ℕ) → Lies held ys later zs n → n ≤ length later → 0 < n → end_at (held ++ ys) ≡ None
+end_missed held later ys zs n lies within some =
     no_end (held ++ ys) (λ none.
-    let nothing : later ++ zs ≡ [] = sym lies.0 ∙ ap (λ (w : List ℕ). held ++ w) (same_Some xs ys known) ∙ none in
+    let nothing : later ++ zs ≡ [] = sym lies.0 ∙ none in
     omega (arith, within, some, ap length nothing, length-append later zs))
 
 pub at_end : (bytes rest : List ℕ) (u : Unit {0}) → end_at bytes ≡ Some (u, rest) → bytes ≡ []
@@ -148,56 +134,61 @@ unfolding end_at
 not_at_end [] e none = none-some (tt {0}, []) (sym e)
 not_at_end (c ∷ cs) e none = absurd cc
 
+-- nothing is still to come
+pub none_later : (bytes held later : List ℕ) (u : Unit {0}) → Finds (end_at bytes) (Ok u) held later → later ≡ []
+unfolding end_at
+none_later [] [] later u e = sym (ap (λ (w : Unit {0} × List ℕ). w.1) (same_Some (tt {0}, []) (u, later) e))
+none_later [] (c ∷ held) later u e = let rest = ap (λ (w : Unit {0} × List ℕ). w.1) (same_Some (tt {0}, []) (u, c ∷ (held ++ later)) e) in absurd cc
+none_later (c ∷ cs) held later u e = absurd (none-some (u, held ++ later) e)
+
 -- ---- one part after another
 
-pub err_finds : {A X : Type 0} (P : A → X → Type 0) (read : Read A) (r : Result X TextError) (e : TextError) (held : List ℕ) (source : Option (List ℕ)) → IsErrAnd r (λ x. x ≡ e) → ForText e (read ≡ None) → FindsWith P read r held source
-err_finds P read (Ok x) e held source is f = absurd is
-err_finds P read (Err x) e held source is f = subst (λ y. ForText y (read ≡ None)) (sym is) f
+pub err_finds : {A X : Type 0} (P : A → X → Type 0) (read : Read A) (r : Result X TextError) (e : TextError) (held later : List ℕ) → IsErrAnd r (λ x. x ≡ e) → ForText e (read ≡ None) → FindsWith P read r held later
+err_finds P read (Ok x) e held later is f = absurd is
+err_finds P read (Err x) e held later is f = subst (λ y. ForText y (read ≡ None)) (sym is) f
 
-pub err_read : {A : Type 0} (read : Read A) (r : Result A TextError) (e : TextError) (held : List ℕ) (source : Option (List ℕ)) → IsErrAnd r (λ x. x ≡ e) → ForText e (read ≡ None) → Finds read r held source
-err_read read (Ok x) e held source is f = absurd is
-err_read read (Err x) e held source is f = subst (λ y. ForText y (read ≡ None)) (sym is) f
+pub err_read : {A : Type 0} (read : Read A) (r : Result A TextError) (e : TextError) (held later : List ℕ) → IsErrAnd r (λ x. x ≡ e) → ForText e (read ≡ None) → Finds read r held later
+err_read read (Ok x) e held later is f = absurd is
+err_read read (Err x) e held later is f = subst (λ y. ForText y (read ≡ None)) (sym is) f
 
 pub match_err : {X : Type 0} (P : X → Type 0) (Q : TextError → Type 0) (r : Result X TextError) (e : TextError) → IsErrAnd r (λ x. x ≡ e) → Q e → MatchResult r P Q
 match_err P Q (Ok x) e is q = absurd is
 match_err P Q (Err x) e is q = subst Q (sym is) q
 
 -- for want of memory
-pub memory_read : {A : Type 0} (read : Read A) (r : Result A TextError) (held : List ℕ) (source : Option (List ℕ)) → IsErrAnd r (λ x. x ≡ Refused (text.OutOfMemory witness)) → Finds read r held source
-memory_read read r held source is = err_read read r (Refused (text.OutOfMemory witness)) held source is tt
+pub memory_read : {A : Type 0} (read : Read A) (r : Result A TextError) (held later : List ℕ) → IsErrAnd r (λ x. x ≡ Refused (text.OutOfMemory witness)) → Finds read r held later
+memory_read read r held later is = err_read read r (Refused (text.OutOfMemory witness)) held later is tt
 
-pub memory_finds : {A X : Type 0} (P : A → X → Type 0) (read : Read A) (r : Result X TextError) (held : List ℕ) (source : Option (List ℕ)) → IsErrAnd r (λ x. x ≡ Refused (text.OutOfMemory witness)) → FindsWith P read r held source
-memory_finds P read r held source is = err_finds P read r (Refused (text.OutOfMemory witness)) held source is tt
+pub memory_finds : {A X : Type 0} (P : A → X → Type 0) (read : Read A) (r : Result X TextError) (held later : List ℕ) → IsErrAnd r (λ x. x ≡ Refused (text.OutOfMemory witness)) → FindsWith P read r held later
+memory_finds P read r held later is = err_finds P read r (Refused (text.OutOfMemory witness)) held later is tt
 
 -- the first part is refused
 pub then_none : {A B : Type 0} (read : Read A) (q : A → List ℕ → Read B) (e : TextError) → ForText e (read ≡ None) → ForText e ((read >>= λ r. q r.0 r.1) ≡ None)
 then_none read q e f = for_text_map e (read ≡ None) ((read >>= λ r. q r.0 r.1) ≡ None) (λ none. ap (λ o. o >>= λ r. q r.0 r.1) none) f
 
 -- the first part was read, and the second part decides
-pub then_finds : {A B X : Type 0} (P : B → X → Type 0) (read : Read A) (q : A → List ℕ → Read B) (x : A) (held later : List ℕ) (source last : Option (List ℕ)) (r : Result X TextError)
-    → Finds read (Ok x) held source → ((zs : List ℕ) → source ≡ Some zs → FindsWith P (q x (held ++ zs)) r later last) → FindsWith P (read >>= λ r. q r.0 r.1) r later last
-then_finds P read q x held later source last (Ok y) (rest, is, (zs, known, left)) next =
-    let (b, after, second, p, end) = next zs known in
-    (b, after, ap (λ o. o >>= λ r. q r.0 r.1) is ∙ ap (q x) left ∙ second, p, end)
-then_finds P read q x held later source last (Err e) (rest, is, (zs, known, left)) next =
-    for_text_map e (q x (held ++ zs) ≡ None) ((read >>= λ r. q r.0 r.1) ≡ None) (λ none. ap (λ o. o >>= λ r. q r.0 r.1) is ∙ ap (q x) left ∙ none) (next zs known)
+pub then_finds : {A B X : Type 0} (P : B → X → Type 0) (read : Read A) (q : A → List ℕ → Read B) (x : A) (held later zs ws : List ℕ) (r : Result X TextError)
+    → Finds read (Ok x) held zs → FindsWith P (q x (held ++ zs)) r later ws → FindsWith P (read >>= λ r. q r.0 r.1) r later ws
+then_finds P read q x held later zs ws (Ok y) is (b, second, p) = (b, ap (λ o. o >>= λ r. q r.0 r.1) is ∙ second, p)
+then_finds P read q x held later zs ws (Err e) is next =
+    for_text_map e (q x (held ++ zs) ≡ None) ((read >>= λ r. q r.0 r.1) ≡ None) (λ none. ap (λ o. o >>= λ r. q r.0 r.1) is ∙ none) next
 
 -- what is found is more
-pub finds_more : {A X : Type 0} (P Q : A → X → Type 0) (read : Read A) (r : Result X TextError) (held : List ℕ) (source : Option (List ℕ)) → ((a : A) (x : X) → P a x → Q a x) → FindsWith P read r held source → FindsWith Q read r held source
-finds_more P Q read (Ok x) held source h (a, rest, is, p, left) = (a, rest, is, h a x p, left)
-finds_more P Q read (Err e) held source h none = none
+pub finds_more : {A X : Type 0} (P Q : A → X → Type 0) (read : Read A) (r : Result X TextError) (held later : List ℕ) → ((a : A) (x : X) → P a x → Q a x) → FindsWith P read r held later → FindsWith Q read r held later
+finds_more P Q read (Ok x) held later h (a, is, p) = (a, is, h a x p)
+finds_more P Q read (Err e) held later h none = none
 
 -- what is found is reported of another value
-pub finds_if : {A X Y : Type 0} (P : A → X → Type 0) (Q : A → Y → Type 0) (f : X → Y) (read : Read A) (x : X) (held : List ℕ) (source : Option (List ℕ)) → ((a : A) → P a x → Q a (f x)) → FindsWith P read (Ok x) held source → FindsWith Q read (Ok (f x)) held source
-finds_if P Q f read x held source h (a, rest, is, p, left) = (a, rest, is, h a p, left)
+pub finds_if : {A X Y : Type 0} (P : A → X → Type 0) (Q : A → Y → Type 0) (f : X → Y) (read : Read A) (x : X) (held later : List ℕ) → ((a : A) → P a x → Q a (f x)) → FindsWith P read (Ok x) held later → FindsWith Q read (Ok (f x)) held later
+finds_if P Q f read x held later h (a, is, p) = (a, is, h a p)
 
 -- what is found is made into another value
 abbrev pub mapped : {A B : Type 0} → (A → B) → Read A → Read B
 mapped f read = read >>= λ a. Some (f a.0, a.1)
 
-pub finds_made : {A B X : Type 0} (P : A → X → Type 0) (Q : B → X → Type 0) (f : A → B) (read : Read A) (r : Result X TextError) (held : List ℕ) (source : Option (List ℕ)) → ((a : A) (x : X) → P a x → Q (f a) x) → FindsWith P read r held source → FindsWith Q (mapped f read) r held source
-finds_made P Q f read (Ok x) held source h (a, rest, is, p, left) = (f a, rest, ap (mapped f) is, h a x p, left)
-finds_made P Q f read (Err e) held source h none = for_text_map e (read ≡ None) (mapped f read ≡ None) (λ n. ap (mapped f) n) none
+pub finds_made : {A B X : Type 0} (P : A → X → Type 0) (Q : B → X → Type 0) (f : A → B) (read : Read A) (r : Result X TextError) (held later : List ℕ) → ((a : A) (x : X) → P a x → Q (f a) x) → FindsWith P read r held later → FindsWith Q (mapped f read) r held later
+finds_made P Q f read (Ok x) held later h (a, is, p) = (f a, ap (mapped f) is, h a x p)
+finds_made P Q f read (Err e) held later h none = for_text_map e (read ≡ None) (mapped f read ≡ None) (λ n. ap (mapped f) n) none
 
 -- ---- values up to an end
 
@@ -232,52 +223,46 @@ same_read None = refl
 same_read (Some (xs, rest)) = refl
 
 -- nothing was read of a list yet
-pub items_begin : {A : Type 0} (one : List ℕ → Read (Option A)) (held ys : List ℕ) (source : Option (List ℕ)) → source ≡ Some ys → StillReads (items_at one (held ++ ys)) [] (items_at one) held source
-items_begin one held ys source known = (ys, known, same_read (items_at one (held ++ ys)))
+pub items_begin : {A : Type 0} (one : List ℕ → Read (Option A)) (held ys : List ℕ) → StillReads (items_at one (held ++ ys)) [] (items_at one) held ys
+items_begin one held ys = same_read (items_at one (held ++ ys))
 
 -- a value was read
-pub items_go : {A : Type 0} (one : List ℕ → Read (Option A)) → IsOfLine one → (read : Read (List A)) (front : List A) (x : A) (held later : List ℕ) (source last : Option (List ℕ)) → StillReads read front (items_at one) held source
-    → ((zs : List ℕ) → source ≡ Some zs → Finds (one (held ++ zs)) (Ok (Some x)) later last) → StillReads read (front ++ x ∷ []) (items_at one) later last
-items_go one law read front x held later source last (zs, known, so_far) next =
-    let (rest, is, (us, left, whole)) = next zs known in
-    let here : one (held ++ zs) ≡ Some (Some x, later ++ us) = is ∙ ap (λ (w : List ℕ). Some (Some x, w)) whole in
-    (us, left, sym (regroup front x (items_at one (later ++ us))) ∙ sym (ap (λ o. with_front front (o >>= λ v. value_then v.0 v.1 (items_at one v.1))) here) ∙ sym (ap (with_front front) (items_step one law (held ++ zs))) ∙ so_far)
+pub items_go : {A : Type 0} (one : List ℕ → Read (Option A)) → IsOfLine one → (read : Read (List A)) (front : List A) (x : A) (held later zs ws : List ℕ)
+    → StillReads read front (items_at one) held zs → Finds (one (held ++ zs)) (Ok (Some x)) later ws → StillReads read (front ++ x ∷ []) (items_at one) later ws
+items_go one law read front x held later zs ws so_far is =
+    sym (regroup front x (items_at one (later ++ ws))) ∙ sym (ap (λ o. with_front front (o >>= λ v. value_then v.0 v.1 (items_at one v.1))) is) ∙ sym (ap (with_front front) (items_step one law (held ++ zs))) ∙ so_far
 
 -- the end was read
-pub items_end : {A : Type 0} (one : List ℕ → Read (Option A)) → IsOfLine one → (read : Read (List A)) (front : List A) (held later : List ℕ) (source last : Option (List ℕ)) → StillReads read front (items_at one) held source
-    → ((zs : List ℕ) → source ≡ Some zs → Finds (one (held ++ zs)) (Ok None) later last) → Finds read (Ok front) later last
-items_end one law read front held later source last (zs, known, so_far) next =
-    let (rest, is, left) = next zs known in
-    (rest, sym so_far ∙ ap (with_front front) (items_step one law (held ++ zs)) ∙ ap (λ o. with_front front (o >>= λ v. value_then v.0 v.1 (items_at one v.1))) is ∙ ap (λ w. Some (w, rest)) (append-nil front), left)
+pub items_end : {A : Type 0} (one : List ℕ → Read (Option A)) → IsOfLine one → (read : Read (List A)) (front : List A) (held later zs ws : List ℕ)
+    → StillReads read front (items_at one) held zs → Finds (one (held ++ zs)) (Ok None) later ws → Finds read (Ok front) later ws
+items_end one law read front held later zs ws so_far is =
+    sym so_far ∙ ap (with_front front) (items_step one law (held ++ zs)) ∙ ap (λ o. with_front front (o >>= λ v. value_then v.0 v.1 (items_at one v.1))) is ∙ ap (λ w. Some (w, later ++ ws)) (append-nil front)
 
-pub items_refused : {A : Type 0} (one : List ℕ → Read (Option A)) → IsOfLine one → (read : Read (List A)) (front : List A) (e : TextError) (held : List ℕ) (source : Option (List ℕ)) → StillReads read front (items_at one) held source
-    → ((zs : List ℕ) → source ≡ Some zs → ForText e (one (held ++ zs) ≡ None)) → ForText e (read ≡ None)
-items_refused one law read front e held source (zs, known, so_far) next =
+pub items_refused : {A : Type 0} (one : List ℕ → Read (Option A)) → IsOfLine one → (read : Read (List A)) (front : List A) (e : TextError) (held zs : List ℕ)
+    → StillReads read front (items_at one) held zs → ForText e (one (held ++ zs) ≡ None) → ForText e (read ≡ None)
+items_refused one law read front e held zs so_far next =
     for_text_map e (one (held ++ zs) ≡ None) (read ≡ None)
     (λ none. sym so_far ∙ ap (with_front front) (items_step one law (held ++ zs)) ∙ ap (λ o. with_front front (o >>= λ v. value_then v.0 v.1 (items_at one v.1))) none)
-    (next zs known)
+    next
 
 -- the others were read at once
-pub others_found : {A X : Type 0} (P Q : List A → X → Type 0) (read : Read (List A)) (front : List A) (f : List ℕ → Read (List A)) (held later : List ℕ) (source last : Option (List ℕ)) (r : Result X TextError)
-    → StillReads read front f held source → ((zs : List ℕ) → source ≡ Some zs → FindsWith P (f (held ++ zs)) r later last) → ((more : List A) (x : X) → P more x → Q (front ++ more) x) → FindsWith Q read r later last
-others_found P Q read front f held later source last (Ok x) (zs, known, so_far) next h =
-    let (more, rest, is, p, left) = next zs known in
-    (front ++ more, rest, sym so_far ∙ ap (with_front front) is, h more x p, left)
-others_found P Q read front f held later source last (Err e) (zs, known, so_far) next h =
-    for_text_map e (f (held ++ zs) ≡ None) (read ≡ None) (λ none. sym so_far ∙ ap (with_front front) none) (next zs known)
+pub others_found : {A X : Type 0} (P Q : List A → X → Type 0) (read : Read (List A)) (front : List A) (f : List ℕ → Read (List A)) (held later zs ws : List ℕ) (r : Result X TextError)
+    → StillReads read front f held zs → FindsWith P (f (held ++ zs)) r later ws → ((more : List A) (x : X) → P more x → Q (front ++ more) x) → FindsWith Q read r later ws
+others_found P Q read front f held later zs ws (Ok x) so_far (more, is, p) h = (front ++ more, sym so_far ∙ ap (with_front front) is, h more x p)
+others_found P Q read front f held later zs ws (Err e) so_far next h =
+    for_text_map e (f (held ++ zs) ≡ None) (read ≡ None) (λ none. sym so_far ∙ ap (with_front front) none) next
 
 -- ---- input lines
 
-pub line_goes : (read : Read (List (List Bool))) (front : List (List Bool)) (line : List Bool) (there : Bool) (held later : List ℕ) (source last : Option (List ℕ)) → there ≡ true → StillReads read front (items_at line_at) held source
-    → ((zs : List ℕ) → source ≡ Some zs → Finds (line_at (held ++ zs)) (Ok (line_where there line)) later last) → StillReads read (front ++ line ∷ []) (items_at line_at) later last
-line_goes read front line there held later source last is still next =
-    items_go line_at input_of_line read front line held later source last still (λ zs known. subst (λ b. Finds (line_at (held ++ zs)) (Ok (line_where b line)) later last) is (next zs known))
+pub line_goes : (read : Read (List (List Bool))) (front : List (List Bool)) (line : List Bool) (there : Bool) (held later zs ws : List ℕ) → there ≡ true
+    → StillReads read front (items_at line_at) held zs → Finds (line_at (held ++ zs)) (Ok (line_where there line)) later ws → StillReads read (front ++ line ∷ []) (items_at line_at) later ws
+line_goes read front line there held later zs ws is still next =
+    items_go line_at input_of_line read front line held later zs ws still (subst (λ b. Finds (line_at (held ++ zs)) (Ok (line_where b line)) later ws) is next)
 
-pub line_ends : (read : Read (List (List Bool))) (front : List (List Bool)) (line : List Bool) (there : Bool) (held later : List ℕ) (source last : Option (List ℕ)) → there ≡ false → StillReads read front (items_at line_at) held source
-    → ((zs : List ℕ) → source ≡ Some zs → Finds (line_at (held ++ zs)) (Ok (line_where there line)) later last) → Finds read (Ok front) later last
-line_ends read front line there held later source last is still next =
-    items_end line_at input_of_line read front held later source last still (λ zs known. subst (λ b. Finds (line_at (held ++ zs)) (Ok (line_where b line)) later last) is (next zs known))
+pub line_ends : (read : Read (List (List Bool))) (front : List (List Bool)) (line : List Bool) (there : Bool) (held later zs ws : List ℕ) → there ≡ false
+    → StillReads read front (items_at line_at) held zs → Finds (line_at (held ++ zs)) (Ok (line_where there line)) later ws → Finds read (Ok front) later ws
+line_ends read front line there held later zs ws is still next =
+    items_end line_at input_of_line read front held later zs ws still (subst (λ b. Finds (line_at (held ++ zs)) (Ok (line_where b line)) later ws) is next)
 
-pub line_refused : (read : Read (List (List Bool))) (front : List (List Bool)) (e : TextError) (held : List ℕ) (source : Option (List ℕ)) → StillReads read front (items_at line_at) held source
-    → ((zs : List ℕ) → source ≡ Some zs → ForText e (line_at (held ++ zs) ≡ None)) → ForText e (read ≡ None)
-line_refused read front e held source still next = items_refused line_at input_of_line read front e held source still next
+pub line_refused : (read : Read (List (List Bool))) (front : List (List Bool)) (e : TextError) (held zs : List ℕ) → StillReads read front (items_at line_at) held zs → ForText e (line_at (held ++ zs) ≡ None) → ForText e (read ≡ None)
+line_refused read front e held zs still next = items_refused line_at input_of_line read front e held zs still next

@@ -35,18 +35,18 @@ run_is p bytes = refl
 pub run_stops : (p : AProperty) (bytes : List ℕ) (e : TextError) → ForText e (items_at value_at bytes ≡ None) → ForText e (run_at p bytes ≡ None)
 run_stops p bytes e f = subst (λ o. ForText e (o ≡ None)) (run_is p bytes) (then_none (items_at value_at bytes) (then_inputs p) e f)
 
-pub run_found : (m : Parts) (p : AProperty) (initial : List Bool) (bytes held later : List ℕ) (source last : Option (List ℕ)) (r : Result (Option ℕ) TextError) → Finds (items_at value_at bytes) (Ok initial) held source
-    → ((zs : List ℕ) → source ≡ Some zs → FindsWith (AreFound m p initial) (items_at line_at (held ++ zs)) r later last) → FindsWith (IsFound m) (run_at p bytes) r later last
-run_found m p initial bytes held later source last r first next =
-    subst (λ o. FindsWith (IsFound m) o r later last) (run_is p bytes)
-    (then_finds (IsFound m) (items_at value_at bytes) (then_inputs p) initial held later source last r first
-    (λ zs known. finds_made (AreFound m p initial) (IsFound m) (λ lines. stimulus.Violated p initial lines) (items_at line_at (held ++ zs)) r later last (λ lines x found. found) (next zs known)))
+pub run_found : (m : Parts) (p : AProperty) (initial : List Bool) (bytes held later zs ws : List ℕ) (r : Result (Option ℕ) TextError)
+    → Finds (items_at value_at bytes) (Ok initial) held zs → FindsWith (AreFound m p initial) (items_at line_at (held ++ zs)) r later ws → FindsWith (IsFound m) (run_at p bytes) r later ws
+run_found m p initial bytes held later zs ws r first next =
+    subst (λ o. FindsWith (IsFound m) o r later ws) (run_is p bytes)
+    (then_finds (IsFound m) (items_at value_at bytes) (then_inputs p) initial held later zs ws r first
+    (finds_made (AreFound m p initial) (IsFound m) (λ lines. stimulus.Violated p initial lines) (items_at line_at (held ++ zs)) r later ws (λ lines x found. found) next))
 
 -- ---- what follows the property's line
 
-pub violated_body : (m : Parts) (p : AProperty) (s : Status) (bytes held : List ℕ) (source : Option (List ℕ)) (r : Result (Option ℕ) TextError) → s ≡ Violated → FindsWith (IsFound m) (run_at p bytes) r held source → FindsWith (IsFound m) (body_at s p bytes) r held source
+pub violated_body : (m : Parts) (p : AProperty) (s : Status) (bytes held later : List ℕ) (r : Result (Option ℕ) TextError) → s ≡ Violated → FindsWith (IsFound m) (run_at p bytes) r held later → FindsWith (IsFound m) (body_at s p bytes) r held later
 unfolding body_at
-violated_body m p s bytes held source r is found = rw is found
+violated_body m p s bytes held later r is found = rw is found
 
 mapped_none : (o : Read (Unit {0})) (s : AStimulus) → o ≡ None → ◌≡◌ {A = Read AStimulus} (o >>= λ end. Some (s, end.1)) None
 mapped_none o s none = rw none refl
@@ -57,11 +57,11 @@ dot_stops Holds p bytes e told f = for_text_map e (dot_at bytes ≡ None) _ (λ 
 dot_stops Violated p bytes e told f = absurd told
 dot_stops Unknown p bytes e told f = for_text_map e (dot_at bytes ≡ None) _ (λ none. mapped_none (dot_at bytes) (stimulus.Unknown p) none) f
 
-pub dot_found : (m : Parts) (s : Status) (p : AProperty) (bytes held : List ℕ) (source : Option (List ℕ)) → IsConclusion s → Finds (dot_at bytes) (Ok (tt {0})) held source → FindsWith (IsFound m) (body_at s p bytes) (Ok (Some 65)) held source
+pub dot_found : (m : Parts) (s : Status) (p : AProperty) (bytes held later : List ℕ) → IsConclusion s → Finds (dot_at bytes) (Ok (tt {0})) held later → FindsWith (IsFound m) (body_at s p bytes) (Ok (Some 65)) held later
 unfolding body_at
-dot_found m Holds p bytes held source told (rest, is, left) = (stimulus.Holds p, rest, rw is refl, (NotViolated, λ e. absurd cc, refl, refl), left)
-dot_found m Violated p bytes held source told found = absurd told
-dot_found m Unknown p bytes held source told (rest, is, left) = (stimulus.Unknown p, rest, rw is refl, (NotViolated, λ e. absurd cc, refl, refl), left)
+dot_found m Holds p bytes held later told is = (stimulus.Holds p, rw is refl, (NotViolated, λ e. absurd cc, refl, refl))
+dot_found m Violated p bytes held later told is = absurd told
+dot_found m Unknown p bytes held later told is = (stimulus.Unknown p, rw is refl, (NotViolated, λ e. absurd cc, refl, refl))
 
 -- ---- the property is that of its line
 
@@ -166,17 +166,16 @@ pub property_stops : (s : Status) (bytes : List ℕ) (e : TextError) → ForText
 property_stops s bytes e f = then_none (property_at bytes) (body_at s) e f
 
 -- they were read, and what is behind them decides
-pub behind_status : {X : Type 0} (P : AStimulus → X → Type 0) (s : Status) (bytes held later : List ℕ) (source last : Option (List ℕ)) (r : Result X TextError) → Finds (status_at bytes) (Ok s) held source
-    → ((zs : List ℕ) → source ≡ Some zs → FindsWith P (then_property s (held ++ zs)) r later last) → FindsWith P (stimulus_at bytes) r later last
-behind_status P s bytes held later source last r first next = subst (λ o. FindsWith P o r later last) (text_is bytes) (then_finds P (status_at bytes) then_property s held later source last r first next)
+pub behind_status : {X : Type 0} (P : AStimulus → X → Type 0) (s : Status) (bytes held later zs ws : List ℕ) (r : Result X TextError) → Finds (status_at bytes) (Ok s) held zs → FindsWith P (then_property s (held ++ zs)) r later ws → FindsWith P (stimulus_at bytes) r later ws
+behind_status P s bytes held later zs ws r first next = subst (λ o. FindsWith P o r later ws) (text_is bytes) (then_finds P (status_at bytes) then_property s held later zs ws r first next)
 
-pub behind_property : {X : Type 0} (P : AStimulus → X → Type 0) (s : Status) (p : AProperty) (bytes held later : List ℕ) (source last : Option (List ℕ)) (r : Result X TextError) → Finds (property_at bytes) (Ok p) held source
-    → ((zs : List ℕ) → source ≡ Some zs → FindsWith P (body_at s p (held ++ zs)) r later last) → FindsWith P (then_property s bytes) r later last
-behind_property P s p bytes held later source last r first next = then_finds P (property_at bytes) (body_at s) p held later source last r first next
+pub behind_property : {X : Type 0} (P : AStimulus → X → Type 0) (s : Status) (p : AProperty) (bytes held later zs ws : List ℕ) (r : Result X TextError)
+    → Finds (property_at bytes) (Ok p) held zs → FindsWith P (body_at s p (held ++ zs)) r later ws → FindsWith P (then_property s bytes) r later ws
+behind_property P s p bytes held later zs ws r first next = then_finds P (property_at bytes) (body_at s) p held later zs ws r first next
 
 -- the property is reported with what is found
-pub outcome_found : (m : Parts) (s : Status) (p : AProperty) (bytes held : List ℕ) (source : Option (List ℕ)) (found : Option ℕ) → FindsWith (IsFound m) (body_at s p bytes) (Ok found) held source → FindsWith (IsOutcome m) (body_at s p bytes) (Ok (record { property = p; refusal = found })) held source
-outcome_found m s p bytes held source found (a, rest, is, judged, left) = (a, rest, is, (sym (body_property s p bytes a rest is), judged), left)
+pub outcome_found : (m : Parts) (s : Status) (p : AProperty) (bytes held later : List ℕ) (found : Option ℕ) → FindsWith (IsFound m) (body_at s p bytes) (Ok found) held later → FindsWith (IsOutcome m) (body_at s p bytes) (Ok (record { property = p; refusal = found })) held later
+outcome_found m s p bytes held later found (a, is, judged) = (a, is, (sym (body_property s p bytes a (held ++ later) is), judged))
 
 -- ---- the whole text
 
@@ -195,20 +194,19 @@ text_refused held ys e nothing f =
     (subst (λ (h : List ℕ). ForText e (stimulus_at (h ++ ys) ≡ None)) nothing f)
 
 -- it goes on behind a stimulus
-pub text_goes_on : {X : Type 0} (P : AStimulus → X → Type 0) (held later ys : List ℕ) (source : Option (List ℕ)) (x : X) (e : TextError) → held ≡ [] → FindsWith P (stimulus_at (held ++ ys)) (Ok x) later source
-    → ((zs : List ℕ) → source ≡ Some zs → ForText e (end_at (later ++ zs) ≡ None)) → ForText e ((s : AStimulus) → SpellsStimulus ys s → ⊥)
-text_goes_on P held later ys source x e nothing (s, rest, is, p, (zs, known, left)) next =
-    let read : stimulus_at ys ≡ Some (s, rest) = subst (λ (h : List ℕ). stimulus_at (h ++ ys) ≡ Some (s, rest)) nothing is in
+pub text_goes_on : {X : Type 0} (P : AStimulus → X → Type 0) (held later ys zs : List ℕ) (x : X) (e : TextError) → held ≡ []
+    → FindsWith P (stimulus_at (held ++ ys)) (Ok x) later zs → ForText e (end_at (later ++ zs) ≡ None) → ForText e ((s : AStimulus) → SpellsStimulus ys s → ⊥)
+text_goes_on P held later ys zs x e nothing (s, is, p) next =
+    let read : stimulus_at ys ≡ Some (s, later ++ zs) = subst (λ (h : List ℕ). stimulus_at (h ++ ys) ≡ Some (s, later ++ zs)) nothing is in
     for_text_map e (end_at (later ++ zs) ≡ None) ((d : AStimulus) → SpellsStimulus ys d → ⊥)
     (λ more d spelled.
-    let same = ap (λ (w : AStimulus × List ℕ). w.1) (same_Some (s, rest) (d, []) (sym read ∙ text_read ys d spelled)) in
-    not_at_end (later ++ zs) more (sym left ∙ same))
-    (next zs known)
+    let same = ap (λ (w : AStimulus × List ℕ). w.1) (same_Some (s, later ++ zs) (d, []) (sym read ∙ text_read ys d spelled)) in
+    not_at_end (later ++ zs) more same)
+    next
 
 -- it is a stimulus
-pub text_whole : {X : Type 0} (P : AStimulus → X → Type 0) (held later last ys : List ℕ) (source final : Option (List ℕ)) (x : X) → held ≡ [] → FindsWith P (stimulus_at (held ++ ys)) (Ok x) later source
-    → ((zs : List ℕ) → source ≡ Some zs → Finds (end_at (later ++ zs)) (Ok (tt {0})) last final) → (s : AStimulus) × SpellsStimulus ys s × P s x
-text_whole P held later last ys source final x nothing (s, rest, is, p, (zs, known, left)) next =
-    let (after, ended, more) = next zs known in
-    let read : stimulus_at ys ≡ Some (s, rest) = subst (λ (h : List ℕ). stimulus_at (h ++ ys) ≡ Some (s, rest)) nothing is in
-    (s, text_spelled ys rest s read (left ∙ at_end (later ++ zs) after tt ended), p)
+pub text_whole : {X : Type 0} (P : AStimulus → X → Type 0) (held later last ys zs ws : List ℕ) (x : X) → held ≡ []
+    → FindsWith P (stimulus_at (held ++ ys)) (Ok x) later zs → Finds (end_at (later ++ zs)) (Ok (tt {0})) last ws → (s : AStimulus) × SpellsStimulus ys s × P s x
+text_whole P held later last ys zs ws x nothing (s, is, p) ended =
+    let read : stimulus_at ys ≡ Some (s, later ++ zs) = subst (λ (h : List ℕ). stimulus_at (h ++ ys) ≡ Some (s, later ++ zs)) nothing is in
+    (s, text_spelled ys (later ++ zs) s read (at_end (later ++ zs) (last ++ ws) tt ended), p)

@@ -1,6 +1,7 @@
 //! A stimulus, judged while it is read.
 
 ghost use Rattle.std.specs.Prelude.{◌≡◌, ◌+◌, ◌-◌, ◌^◌, ◌<◌, ◌≤◌, ◌↔◌, ℕ, List, ◌++◌, Some, IfOk, IsErrOf, MatchResult};
+ghost use Rattle.base.specs.Devices.{IsAtEnd, Reads};
 ghost use Rattle.graph.specs.Properties.{IsWatched};
 ghost use Rattle.graph.specs.Valuation.{variable};
 ghost use Rattle.graph.specs.declared.circuit.Property.{Property as AProperty};
@@ -40,7 +41,7 @@ fn judge_bad<S: Source>(
 ) -> Result<Option<u8>, TextError>
     requires source { S.failed from.old < 2 ^ 64 - 1 }
     requires in_range { variable bad ≤ circuit.now.max_var }
-    ensures says { (ys : List ℕ) (p : AProperty) → S.remaining from.old ≡ Some ys → IsWatched circuit.now p bad → FindsWith (AreFound circuit.now p initial.now) (items_at line_at (reader.old ++ ys)) result reader.new (S.remaining from.new) }
+    ensures says { Reads (S.leaves from.old) (S.leaves from.new) (λ ys zs. (p : AProperty) → IsWatched circuit.now p bad → FindsWith (AreFound circuit.now p initial.now) (items_at line_at (reader.old ++ ys)) result reader.new zs) }
     ensures device { IsErrOf result Device ↔ (S.failed from.new ≡ S.failed from.old + 1) }
     ensures others { (IsErrOf result Device → ⊥) → S.failed from.new ≡ S.failed from.old }
 {
@@ -100,7 +101,7 @@ fn judge_justice<S: Source>(
     from: &mut S,
 ) -> Result<Option<u8>, TextError>
     requires source { S.failed from.old < 2 ^ 64 - 1 }
-    ensures says { (ys : List ℕ) → S.remaining from.old ≡ Some ys → FindsWith (AreFound circuit.now (Justice j) initial) (items_at line_at (reader.old ++ ys)) result reader.new (S.remaining from.new) }
+    ensures says { Reads (S.leaves from.old) (S.leaves from.new) (λ ys zs. FindsWith (AreFound circuit.now (Justice j) initial) (items_at line_at (reader.old ++ ys)) result reader.new zs) }
     ensures device { IsErrOf result Device ↔ (S.failed from.new ≡ S.failed from.old + 1) }
     ensures others { (IsErrOf result Device → ⊥) → S.failed from.new ≡ S.failed from.old }
 {
@@ -124,7 +125,7 @@ fn judge_lines<S: Source>(
     from: &mut S,
 ) -> Result<Option<u8>, TextError>
     requires source { S.failed from.old < 2 ^ 64 - 1 }
-    ensures says { (ys : List ℕ) → S.remaining from.old ≡ Some ys → FindsWith (AreFound circuit.now property initial) (items_at line_at (reader.old ++ ys)) result reader.new (S.remaining from.new) }
+    ensures says { Reads (S.leaves from.old) (S.leaves from.new) (λ ys zs. FindsWith (AreFound circuit.now property initial) (items_at line_at (reader.old ++ ys)) result reader.new zs) }
     ensures device { IsErrOf result Device ↔ (S.failed from.new ≡ S.failed from.old + 1) }
     ensures others { (IsErrOf result Device → ⊥) → S.failed from.new ≡ S.failed from.old }
 {
@@ -162,7 +163,7 @@ fn judge_run<S: Source>(
     from: &mut S,
 ) -> Result<Option<u8>, TextError>
     requires source { S.failed from.old < 2 ^ 64 - 1 }
-    ensures says { (ys : List ℕ) → S.remaining from.old ≡ Some ys → FindsWith (IsFound circuit.now) (run_at property (reader.old ++ ys)) result reader.new (S.remaining from.new) }
+    ensures says { Reads (S.leaves from.old) (S.leaves from.new) (λ ys zs. FindsWith (IsFound circuit.now) (run_at property (reader.old ++ ys)) result reader.new zs) }
     ensures device { IsErrOf result Device ↔ (S.failed from.new ≡ S.failed from.old + 1) }
     ensures others { (IsErrOf result Device → ⊥) → S.failed from.new ≡ S.failed from.old }
 {
@@ -187,7 +188,7 @@ fn refuse_concluded<S: Source>(
     from: &mut S,
 ) -> Result<Option<u8>, TextError>
     requires source { S.failed from.old < 2 ^ 64 - 1 }
-    ensures says { (ys : List ℕ) (m : AParts) (s : AStatus) (p : AProperty) → S.remaining from.old ≡ Some ys → IsConclusion s → FindsWith (IsFound m) (body_at s p (reader.old ++ ys)) result reader.new (S.remaining from.new) }
+    ensures says { Reads (S.leaves from.old) (S.leaves from.new) (λ ys zs. (m : AParts) (s : AStatus) (p : AProperty) → IsConclusion s → FindsWith (IsFound m) (body_at s p (reader.old ++ ys)) result reader.new zs) }
     ensures device { IsErrOf result Device ↔ (S.failed from.new ≡ S.failed from.old + 1) }
     ensures others { (IsErrOf result Device → ⊥) → S.failed from.new ≡ S.failed from.old }
 {
@@ -205,7 +206,7 @@ fn judge_body<S: Source>(
     from: &mut S,
 ) -> Result<Option<u8>, TextError>
     requires source { S.failed from.old < 2 ^ 64 - 1 }
-    ensures says { (ys : List ℕ) → S.remaining from.old ≡ Some ys → FindsWith (IsFound circuit.now) (body_at status property (reader.old ++ ys)) result reader.new (S.remaining from.new) }
+    ensures says { Reads (S.leaves from.old) (S.leaves from.new) (λ ys zs. FindsWith (IsFound circuit.now) (body_at status property (reader.old ++ ys)) result reader.new zs) }
     ensures device { IsErrOf result Device ↔ (S.failed from.new ≡ S.failed from.old + 1) }
     ensures others { (IsErrOf result Device → ⊥) → S.failed from.new ≡ S.failed from.old }
 {
@@ -233,7 +234,7 @@ fn judge_text<S: Source>(
     from: &mut S,
 ) -> Result<Outcome, TextError>
     requires source { S.failed from.old < 2 ^ 64 - 1 }
-    ensures says { (ys : List ℕ) → S.remaining from.old ≡ Some ys → FindsWith (IsOutcome circuit.now) (stimulus_at (reader.old ++ ys)) result reader.new (S.remaining from.new) }
+    ensures says { Reads (S.leaves from.old) (S.leaves from.new) (λ ys zs. FindsWith (IsOutcome circuit.now) (stimulus_at (reader.old ++ ys)) result reader.new zs) }
     ensures device { IsErrOf result Device ↔ (S.failed from.new ≡ S.failed from.old + 1) }
     ensures others { (IsErrOf result Device → ⊥) → S.failed from.new ≡ S.failed from.old }
 {
@@ -253,7 +254,8 @@ pub fn judge_source<S: Source>(
     from: &mut S,
 ) -> Result<Outcome, TextError>
     requires source { S.failed from.old < 2 ^ 64 - 1 }
-    ensures says { (ys : List ℕ) → S.remaining from.old ≡ Some ys → MatchResult result (λ found. (s : AStimulus) × SpellsStimulus ys s × (found.property ≡ property_of s) × IsFound circuit.now s found.refusal) (λ e. ForText e ((s : AStimulus) → SpellsStimulus ys s → ⊥)) }
+    ensures says { Reads (S.leaves from.old) (S.leaves from.new) (λ ys zs. MatchResult result (λ found. (s : AStimulus) × SpellsStimulus ys s × (found.property ≡ property_of s) × IsFound circuit.now s found.refusal) (λ e. ForText e ((s : AStimulus) → SpellsStimulus ys s → ⊥))) }
+    ensures ended { IfOk result (λ _. IsAtEnd (S.leaves from.new)) }
     ensures device { IsErrOf result Device ↔ (S.failed from.new ≡ S.failed from.old + 1) }
     ensures others { (IsErrOf result Device → ⊥) → S.failed from.new ≡ S.failed from.old }
 {

@@ -1,6 +1,7 @@
 //! The input lines of a stimulus that is refused, and those that are kept.
 
 ghost use Rattle.std.specs.Prelude.{◌≡◌, ◌+◌, ◌-◌, ◌^◌, ◌<◌, ◌↔◌, ℕ, Bool, List, [], ◌∷◌, ◌++◌, length, Some, IsErrOf, IsTrue};
+ghost use Rattle.base.specs.Devices.{Reads};
 ghost use Rattle.scan.specs.Lists.{items_at};
 ghost use Rattle.stimulus.specs.Reading.{line_at};
 ghost use Rattle.replay.specs.Found.{AreOfLengths, AreRefused, cause_by};
@@ -58,7 +59,7 @@ pub fn skip_lines<S: Source>(
     from: &mut S,
 ) -> Result<Option<u8>, TextError>
     requires source { S.failed from.old < 2 ^ 64 - 1 }
-    ensures says { (ys : List ℕ) → S.remaining from.old ≡ Some ys → FindsWith (λ lines found. found ≡ Some number) (items_at line_at (reader.old ++ ys)) result reader.new (S.remaining from.new) }
+    ensures says { Reads (S.leaves from.old) (S.leaves from.new) (λ ys zs. FindsWith (λ lines found. found ≡ Some number) (items_at line_at (reader.old ++ ys)) result reader.new zs) }
     ensures device { IsErrOf result Device ↔ (S.failed from.new ≡ S.failed from.old + 1) }
     ensures others { (IsErrOf result Device → ⊥) → S.failed from.new ≡ S.failed from.old }
 {
@@ -82,7 +83,7 @@ pub fn refuse_lines<S: Source>(
     from: &mut S,
 ) -> Result<Option<u8>, TextError>
     requires source { S.failed from.old < 2 ^ 64 - 1 }
-    ensures says { (ys : List ℕ) (front : List (List Bool)) → S.remaining from.old ≡ Some ys → AreOfLengths long front before → FindsWith (λ more found. AreRefused number long (front ++ more) found) (items_at line_at (reader.old ++ ys)) result reader.new (S.remaining from.new) }
+    ensures says { Reads (S.leaves from.old) (S.leaves from.new) (λ ys zs. (front : List (List Bool)) → AreOfLengths long front before → FindsWith (λ more found. AreRefused number long (front ++ more) found) (items_at line_at (reader.old ++ ys)) result reader.new zs) }
     ensures device { IsErrOf result Device ↔ (S.failed from.new ≡ S.failed from.old + 1) }
     ensures others { (IsErrOf result Device → ⊥) → S.failed from.new ≡ S.failed from.old }
 {
@@ -104,7 +105,7 @@ pub fn read_lines<S: Source>(
     from: &mut S,
 ) -> Result<Seq<Seq<bool>>, TextError>
     requires source { S.failed from.old < 2 ^ 64 - 1 }
-    ensures says { (ys : List ℕ) → S.remaining from.old ≡ Some ys → Finds (items_at line_at (reader.old ++ ys)) result reader.new (S.remaining from.new) }
+    ensures says { Reads (S.leaves from.old) (S.leaves from.new) (λ ys zs. Finds (items_at line_at (reader.old ++ ys)) result reader.new zs) }
     ensures device { IsErrOf result Device ↔ (S.failed from.new ≡ S.failed from.old + 1) }
     ensures others { (IsErrOf result Device → ⊥) → S.failed from.new ≡ S.failed from.old }
 {

@@ -1,6 +1,7 @@
 //! Input lines, replayed while they are read.
 
 ghost use Rattle.std.specs.Prelude.{◌≡◌, ◌+◌, ◌-◌, ◌^◌, ◌<◌, ◌≤◌, ◌↔◌, ℕ, Bool, List, ◌++◌, All, length, true, IsTrue, IsSome, Some, IsErrOf};
+ghost use Rattle.base.specs.Devices.{Reads};
 ghost use Rattle.graph.specs.Properties.{IsWatched};
 ghost use Rattle.graph.specs.Valuation.{Valuation, value_of, variable};
 ghost use Rattle.graph.specs.declared.circuit.Property.{Property as AProperty};
@@ -70,7 +71,7 @@ pub fn play_lines<S: Source>(
     requires long { long ≡ length replay.old.circuit.inputs }
     requires in_range { All (λ a. variable a ≤ replay.old.circuit.max_var) constraints.now }
     requires bad { variable bad ≤ replay.old.circuit.max_var }
-    ensures says { (ys : List ℕ) (p : AProperty) (initial : List Bool) → S.remaining from.old ≡ Some ys → IsWatched replay.old.circuit p bad → replay.old ≡ begun replay.old.circuit initial → Starts replay.old.circuit.latches initial → length initial ≡ length replay.old.circuit.latches → FindsWith (AreFound replay.old.circuit p initial) (items_at line_at (reader.old ++ ys)) result reader.new (S.remaining from.new) }
+    ensures says { Reads (S.leaves from.old) (S.leaves from.new) (λ ys zs. (p : AProperty) (initial : List Bool) → IsWatched replay.old.circuit p bad → replay.old ≡ begun replay.old.circuit initial → Starts replay.old.circuit.latches initial → length initial ≡ length replay.old.circuit.latches → FindsWith (AreFound replay.old.circuit p initial) (items_at line_at (reader.old ++ ys)) result reader.new zs) }
     ensures device { IsErrOf result Device ↔ (S.failed from.new ≡ S.failed from.old + 1) }
     ensures others { (IsErrOf result Device → ⊥) → S.failed from.new ≡ S.failed from.old }
 {

@@ -1,6 +1,7 @@
 //! The text of a stimulus, read line by line.
 
 ghost use Rattle.std.specs.Prelude.{◌≡◌, ◌+◌, ◌-◌, ◌^◌, ◌<◌, ◌≤◌, ◌↔◌, ℕ, List, [], ◌++◌, Some, IfOk, IsErrOf, length};
+ghost use Rattle.base.specs.Devices.{Reads};
 ghost use Rattle.scan.specs.Lists.{items_at};
 ghost use Rattle.stimulus.specs.Reading.{line_at, property_at, value_at};
 ghost use Rattle.replay.specs.Lines.{IsOfLine};
@@ -29,7 +30,7 @@ fn line_from<L: LineKind<Refusal = Refusal>, S: Source>(
     requires allows { L.allows context }
     requires line { IsOfLine (L.at context) }
     requires source { S.failed from.old < 2 ^ 64 - 1 }
-    ensures says { (ys : List ℕ) → S.remaining from.old ≡ Some ys → Finds (L.at context (pieces.old ++ ys)) result pieces.new (S.remaining from.new) }
+    ensures says { Reads (S.leaves from.old) (S.leaves from.new) (λ ys zs. Finds (L.at context (pieces.old ++ ys)) result pieces.new zs) }
     ensures device { IsErrOf result Device ↔ (S.failed from.new ≡ S.failed from.old + 1) }
     ensures others { (IsErrOf result Device → ⊥) → S.failed from.new ≡ S.failed from.old }
 {
@@ -53,7 +54,7 @@ fn values_from<S: Source>(
     from: &mut S,
 ) -> Result<(), TextError>
     requires source { S.failed from.old < 2 ^ 64 - 1 }
-    ensures says { (ys : List ℕ) → S.remaining from.old ≡ Some ys → Finds (items_at value_at (pieces.old ++ ys)) (with_values result line.new.items) pieces.new (S.remaining from.new) }
+    ensures says { Reads (S.leaves from.old) (S.leaves from.new) (λ ys zs. Finds (items_at value_at (pieces.old ++ ys)) (with_values result line.new.items) pieces.new zs) }
     ensures device { IsErrOf result Device ↔ (S.failed from.new ≡ S.failed from.old + 1) }
     ensures others { (IsErrOf result Device → ⊥) → S.failed from.new ≡ S.failed from.old }
 {
@@ -77,7 +78,7 @@ fn input_from<S: Source>(
     from: &mut S,
 ) -> Result<bool, TextError>
     requires source { S.failed from.old < 2 ^ 64 - 1 }
-    ensures says { (ys : List ℕ) → S.remaining from.old ≡ Some ys → Finds (line_at (pieces.old ++ ys)) (with_line result line.new.items) pieces.new (S.remaining from.new) }
+    ensures says { Reads (S.leaves from.old) (S.leaves from.new) (λ ys zs. Finds (line_at (pieces.old ++ ys)) (with_line result line.new.items) pieces.new zs) }
     ensures moves { IfOk result (λ _. length pieces.new + S.most from.new < length pieces.old + S.most from.old) }
     ensures device { IsErrOf result Device ↔ (S.failed from.new ≡ S.failed from.old + 1) }
     ensures others { (IsErrOf result Device → ⊥) → S.failed from.new ≡ S.failed from.old }
@@ -130,7 +131,7 @@ impl LineReader {
     #[tactic(auto, using(crate::proofs::LineLaws::status_of_line))]
     pub fn status<S: Source>(&mut self, alloc: Global, from: &mut S) -> Result<Status, TextError>
         requires source { S.failed from.old < 2 ^ 64 - 1 }
-        ensures says { (ys : List ℕ) → S.remaining from.old ≡ Some ys → Finds (status_at (self.old ++ ys)) result self.new (S.remaining from.new) }
+        ensures says { Reads (S.leaves from.old) (S.leaves from.new) (λ ys zs. Finds (status_at (self.old ++ ys)) result self.new zs) }
         ensures device { IsErrOf result Device ↔ (S.failed from.new ≡ S.failed from.old + 1) }
         ensures others { (IsErrOf result Device → ⊥) → S.failed from.new ≡ S.failed from.old }
     {
@@ -145,7 +146,7 @@ impl LineReader {
         from: &mut S,
     ) -> Result<Property, TextError>
         requires source { S.failed from.old < 2 ^ 64 - 1 }
-        ensures says { (ys : List ℕ) → S.remaining from.old ≡ Some ys → Finds (property_at (self.old ++ ys)) result self.new (S.remaining from.new) }
+        ensures says { Reads (S.leaves from.old) (S.leaves from.new) (λ ys zs. Finds (property_at (self.old ++ ys)) result self.new zs) }
         ensures device { IsErrOf result Device ↔ (S.failed from.new ≡ S.failed from.old + 1) }
         ensures others { (IsErrOf result Device → ⊥) → S.failed from.new ≡ S.failed from.old }
     {
@@ -156,7 +157,7 @@ impl LineReader {
     #[tactic(auto, using(crate::proofs::LineLaws::dot_of_line))]
     pub fn dot<S: Source>(&mut self, alloc: Global, from: &mut S) -> Result<(), TextError>
         requires source { S.failed from.old < 2 ^ 64 - 1 }
-        ensures says { (ys : List ℕ) → S.remaining from.old ≡ Some ys → Finds (dot_at (self.old ++ ys)) result self.new (S.remaining from.new) }
+        ensures says { Reads (S.leaves from.old) (S.leaves from.new) (λ ys zs. Finds (dot_at (self.old ++ ys)) result self.new zs) }
         ensures device { IsErrOf result Device ↔ (S.failed from.new ≡ S.failed from.old + 1) }
         ensures others { (IsErrOf result Device → ⊥) → S.failed from.new ≡ S.failed from.old }
     {
@@ -172,7 +173,7 @@ impl LineReader {
         from: &mut S,
     ) -> Result<(), TextError>
         requires source { S.failed from.old < 2 ^ 64 - 1 }
-        ensures says { (ys : List ℕ) → S.remaining from.old ≡ Some ys → Finds (items_at value_at (self.old ++ ys)) (with_values result line.new.items) self.new (S.remaining from.new) }
+        ensures says { Reads (S.leaves from.old) (S.leaves from.new) (λ ys zs. Finds (items_at value_at (self.old ++ ys)) (with_values result line.new.items) self.new zs) }
         ensures device { IsErrOf result Device ↔ (S.failed from.new ≡ S.failed from.old + 1) }
         ensures others { (IsErrOf result Device → ⊥) → S.failed from.new ≡ S.failed from.old }
     {
@@ -189,7 +190,7 @@ impl LineReader {
         from: &mut S,
     ) -> Result<bool, TextError>
         requires source { S.failed from.old < 2 ^ 64 - 1 }
-        ensures says { (ys : List ℕ) → S.remaining from.old ≡ Some ys → Finds (line_at (self.old ++ ys)) (with_line result line.new.items) self.new (S.remaining from.new) }
+        ensures says { Reads (S.leaves from.old) (S.leaves from.new) (λ ys zs. Finds (line_at (self.old ++ ys)) (with_line result line.new.items) self.new zs) }
         ensures moves { IfOk result (λ _. length self.new + S.most from.new < length self.old + S.most from.old) }
         ensures device { IsErrOf result Device ↔ (S.failed from.new ≡ S.failed from.old + 1) }
         ensures others { (IsErrOf result Device → ⊥) → S.failed from.new ≡ S.failed from.old }
@@ -200,7 +201,7 @@ impl LineReader {
     /// Says that nothing is left: the source must be at its end.
     pub fn end<S: Source>(&mut self, from: &mut S) -> Result<(), TextError>
         requires source { S.failed from.old < 2 ^ 64 - 1 }
-        ensures says { (ys : List ℕ) → S.remaining from.old ≡ Some ys → Finds (end_at (self.old ++ ys)) result self.new (S.remaining from.new) }
+        ensures says { Reads (S.leaves from.old) (S.leaves from.new) (λ ys zs. Finds (end_at (self.old ++ ys)) result self.new zs) }
         ensures device { IsErrOf result Device ↔ (S.failed from.new ≡ S.failed from.old + 1) }
         ensures others { (IsErrOf result Device → ⊥) → S.failed from.new ≡ S.failed from.old }
     {

@@ -1,12 +1,12 @@
 use Rattle.std.proofs.Common.{◌≡◌, ◌≤◌, length}
-use Rattle.std.specs.Io.KnownBytes.{Consumes}
+use Rattle.base.specs.Devices.{Moves}
 use Rattle.base.proofs.transfer.read_all.Given as goal
 
 abbrev pub invariant-reading : goal.invariant-reading
 invariant-reading g l = record {
   steady : g.S.Source.failed l.source ≡ g.S.Source.failed l.fn.source;
   within : length l.bytes.items ≤ l.fn.limit;
-  bytes : Consumes (g.S.Source.remaining l.fn.source) (g.S.Source.remaining l.source) l.bytes.items;
+  bytes : Moves (g.S.Source.leaves l.fn.source) (g.S.Source.leaves l.source) l.bytes.items;
 }
 
 abbrev pub decreases-reading : goal.decreases-reading

@@ -5,6 +5,7 @@ use Rattle.certificate.proofs.StreamLaws.{moves_from}
 use Rattle.certificate.proofs.reader.item_from.Goals as goal
 
 pub returns-clause-says : goal.returns-clause-says
-returns-clause-says g c ys known =
+returns-clause-says g c text later left =
+    let (ys, before, lies) = c.in_ok-n.ensures.reads text later left in
     let read : item_at (take c.in_ok-n.n c.next.new.self) ≡ Some (line_where c.in-Ok.there c.line_into.new.line, c.in-Ok.rest.now) = search rules in
-    moves_from item_at line_of_piece c.args.pieces.now c.next.new.self c.skip.new.self ys _ _ c.in_ok-n.n _ c.in-Ok.rest.now known c.in_ok-n.ensures.lies c.in_ok-n.ensures.within read c.skip.ensures
+    (ys, before, moves_from item_at line_of_piece c.args.pieces.now c.next.new.self c.skip.new.self ys later c.in_ok-n.n _ c.in-Ok.rest.now lies c.in_ok-n.ensures.within read c.skip.ensures)

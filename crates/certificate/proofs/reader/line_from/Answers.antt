@@ -4,9 +4,10 @@ use Rattle.certificate.proofs.StreamLaws.{moves_from}
 use Rattle.certificate.proofs.reader.line_from.Goals as goal
 
 pub returns-clause-says : goal.returns-clause-says
-returns-clause-says g c ys known =
+returns-clause-says g c text later left =
+    let (ys, before, lies) = c.in_ok-n.ensures.reads text later left in
     let read : g.L.LineKind.at c.args.context (take c.in_ok-n.n c.next.new.self) ≡ Some (c.in-Ok.item, c.in-Ok.rest.now) = search rules in
-    moves_from (g.L.LineKind.at c.args.context) c.requires.line c.args.pieces.now c.next.new.self c.skip.new.self ys _ _ c.in_ok-n.n c.in-Ok.item c.in-Ok.rest.now known c.in_ok-n.ensures.lies c.in_ok-n.ensures.within read c.skip.ensures
+    (ys, before, moves_from (g.L.LineKind.at c.args.context) c.requires.line c.args.pieces.now c.next.new.self c.skip.new.self ys later c.in_ok-n.n c.in-Ok.item c.in-Ok.rest.now lies c.in_ok-n.ensures.within read c.skip.ensures)
 
 pub returns-clause-moves : goal.returns-clause-moves
 returns-clause-moves g c =

@@ -1,4 +1,5 @@
-use Rattle.std.proofs.Common.{◌≡◌, ◌-◌, ◌++◌, ℕ, List, None, Some, length, map, take}
+use Rattle.std.proofs.Common.{◌≡◌, ◌-◌, ◌++◌, List, None, length, map, take}
+use Rattle.base.specs.Devices.{Reads}
 use Rattle.scan.specs.Lists.{many_at}
 use Rattle.lrat.specs.declared.line.Line.{Line}
 use Rattle.lrat.specs.Shared.{base_of}
@@ -14,5 +15,5 @@ invariant-loop-k g l = record {
   steady : g.S.Source.failed l.from ≡ g.S.Source.failed l.fn.from;
   fresh : l.refuter.refusal ≡ None;
   base : l.refuter.base ≡ base_of (start_formula l.circuit);
-  reads : (ys : List ℕ) → g.S.Source.remaining l.fn.from ≡ Some ys → (front : List (List Line)) × AreProofs (map (init_case l.circuit) (take l.k l.fn.invariant)) front × StillReads (many_at (section_at 105) (length l.fn.invariant) (l.fn.reader ++ ys)) front (many_at (section_at 105) (length l.fn.invariant - l.k)) l.reader (g.S.Source.remaining l.from);
+  reads : Reads (g.S.Source.leaves l.fn.from) (g.S.Source.leaves l.from) (λ ys zs. (front : List (List Line)) × AreProofs (map (init_case l.circuit) (take l.k l.fn.invariant)) front × StillReads (many_at (section_at 105) (length l.fn.invariant) (l.fn.reader ++ ys)) front (many_at (section_at 105) (length l.fn.invariant - l.k)) l.reader zs);
 }

@@ -16,31 +16,44 @@ pub step_units_into-requires-clause-over : goal.step_units_into-requires-clause-
 step_units_into-requires-clause-over g c = over_here c.args.circuit.now c.args.invariant.now c.loop-k.k c.list-clause.result.now c.list-clause.result.now c.requires.invariant (rw c.len-k-end.ensures at c.loop-k-test.true) (c.list-clause.ensures ∙ get_or_default c.args.invariant.now c.loop-k.k [] c.list-clause.result.now (rw c.len-k-end.ensures at c.loop-k-test.true)) refl
 
 pub returns-in_err-step_units_into-clause-says : goal.returns-in_err-step_units_into-clause-says
-returns-in_err-step_units_into-clause-says g c ys known =
-    memory_finds (AreOfCases (map (step_case c.args.circuit.now c.args.refuter.now.base) c.args.invariant.now)) (many_at (section_at 115) (length c.args.invariant.now) (c.args.reader.now ++ ys)) _ c.loop-k.reader (g.S.Source.remaining c.loop-k.from) c.from_residual.ensures.1
+returns-in_err-step_units_into-clause-says g c text later left =
+    let (ys, before, (front, are, still)) = c.loop-k.invariant.reads text later left in
+    (ys, before, memory_finds (AreOfCases (map (step_case c.args.circuit.now c.args.refuter.now.base) c.args.invariant.now)) (many_at (section_at 115) (length c.args.invariant.now) (c.args.reader.now ++ ys)) _ c.loop-k.reader later c.from_residual.ensures.1)
 
 pub returns-in_err-found-clause-says : goal.returns-in_err-found-clause-says
-returns-in_err-found-clause-says g c ys known =
-    let read = many_at (section_at 115) (length c.args.invariant.now) (c.args.reader.now ++ ys) in
-    let (front, are, still) = c.loop-k.invariant.reads ys known in
-    err_finds (AreOfCases (map (step_case c.args.circuit.now c.args.refuter.now.base) c.args.invariant.now)) read _ c.in_err-found.field-0.0 c.check_section.new.reader (g.S.Source.remaining c.check_section.new.from) c.from_residual-in_err-found.ensures.1
-    (many_refused (section_at 115) read front (length c.args.invariant.now) c.loop-k.k c.in_err-found.field-0.0 c.loop-k.reader _ (rw c.len-k-end.ensures at c.loop-k-test.true) still (λ zs left. c.in_err-found.ensures.says zs left))
+returns-in_err-found-clause-says g c text later left =
+    let (zs, between, refused) = c.in_err-found.ensures.says text later left in
+    let (ys, before, (front, are, still)) = c.loop-k.invariant.reads text zs between in
+    let read = many_at (section_at 115) (length c.args.invariant.now) (c.args.reader.now ++ ys) in (
+      ys,
+      before,
+      err_finds (AreOfCases (map (step_case c.args.circuit.now c.args.refuter.now.base) c.args.invariant.now)) read _ c.in_err-found.field-0.0 c.check_section.new.reader later c.from_residual-in_err-found.ensures.1
+          (many_refused (section_at 115) read front (length c.args.invariant.now) c.loop-k.k c.in_err-found.field-0.0 c.loop-k.reader zs (rw c.len-k-end.ensures at c.loop-k-test.true) still refused),
+    )
 
 pub returns-in_err-skip_sections-clause-says : goal.returns-in_err-skip_sections-clause-says
-returns-in_err-skip_sections-clause-says g c ys known =
+returns-in_err-skip_sections-clause-says g c text later left =
+    let (us, here, refused) = c.in_err-skip_sections.ensures.says text later left in
+    let (zs, between, section) = c.in_ok-found.ensures.says text us here in
+    let (ys, before, (front, are, still)) = c.loop-k.invariant.reads text zs between in
     let m = c.args.circuit.now in
     let inv = c.args.invariant.now in
     let one = section_at 115 in
     let read = many_at one (length inv) (c.args.reader.now ++ ys) in
     let case : Case = record { base = c.loop-k.refuter.base; units = c.as_slice.result.now } in
-    let (front, are, still) = c.loop-k.invariant.reads ys known in
-    let (p, judged, further) = many_goes_with (IsOfCase case) one read front (length inv) c.loop-k.k (Some c.in-Some.fault) c.loop-k.reader c.check_section.new.reader _ (g.S.Source.remaining c.check_section.new.from) (rw c.len-k-end.ensures at c.loop-k-test.true) still
-    (λ zs here. subst (λ o. FindsWith (IsOfCase case) (one (c.loop-k.reader ++ zs)) (Ok o) c.check_section.new.reader (g.S.Source.remaining c.check_section.new.from)) c.in-Some.is (c.in_ok-found.ensures.says zs here)) in
-    err_finds (AreOfCases (map (step_case m c.args.refuter.now.base) inv)) read _ c.in_err-skip_sections.field-0.0 c.skip_sections.new.reader (g.S.Source.remaining c.skip_sections.new.from) c.from_residual-in_err-skip_sections.ensures.1
-    (others_refused read (front ++ p ∷ []) (many_at one (length inv - (c.loop-k.k + 1))) c.in_err-skip_sections.field-0.0 c.check_section.new.reader _ further (λ zs here. rw c.len.ensures at (c.in_err-skip_sections.ensures.says zs here)))
+    let (p, judged, further) = many_goes_with (IsOfCase case) one read front (length inv) c.loop-k.k (Some c.in-Some.fault) c.loop-k.reader c.check_section.new.reader zs us (rw c.len-k-end.ensures at c.loop-k-test.true) still
+    (subst (λ o. FindsWith (IsOfCase case) (one (c.loop-k.reader ++ zs)) (Ok o) c.check_section.new.reader us) c.in-Some.is section) in (
+      ys,
+      before,
+      err_finds (AreOfCases (map (step_case m c.args.refuter.now.base) inv)) read _ c.in_err-skip_sections.field-0.0 c.skip_sections.new.reader later c.from_residual-in_err-skip_sections.ensures.1
+          (others_refused read (front ++ p ∷ []) (many_at one (length inv - (c.loop-k.k + 1))) c.in_err-skip_sections.field-0.0 c.check_section.new.reader us further (rw c.len.ensures at refused)),
+    )
 
 pub returns-in-Some-clause-says : goal.returns-in-Some-clause-says
-returns-in-Some-clause-says g c ys known =
+returns-in-Some-clause-says g c text later left =
+    let (us, here, skipped) = c.in_ok-skip_sections.ensures.says text later left in
+    let (zs, between, section) = c.in_ok-found.ensures.says text us here in
+    let (ys, before, (front, are, still)) = c.loop-k.invariant.reads text zs between in
     let m = c.args.circuit.now in
     let inv = c.args.invariant.now in
     let one = section_at 115 in
@@ -49,12 +62,14 @@ returns-in-Some-clause-says g c ys known =
     let case : Case = record { base = c.loop-k.refuter.base; units = c.as_slice.result.now } in
     let is : case ≡ step_case m c.args.refuter.now.base (get_or inv c.loop-k.k c.list-clause.result.now) =
     step_here m c.args.refuter.now.base inv c.loop-k.k c.list-clause.result.now c.list-clause.result.now c.loop-k.refuter.base c.as_slice.result.now (c.list-clause.ensures ∙ get_or_default c.args.invariant.now c.loop-k.k [] c.list-clause.result.now (rw c.len-k-end.ensures at c.loop-k-test.true)) refl c.loop-k.invariant.base (c.as_slice.ensures.value ∙ c.in_ok-step_units_into.ensures.units) in
-    let (front, are, still) = c.loop-k.invariant.reads ys known in
-    let (p, judged, further) = many_goes_with (IsOfCase case) one read front (length inv) c.loop-k.k (Some fault) c.loop-k.reader c.check_section.new.reader _ (g.S.Source.remaining c.check_section.new.from) (rw c.len-k-end.ensures at c.loop-k-test.true) still
-    (λ zs here. subst (λ o. FindsWith (IsOfCase case) (one (c.loop-k.reader ++ zs)) (Ok o) c.check_section.new.reader (g.S.Source.remaining c.check_section.new.from)) c.in-Some.is (c.in_ok-found.ensures.says zs here)) in
-    others_found (λ (sections : List (List Line)) found. found ≡ Some fault) (AreOfCases (map (step_case m c.args.refuter.now.base) inv)) read (front ++ p ∷ []) (many_at one (length inv - (c.loop-k.k + 1))) c.check_section.new.reader c.skip_sections.new.reader _ (g.S.Source.remaining c.skip_sections.new.from) (Ok (Some fault)) further
-    (λ zs here. let (sections, rest, whole, any, left) = rw c.len.ensures at (c.in_ok-skip_sections.ensures.says zs here) in (sections, rest, whole, refl, left))
-    (λ more x same. subst (λ o. AreOfCases (map (step_case m c.args.refuter.now.base) inv) ((front ++ p ∷ []) ++ more) o) (sym same) (next_refused (step_case m c.args.refuter.now.base) inv c.loop-k.k c.list-clause.result.now case front more p fault (rw c.len-k-end.ensures at c.loop-k-test.true) is are judged))
+    let (p, judged, further) = many_goes_with (IsOfCase case) one read front (length inv) c.loop-k.k (Some fault) c.loop-k.reader c.check_section.new.reader zs us (rw c.len-k-end.ensures at c.loop-k-test.true) still
+    (subst (λ o. FindsWith (IsOfCase case) (one (c.loop-k.reader ++ zs)) (Ok o) c.check_section.new.reader us) c.in-Some.is section) in (
+      ys,
+      before,
+      others_found (λ (sections : List (List Line)) found. found ≡ Some fault) (AreOfCases (map (step_case m c.args.refuter.now.base) inv)) read (front ++ p ∷ []) (many_at one (length inv - (c.loop-k.k + 1))) c.check_section.new.reader c.skip_sections.new.reader us later (Ok (Some fault)) further
+          (let (sections, whole, any) = rw c.len.ensures at skipped in (sections, whole, refl))
+          (λ more x same. subst (λ o. AreOfCases (map (step_case m c.args.refuter.now.base) inv) ((front ++ p ∷ []) ++ more) o) (sym same) (next_refused (step_case m c.args.refuter.now.base) inv c.loop-k.k c.list-clause.result.now case front more p fault (rw c.len-k-end.ensures at c.loop-k-test.true) is are judged)),
+    )
 
 pub loop-k-preserved : goal.loop-k-preserved
 loop-k-preserved g c =
@@ -63,7 +78,9 @@ loop-k-preserved g c =
       steady = search rules;
       fresh = subst (λ o. IfNone o (c.check_section.new.refuter.refusal ≡ None)) none c.in_ok-found.ensures.fresh;
       base = c.in_ok-found.ensures.base ∙ c.loop-k.invariant.base;
-      reads = λ ys known.
+      reads = λ text later left.
+          let (zs, between, section) = c.in_ok-found.ensures.says text later left in
+          let (ys, before, (front, are, still)) = c.loop-k.invariant.reads text zs between in
           let m = c.args.circuit.now in
           let inv = c.args.invariant.now in
           let one = section_at 115 in
@@ -71,16 +88,15 @@ loop-k-preserved g c =
           let case : Case = record { base = c.loop-k.refuter.base; units = c.as_slice.result.now } in
           let is : case ≡ step_case m c.args.refuter.now.base (get_or inv c.loop-k.k c.list-clause.result.now) =
           step_here m c.args.refuter.now.base inv c.loop-k.k c.list-clause.result.now c.list-clause.result.now c.loop-k.refuter.base c.as_slice.result.now (c.list-clause.ensures ∙ get_or_default c.args.invariant.now c.loop-k.k [] c.list-clause.result.now (rw c.len-k-end.ensures at c.loop-k-test.true)) refl c.loop-k.invariant.base (c.as_slice.ensures.value ∙ c.in_ok-step_units_into.ensures.units) in
-          let (front, are, still) = c.loop-k.invariant.reads ys known in
-          let (p, judged, further) = many_goes_with (IsOfCase case) one read front (length inv) c.loop-k.k None c.loop-k.reader c.check_section.new.reader _ (g.S.Source.remaining c.check_section.new.from) (rw c.len-k-end.ensures at c.loop-k-test.true) still
-          (λ zs here. subst (λ o. FindsWith (IsOfCase case) (one (c.loop-k.reader ++ zs)) (Ok o) c.check_section.new.reader (g.S.Source.remaining c.check_section.new.from)) none (c.in_ok-found.ensures.says zs here)) in
-          (front ++ p ∷ [], next_proof (step_case m c.args.refuter.now.base) inv c.loop-k.k c.list-clause.result.now case front p (rw c.len-k-end.ensures at c.loop-k-test.true) is are judged, further);
+          let (p, judged, further) = many_goes_with (IsOfCase case) one read front (length inv) c.loop-k.k None c.loop-k.reader c.check_section.new.reader zs later (rw c.len-k-end.ensures at c.loop-k-test.true) still
+          (subst (λ o. FindsWith (IsOfCase case) (one (c.loop-k.reader ++ zs)) (Ok o) c.check_section.new.reader later) none section) in
+          (ys, before, (front ++ p ∷ [], next_proof (step_case m c.args.refuter.now.base) inv c.loop-k.k c.list-clause.result.now case front p (rw c.len-k-end.ensures at c.loop-k-test.true) is are judged, further));
     }
 
 pub returns-clause-says : goal.returns-clause-says
-returns-clause-says g c ys known =
+returns-clause-says g c text later left =
+    let (ys, before, (front, are, still)) = c.loop-k.invariant.reads text later left in
     let inv = c.args.invariant.now in
     let read = many_at (section_at 115) (length inv) (c.args.reader.now ++ ys) in
-    let (front, are, still) = c.loop-k.invariant.reads ys known in
-    let (rest, is, left) = many_read (section_at 115) read front (length inv) c.loop-k.k c.loop-k.reader (g.S.Source.remaining c.loop-k.from) (rw c.len-k-end.ensures at c.loop-k-test.false) still in
-    (front, rest, is, all_proofs (step_case c.args.circuit.now c.args.refuter.now.base) inv c.loop-k.k front (rw c.len-k-end.ensures at c.loop-k-test.false) are, left)
+    let is = many_read (section_at 115) read front (length inv) c.loop-k.k c.loop-k.reader later (rw c.len-k-end.ensures at c.loop-k-test.false) still in
+    (ys, before, (front, is, all_proofs (step_case c.args.circuit.now c.args.refuter.now.base) inv c.loop-k.k front (rw c.len-k-end.ensures at c.loop-k-test.false) are))

@@ -7,16 +7,28 @@ pub check_parts-requires-clause-invariant : goal.check_parts-requires-clause-inv
 check_parts-requires-clause-invariant g c = invariant_from c.args.circuit.now c.args.invariant.now c.well_formed-2.ensures c.requires.few c.in-Ok.ensures.good
 
 pub returns-in-None-clause-says : goal.returns-in-None-clause-says
-returns-in-None-clause-says g c ys p known =
-    parts_found c.args.circuit.now c.args.bad c.args.version p c.args.invariant.now (c.args.reader.now ++ ys) c.check_parts.new.reader (g.S.Source.remaining c.check_parts.new.from) c.in_ok-found-in-Ok.found None c.requires.few c.in-Ok.ensures.good
-    (sym (ap number c.in-None.is)) (c.in_ok-found-in-Ok.ensures.says ys p known)
+returns-in-None-clause-says g c text later left =
+    let (ys, before, has) = c.in_ok-found-in-Ok.ensures.says text later left in (
+      ys,
+      before,
+      λ p. parts_found c.args.circuit.now c.args.bad c.args.version p c.args.invariant.now (c.args.reader.now ++ ys) c.check_parts.new.reader later c.in_ok-found-in-Ok.found None c.requires.few c.in-Ok.ensures.good
+          (sym (ap number c.in-None.is)) (has p),
+    )
 
 pub returns-in-Ok-clause-says : goal.returns-in-Ok-clause-says
-returns-in-Ok-clause-says g c ys p known =
-    parts_found c.args.circuit.now c.args.bad c.args.version p c.args.invariant.now (c.args.reader.now ++ ys) c.check_parts.new.reader (g.S.Source.remaining c.check_parts.new.from) c.in_ok-found-in-Ok.found (Some c.number.result) c.requires.few c.in-Ok.ensures.good
-    (ap (λ (n : ℕ). Some n) c.number.ensures ∙ sym (ap number c.in-Some.is)) (c.in_ok-found-in-Ok.ensures.says ys p known)
+returns-in-Ok-clause-says g c text later left =
+    let (ys, before, has) = c.in_ok-found-in-Ok.ensures.says text later left in (
+      ys,
+      before,
+      λ p. parts_found c.args.circuit.now c.args.bad c.args.version p c.args.invariant.now (c.args.reader.now ++ ys) c.check_parts.new.reader later c.in_ok-found-in-Ok.found (Some c.number.result) c.requires.few c.in-Ok.ensures.good
+          (ap (λ (n : ℕ). Some n) c.number.ensures ∙ sym (ap number c.in-Some.is)) (has p),
+    )
 
 pub returns-clause-says : goal.returns-clause-says
-returns-clause-says g c ys p known =
-    parts_refused c.args.circuit.now c.args.bad c.args.version p c.args.invariant.now (c.args.reader.now ++ ys) c.skip_parts.new.reader (g.S.Source.remaining c.skip_parts.new.from) c.in-Err.error c.skip_parts.result c.requires.few
-    (λ k is counts. c.in-Err.ensures.refused c.args.bad k is counts) (rw c.len.ensures at (c.skip_parts.ensures.says ys p c.args.invariant.now known))
+returns-clause-says g c text later left =
+    let (ys, before, skips) = c.skip_parts.ensures.says text later left in (
+      ys,
+      before,
+      λ p. parts_refused c.args.circuit.now c.args.bad c.args.version p c.args.invariant.now (c.args.reader.now ++ ys) c.skip_parts.new.reader later c.in-Err.error c.skip_parts.result c.requires.few
+          (λ k is counts. c.in-Err.ensures.refused c.args.bad k is counts) (rw c.len.ensures at (skips p c.args.invariant.now)),
+    )

@@ -11,29 +11,41 @@ pub check_for-requires-clause-bad : goal.check_for-requires-clause-bad
 check_for-requires-clause-bad g c = closing_used c.args.circuit.now c.in-Ok.shadow c.args.n c.bad.result.now c.in-Ok.ensures.shadow c.bad.ensures
 
 pub returns-in-Ok-clause-says : goal.returns-in-Ok-clause-says
-returns-in-Ok-clause-says g c ys known =
+returns-in-Ok-clause-says g c text later left =
     let m = c.args.circuit.now in
     let n = c.args.n in
     let inv = c.args.invariant.now in
-    found_here m c.in-Ok.shadow _ c.args.version (Justice n) (length inv) inv (c.args.reader.now ++ ys) c.check_for.new.reader (g.S.Source.remaining c.check_for.new.from) c.check_for.result
-    (record { exists = c.in-Ok.ensures.exists; within = c.in-Ok.ensures.within }) c.in-Ok.ensures.shadow (closing_is m c.in-Ok.shadow n c.bad.result.now c.in-Ok.ensures.shadow c.bad.ensures)
-    (c.check_for.ensures.says ys (Justice n) known)
+    let (ys, before, found) = c.check_for.ensures.says text later left in (
+      ys,
+      before,
+      found_here m c.in-Ok.shadow _ c.args.version (Justice n) (length inv) inv (c.args.reader.now ++ ys) c.check_for.new.reader later c.check_for.result
+          (record { exists = c.in-Ok.ensures.exists; within = c.in-Ok.ensures.within }) c.in-Ok.ensures.shadow (closing_is m c.in-Ok.shadow n c.bad.result.now c.in-Ok.ensures.shadow c.bad.ensures)
+          (found (Justice n)),
+    )
 
 pub returns-in-Err-NoProperty-clause-says : goal.returns-in-Err-NoProperty-clause-says
-returns-in-Err-NoProperty-clause-says g c ys known =
+returns-in-Err-NoProperty-clause-says g c text later left =
     let m = c.args.circuit.now in
     let n = c.args.n in
     let inv = c.args.invariant.now in
     let none : HasProperty m (Justice n) → ⊥ = search rules in
-    refused_here m (NoProperty n) c.args.version (Justice n) (length inv) inv (c.args.reader.now ++ ys) c.skip_parts.new.reader (g.S.Source.remaining c.skip_parts.new.from) c.skip_parts.result
-    (no_such m (Justice n) (NoProperty n) refl none) (rw c.len-count.ensures at (c.skip_parts.ensures.says ys (Justice n) inv known))
+    let (ys, before, skips) = c.skip_parts.ensures.says text later left in (
+      ys,
+      before,
+      refused_here m (NoProperty n) c.args.version (Justice n) (length inv) inv (c.args.reader.now ++ ys) c.skip_parts.new.reader later c.skip_parts.result
+          (no_such m (Justice n) (NoProperty n) refl none) (rw c.len-count.ensures at (skips (Justice n) inv)),
+    )
 
 pub returns-in-Err-Limit-clause-says : goal.returns-in-Err-Limit-clause-says
-returns-in-Err-Limit-clause-says g c ys known =
+returns-in-Err-Limit-clause-says g c text later left =
     let m = c.args.circuit.now in
     let n = c.args.n in
     let inv = c.args.invariant.now in
     let there : n < length m.justice = search rules in
     let many : 4194303 < (shadow_of m n).max_var = search rules in
-    refused_here m Limit c.args.version (Justice n) (length inv) inv (c.args.reader.now ++ ys) c.skip_parts-in-Err-Limit.new.reader (g.S.Source.remaining c.skip_parts-in-Err-Limit.new.from) c.skip_parts-in-Err-Limit.result
-    (too_many m n there many) (rw c.len-count.ensures at (c.skip_parts-in-Err-Limit.ensures.says ys (Justice n) inv known))
+    let (ys, before, skips) = c.skip_parts-in-Err-Limit.ensures.says text later left in (
+      ys,
+      before,
+      refused_here m Limit c.args.version (Justice n) (length inv) inv (c.args.reader.now ++ ys) c.skip_parts-in-Err-Limit.new.reader later c.skip_parts-in-Err-Limit.result
+          (too_many m n there many) (rw c.len-count.ensures at (skips (Justice n) inv)),
+    )

@@ -10,46 +10,61 @@ use Rattle.checker.proofs.TextParts.{behind_lemmas, lemmas_stop, made, sections_
 use Rattle.checker.proofs.certificate_text.check_lemmas_and_cases.Goals as goal
 
 pub returns-in_err-found-clause-says : goal.returns-in_err-found-clause-says
-returns-in_err-found-clause-says g c ys p known =
+returns-in_err-found-clause-says g c text later left =
     let m = c.args.circuit.now in
     let inv = c.args.invariant.now in
-    let bytes : List ℕ = c.args.reader.now ++ ys in
     let e = c.in_err-found.field-0.0 in
-    err_finds (HasSections m c.args.bad) (parts_at c.args.version p (length inv) inv bytes) _ e c.share_lemmas.new.reader (g.S.Source.remaining c.share_lemmas.new.from) c.from_residual.ensures.1
-    (lemmas_stop c.args.version p (length inv) inv bytes e (c.in_err-found.ensures.says ys m inv known c.requires.shared))
+    let (ys, before, refused) = c.in_err-found.ensures.says text later left in
+    let bytes : List ℕ = c.args.reader.now ++ ys in (
+      ys,
+      before,
+      λ p. err_finds (HasSections m c.args.bad) (parts_at c.args.version p (length inv) inv bytes) _ e c.share_lemmas.new.reader later c.from_residual.ensures.1
+          (lemmas_stop c.args.version p (length inv) inv bytes e (refused m inv c.requires.shared)),
+    )
 
 -- ---- the lemmas are refused
 
 pub returns-in_err-skip_cases-clause-says : goal.returns-in_err-skip_cases-clause-says
-returns-in_err-skip_cases-clause-says g c ys p known =
+returns-in_err-skip_cases-clause-says g c text later left =
     let m = c.args.circuit.now in
     let inv = c.args.invariant.now in
     let n = length inv in
     let b = c.share_lemmas.new.refuter.base in
     let v = c.args.version in
-    let bytes : List ℕ = c.args.reader.now ++ ys in
     let e = c.in_err-skip_cases.field-0.0 in
     let P = HasSections m c.args.bad in
-    let first = subst (λ o. FindsWith (AreTaken m inv b) (lemmas_at v bytes) (Ok o) c.share_lemmas.new.reader (g.S.Source.remaining c.share_lemmas.new.from)) c.in-Some.is (c.in_ok-found.ensures.says ys m inv known c.requires.shared) in
-    behind_lemmas (AreTaken m inv b) P v p n inv bytes c.share_lemmas.new.reader c.skip_cases.new.reader (g.S.Source.remaining c.share_lemmas.new.from) (g.S.Source.remaining c.skip_cases.new.from) (Some c.in-Some.fault) c.from_residual-in_err-skip_cases.result first
-    (λ l zs are here. err_finds P (then_sections p n inv l (c.share_lemmas.new.reader ++ zs)) _ e c.skip_cases.new.reader (g.S.Source.remaining c.skip_cases.new.from) c.from_residual-in_err-skip_cases.ensures.1
-    (sections_stop p n inv l (c.share_lemmas.new.reader ++ zs) e (rw c.len.ensures at (c.in_err-skip_cases.ensures.says zs here))))
+    let (zs, between, refused) = c.in_err-skip_cases.ensures.says text later left in
+    let (ys, before, taken) = c.in_ok-found.ensures.says text zs between in
+    let bytes : List ℕ = c.args.reader.now ++ ys in
+    let first = subst (λ o. FindsWith (AreTaken m inv b) (lemmas_at v bytes) (Ok o) c.share_lemmas.new.reader zs) c.in-Some.is (taken m inv c.requires.shared) in (
+      ys,
+      before,
+      λ p. behind_lemmas (AreTaken m inv b) P v p n inv bytes c.share_lemmas.new.reader c.skip_cases.new.reader zs later (Some c.in-Some.fault) c.from_residual-in_err-skip_cases.result first
+          (λ l are. err_finds P (then_sections p n inv l (c.share_lemmas.new.reader ++ zs)) _ e c.skip_cases.new.reader later c.from_residual-in_err-skip_cases.ensures.1
+          (sections_stop p n inv l (c.share_lemmas.new.reader ++ zs) e (rw c.len.ensures at refused))),
+    )
 
 pub returns-in-Some-clause-says : goal.returns-in-Some-clause-says
-returns-in-Some-clause-says g c ys p known =
+returns-in-Some-clause-says g c text later left =
     let m = c.args.circuit.now in
     let inv = c.args.invariant.now in
     let n = length inv in
     let b = c.share_lemmas.new.refuter.base in
     let v = c.args.version in
-    let bytes : List ℕ = c.args.reader.now ++ ys in
     let fault = c.in-Some.fault in
     let P = HasSections m c.args.bad in
-    let first = subst (λ o. FindsWith (AreTaken m inv b) (lemmas_at v bytes) (Ok o) c.share_lemmas.new.reader (g.S.Source.remaining c.share_lemmas.new.from)) c.in-Some.is (c.in_ok-found.ensures.says ys m inv known c.requires.shared) in
-    behind_lemmas (AreTaken m inv b) P v p n inv bytes c.share_lemmas.new.reader c.skip_cases.new.reader (g.S.Source.remaining c.share_lemmas.new.from) (g.S.Source.remaining c.skip_cases.new.from) (Some fault) (Ok (Some fault)) first
-    (λ l zs are here. sections_made (λ sections x. x ≡ Some fault) P p n inv l (c.share_lemmas.new.reader ++ zs) c.skip_cases.new.reader (g.S.Source.remaining c.skip_cases.new.from) (Ok (Some fault))
-    (λ ss x same. subst (λ o. P (made p inv l ss) o) (sym same) (lemmas_refused m c.args.bad (made p inv l ss) b fault are))
-    (let (ss, rest, is, u, left) = rw c.len.ensures at (c.in_ok-skip_cases.ensures.says zs here) in (ss, rest, is, refl, left)))
+    let (zs, between, skips) = rw c.len.ensures at (c.in_ok-skip_cases.ensures.says text later left) in
+    let (ss, is, u) = skips in
+    let (ys, before, taken) = c.in_ok-found.ensures.says text zs between in
+    let bytes : List ℕ = c.args.reader.now ++ ys in
+    let first = subst (λ o. FindsWith (AreTaken m inv b) (lemmas_at v bytes) (Ok o) c.share_lemmas.new.reader zs) c.in-Some.is (taken m inv c.requires.shared) in (
+      ys,
+      before,
+      λ p. behind_lemmas (AreTaken m inv b) P v p n inv bytes c.share_lemmas.new.reader c.skip_cases.new.reader zs later (Some fault) (Ok (Some fault)) first
+          (λ l are. sections_made (λ sections x. x ≡ Some fault) P p n inv l (c.share_lemmas.new.reader ++ zs) c.skip_cases.new.reader later (Ok (Some fault))
+          (λ ss x same. subst (λ o. P (made p inv l ss) o) (sym same) (lemmas_refused m c.args.bad (made p inv l ss) b fault are))
+          (ss, is, refl)),
+    )
 
 -- ---- the lemmas are shared
 
@@ -57,16 +72,21 @@ pub check_cases-requires-clause-vars : goal.check_cases-requires-clause-vars
 check_cases-requires-clause-vars g c = c.in_ok-found.ensures.vars ∙ ap (λ (r : Course). r.base.vars) c.requires.shared
 
 pub returns-clause-says : goal.returns-clause-says
-returns-clause-says g c ys p known =
+returns-clause-says g c text later left =
     let m = c.args.circuit.now in
     let inv = c.args.invariant.now in
     let n = length inv in
     let b = c.share_lemmas.new.refuter.base in
     let v = c.args.version in
-    let bytes : List ℕ = c.args.reader.now ++ ys in
     let P = HasSections m c.args.bad in
     let none : c.in_ok-found.found ≡ None = search rules in
-    let first = subst (λ o. FindsWith (AreTaken m inv b) (lemmas_at v bytes) (Ok o) c.share_lemmas.new.reader (g.S.Source.remaining c.share_lemmas.new.from)) none (c.in_ok-found.ensures.says ys m inv known c.requires.shared) in
-    behind_lemmas (AreTaken m inv b) P v p n inv bytes c.share_lemmas.new.reader c.check_cases.new.reader (g.S.Source.remaining c.share_lemmas.new.from) (g.S.Source.remaining c.check_cases.new.from) None c.check_cases.result first
-    (λ l zs shared here. sections_made (AreOfCases (cases m b inv c.args.bad)) P p n inv l (c.share_lemmas.new.reader ++ zs) c.check_cases.new.reader (g.S.Source.remaining c.check_cases.new.from) c.check_cases.result
-    (λ ss x are. has_sections m c.args.bad (made p inv l ss) b x shared are) (c.check_cases.ensures.says zs here))
+    let (zs, between, are) = c.check_cases.ensures.says text later left in
+    let (ys, before, taken) = c.in_ok-found.ensures.says text zs between in
+    let bytes : List ℕ = c.args.reader.now ++ ys in
+    let first = subst (λ o. FindsWith (AreTaken m inv b) (lemmas_at v bytes) (Ok o) c.share_lemmas.new.reader zs) none (taken m inv c.requires.shared) in (
+      ys,
+      before,
+      λ p. behind_lemmas (AreTaken m inv b) P v p n inv bytes c.share_lemmas.new.reader c.check_cases.new.reader zs later None c.check_cases.result first
+          (λ l shared. sections_made (AreOfCases (cases m b inv c.args.bad)) P p n inv l (c.share_lemmas.new.reader ++ zs) c.check_cases.new.reader later c.check_cases.result
+          (λ ss x are. has_sections m c.args.bad (made p inv l ss) b x shared are) are),
+    )

@@ -7,14 +7,18 @@ use Rattle.checker.proofs.TextFound.{found_here, no_such, refused_here}
 use Rattle.checker.proofs.certificate_text.check_property.Goals as goal
 
 pub returns-then-not-has_property-clause-says : goal.returns-then-not-has_property-clause-says
-returns-then-not-has_property-clause-says g c ys known =
+returns-then-not-has_property-clause-says g c text later left =
     let m = c.args.circuit.now in
     let p = c.args.property in
     let inv = c.args.invariant.now in
     let e = c.no_property-error.result in
     let none : HasProperty m p → ⊥ = search rules in
-    refused_here m e c.args.version p (length inv) inv (c.args.reader.now ++ ys) c.skip_parts.new.reader (g.S.Source.remaining c.skip_parts.new.from) c.skip_parts.result
-    (no_such m p e c.no_property-error.ensures none) (rw c.len.ensures at (c.skip_parts.ensures.says ys p inv known))
+    let (ys, before, skips) = c.skip_parts.ensures.says text later left in (
+      ys,
+      before,
+      refused_here m e c.args.version p (length inv) inv (c.args.reader.now ++ ys) c.skip_parts.new.reader later c.skip_parts.result
+          (no_such m p e c.no_property-error.ensures none) (rw c.len.ensures at (skips p inv)),
+    )
 
 -- ---- a bad literal
 
@@ -24,14 +28,18 @@ check_for-requires-clause-bad g c =
     bad_used c.args.circuit.now c.args.property c.in-Bad.n c.bad.result.now c.in-Bad.is c.bad.ensures there
 
 pub returns-in-Bad-clause-says : goal.returns-in-Bad-clause-says
-returns-in-Bad-clause-says g c ys known =
+returns-in-Bad-clause-says g c text later left =
     let m = c.args.circuit.now in
     let p = c.args.property in
     let inv = c.args.invariant.now in
     let there : HasProperty m p = search rules in
     let circuit : m ≡ circuit_of m p = ap (circuit_of m) (sym c.in-Bad.is) in
-    found_here m m _ c.args.version p (length inv) inv (c.args.reader.now ++ ys) c.check_for.new.reader (g.S.Source.remaining c.check_for.new.from) c.check_for.result
-    (showable_here m p c.parts.ensures.well_formed circuit there) circuit (bad_is m p c.in-Bad.n c.bad.result.now c.in-Bad.is c.bad.ensures) (c.check_for.ensures.says ys p known)
+    let (ys, before, found) = c.check_for.ensures.says text later left in (
+      ys,
+      before,
+      found_here m m _ c.args.version p (length inv) inv (c.args.reader.now ++ ys) c.check_for.new.reader later c.check_for.result
+          (showable_here m p c.parts.ensures.well_formed circuit there) circuit (bad_is m p c.in-Bad.n c.bad.result.now c.in-Bad.is c.bad.ensures) (found p),
+    )
 
 -- ---- an output
 
@@ -41,11 +49,15 @@ check_for-requires-in-Output-clause-bad g c =
     output_used c.args.circuit.now c.args.property c.in-Output.n c.outputs.result.now c.in-Output.is c.outputs.ensures there
 
 pub returns-in-Output-clause-says : goal.returns-in-Output-clause-says
-returns-in-Output-clause-says g c ys known =
+returns-in-Output-clause-says g c text later left =
     let m = c.args.circuit.now in
     let p = c.args.property in
     let inv = c.args.invariant.now in
     let there : HasProperty m p = search rules in
     let circuit : m ≡ circuit_of m p = ap (circuit_of m) (sym c.in-Output.is) in
-    found_here m m _ c.args.version p (length inv) inv (c.args.reader.now ++ ys) c.check_for-in-Output.new.reader (g.S.Source.remaining c.check_for-in-Output.new.from) c.check_for-in-Output.result
-    (showable_here m p c.parts.ensures.well_formed circuit there) circuit (output_is m p c.in-Output.n c.outputs.result.now c.in-Output.is c.outputs.ensures) (c.check_for-in-Output.ensures.says ys p known)
+    let (ys, before, found) = c.check_for-in-Output.ensures.says text later left in (
+      ys,
+      before,
+      found_here m m _ c.args.version p (length inv) inv (c.args.reader.now ++ ys) c.check_for-in-Output.new.reader later c.check_for-in-Output.result
+          (showable_here m p c.parts.ensures.well_formed circuit there) circuit (output_is m p c.in-Output.n c.outputs.result.now c.in-Output.is c.outputs.ensures) (found p),
+    )

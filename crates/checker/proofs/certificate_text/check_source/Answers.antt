@@ -1,8 +1,9 @@
-use Rattle.std.proofs.Common.{◌≡◌}
+use Rattle.std.proofs.Common.{◌≡◌, ◌++◌}
 use Rattle.aiger.proofs.LayoutLaws.{match_gives}
 use Rattle.certificate.specs.declared.certificate.Certificate.{Certificate}
 use Rattle.certificate.specs.Streams.{ForText}
 use Rattle.certificate.specs.Texts.{SpellsCertificate}
+use Rattle.certificate.proofs.StreamLaws.{over}
 use Rattle.checker.specs.declared.certificate_text.Outcome.{Outcome}
 use Rattle.checker.specs.Streamed.{IsFound}
 use Rattle.checker.proofs.TextFound.{text_goes_on, text_refused, text_whole}
@@ -10,20 +11,36 @@ use Rattle.checker.proofs.certificate_text.check_source.Goals as goal
 
 -- the text is refused before its end, behind it, and it is whole
 pub returns-in_err-outcome-clause-says : goal.returns-in_err-outcome-clause-says
-returns-in_err-outcome-clause-says g c ys known =
+returns-in_err-outcome-clause-says g c text later left =
     let e = c.in_err-outcome.field-0.0 in
-    match_gives (λ (found : Outcome). (d : Certificate) × SpellsCertificate ys d × (found.property ≡ d.property) × IsFound c.args.circuit.now d found.refusal) (λ x. ForText x ((d : Certificate) → SpellsCertificate ys d → ⊥)) c.from_residual-in_err-outcome.result e c.from_residual-in_err-outcome.ensures.1
-    (text_refused c.in_ok-reader.reader ys e c.in_ok-reader.ensures (c.in_err-outcome.ensures.says ys known))
+    let (ys, before, refused) = c.in_err-outcome.ensures.says text later left in (
+      ys,
+      before,
+      match_gives (λ (found : Outcome). (d : Certificate) × SpellsCertificate ys d × (found.property ≡ d.property) × IsFound c.args.circuit.now d found.refusal) (λ x. ForText x ((d : Certificate) → SpellsCertificate ys d → ⊥)) c.from_residual-in_err-outcome.result e c.from_residual-in_err-outcome.ensures.1
+          (text_refused c.in_ok-reader.reader ys e c.in_ok-reader.ensures refused),
+    )
 
 pub returns-in_err-end-clause-says : goal.returns-in_err-end-clause-says
-returns-in_err-end-clause-says g c ys known =
+returns-in_err-end-clause-says g c text later left =
     let e = c.in_err-end.field-0.0 in
     let P = λ (d : Certificate) (found : Outcome). (found.property ≡ d.property) × IsFound c.args.circuit.now d found.refusal in
-    match_gives (λ (found : Outcome). (d : Certificate) × SpellsCertificate ys d × (found.property ≡ d.property) × IsFound c.args.circuit.now d found.refusal) (λ x. ForText x ((d : Certificate) → SpellsCertificate ys d → ⊥)) c.from_residual-in_err-end.result e c.from_residual-in_err-end.ensures.1
-    (text_goes_on P c.in_ok-reader.reader c.check_text.new.reader ys (g.S.Source.remaining c.check_text.new.from) c.in_ok-outcome.outcome e c.in_ok-reader.ensures (c.in_ok-outcome.ensures.says ys known) (λ zs here. c.in_err-end.ensures.says zs here))
+    let (zs, between, more) = c.in_err-end.ensures.says text later left in
+    let (ys, before, found) = c.in_ok-outcome.ensures.says text zs between in (
+      ys,
+      before,
+      match_gives (λ (found : Outcome). (d : Certificate) × SpellsCertificate ys d × (found.property ≡ d.property) × IsFound c.args.circuit.now d found.refusal) (λ x. ForText x ((d : Certificate) → SpellsCertificate ys d → ⊥)) c.from_residual-in_err-end.result e c.from_residual-in_err-end.ensures.1
+          (text_goes_on P c.in_ok-reader.reader c.check_text.new.reader ys zs c.in_ok-outcome.outcome e c.in_ok-reader.ensures found more),
+    )
 
 pub returns-clause-says : goal.returns-clause-says
-returns-clause-says g c ys known =
+returns-clause-says g c text later left =
     let P = λ (d : Certificate) (found : Outcome). (found.property ≡ d.property) × IsFound c.args.circuit.now d found.refusal in
-    let (d, spelled, both) = text_whole P c.in_ok-reader.reader c.check_text.new.reader c.end.new.self ys (g.S.Source.remaining c.check_text.new.from) (g.S.Source.remaining c.end.new.from) c.in_ok-outcome.outcome c.in_ok-reader.ensures (c.in_ok-outcome.ensures.says ys known) (λ zs here. c.in_ok-end.ensures.says zs here) in
-    (d, spelled, both.0, both.1)
+    let (zs, between, ended) = c.in_ok-end.ensures.says text later left in
+    let (ys, before, found) = c.in_ok-outcome.ensures.says text zs between in
+    let (d, spelled, both) = text_whole P c.in_ok-reader.reader c.check_text.new.reader c.end.new.self ys zs later c.in_ok-outcome.outcome c.in_ok-reader.ensures found ended in
+    (ys, before, (d, spelled, both.0, both.1))
+
+pub returns-clause-ended : goal.returns-clause-ended
+returns-clause-ended g c text later left =
+    let (zs, between, ended) = c.in_ok-end.ensures.says text later left in
+    over (c.check_text.new.reader ++ zs) c.end.new.self later ended

@@ -8,14 +8,23 @@ use Rattle.checker.proofs.TextParts.{no_lemmas, some_lemmas}
 use Rattle.checker.proofs.certificate_text.share_lemmas.Goals as goal
 
 pub returns-in-One-clause-says : goal.returns-in-One-clause-says
-returns-in-One-clause-says g c ys m inv known begun =
-    let b = c.args.refuter.now.base in
-    subst (λ v. FindsWith (AreTaken m inv b) (lemmas_at v (c.args.reader.now ++ ys)) (Ok None) c.args.reader.now (g.S.Source.remaining c.args.from.now)) (sym c.in-One.is)
-    (no_lemmas (AreTaken m inv b) None c.args.reader.now (g.S.Source.remaining c.args.from.now) ys known (ap (λ (r : Course). r.base) begun))
+returns-in-One-clause-says g c text later left = (
+  later,
+  left,
+  λ m inv begun.
+      let b = c.args.refuter.now.base in
+      subst (λ v. FindsWith (AreTaken m inv b) (lemmas_at v (c.args.reader.now ++ later)) (Ok None) c.args.reader.now later) (sym c.in-One.is)
+      (no_lemmas (AreTaken m inv b) None c.args.reader.now later (ap (λ (r : Course). r.base) begun)),
+)
 
 pub returns-in-Two-clause-says : goal.returns-in-Two-clause-says
-returns-in-Two-clause-says g c ys m inv known begun =
+returns-in-Two-clause-says g c text later left =
     let r = c.args.refuter.now in
     let b = c.take_lemmas.new.refuter.base in
-    subst (λ v. FindsWith (AreTaken m inv b) (lemmas_at v (c.args.reader.now ++ ys)) c.take_lemmas.result c.take_lemmas.new.reader (g.S.Source.remaining c.take_lemmas.new.from)) (sym c.in-Two.is)
-    (some_lemmas (AreLemmas r.base.vars r.stage b) (AreTaken m inv b) (c.args.reader.now ++ ys) c.take_lemmas.new.reader (g.S.Source.remaining c.take_lemmas.new.from) c.take_lemmas.result (taken_from m inv r b begun) (c.take_lemmas.ensures.says ys known))
+    let (ys, before, taken) = c.take_lemmas.ensures.says text later left in (
+      ys,
+      before,
+      λ m inv begun.
+          subst (λ v. FindsWith (AreTaken m inv b) (lemmas_at v (c.args.reader.now ++ ys)) c.take_lemmas.result c.take_lemmas.new.reader later) (sym c.in-Two.is)
+          (some_lemmas (AreLemmas r.base.vars r.stage b) (AreTaken m inv b) (c.args.reader.now ++ ys) c.take_lemmas.new.reader later c.take_lemmas.result (taken_from m inv r b begun) taken),
+    )

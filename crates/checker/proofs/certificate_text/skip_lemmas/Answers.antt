@@ -5,11 +5,18 @@ use Rattle.checker.proofs.TextParts.{no_lemmas, some_lemmas}
 use Rattle.checker.proofs.certificate_text.skip_lemmas.Goals as goal
 
 pub returns-in-One-clause-says : goal.returns-in-One-clause-says
-returns-in-One-clause-says g c ys known =
-    subst (λ v. FindsWith (λ lemmas x. Unit {0}) (lemmas_at v (c.args.reader.now ++ ys)) (Ok (tt {0})) c.args.reader.now (g.S.Source.remaining c.args.from.now)) (sym c.in-One.is)
-    (no_lemmas (λ lemmas x. Unit {0}) (tt {0}) c.args.reader.now (g.S.Source.remaining c.args.from.now) ys known tt)
+returns-in-One-clause-says g c text later left = (
+  later,
+  left,
+  subst (λ v. FindsWith (λ lemmas x. Unit {0}) (lemmas_at v (c.args.reader.now ++ later)) (Ok (tt {0})) c.args.reader.now later) (sym c.in-One.is)
+      (no_lemmas (λ lemmas x. Unit {0}) (tt {0}) c.args.reader.now later tt),
+)
 
 pub returns-in-Two-clause-says : goal.returns-in-Two-clause-says
-returns-in-Two-clause-says g c ys known =
-    subst (λ v. FindsWith (λ lemmas x. Unit {0}) (lemmas_at v (c.args.reader.now ++ ys)) c.skip_section.result c.skip_section.new.reader (g.S.Source.remaining c.skip_section.new.from)) (sym c.in-Two.is)
-    (some_lemmas (λ lines x. Unit {0}) (λ lemmas x. Unit {0}) (c.args.reader.now ++ ys) c.skip_section.new.reader (g.S.Source.remaining c.skip_section.new.from) c.skip_section.result (λ lines x u. tt) (c.skip_section.ensures.says ys known))
+returns-in-Two-clause-says g c text later left =
+    let (ys, before, lines) = c.skip_section.ensures.says text later left in (
+      ys,
+      before,
+      subst (λ v. FindsWith (λ lemmas x. Unit {0}) (lemmas_at v (c.args.reader.now ++ ys)) c.skip_section.result c.skip_section.new.reader later) (sym c.in-Two.is)
+          (some_lemmas (λ lines x. Unit {0}) (λ lemmas x. Unit {0}) (c.args.reader.now ++ ys) c.skip_section.new.reader later c.skip_section.result (λ lines x u. tt) lines),
+    )

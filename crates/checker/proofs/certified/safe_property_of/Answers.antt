@@ -7,18 +7,30 @@ use Rattle.checker.proofs.SourceLaws.{found_none, found_some, reader_stops}
 use Rattle.checker.proofs.certified.safe_property_of.Goals as goal
 
 pub returns-in_err-outcome-clause-says : goal.returns-in_err-outcome-clause-says
-returns-in_err-outcome-clause-says g c xs ys first second =
-    match_gives (λ p. Accepts xs ys p) (IsStop (IsRefusal xs ys)) c.from_residual.result (stop_of_reader c.in_err-outcome.field-0.0) c.from_residual.ensures.1
-    (reader_stops xs ys c.args.file.now c.in_err-outcome.field-0.0 first (c.in_err-outcome.ensures.says ys second))
+returns-in_err-outcome-clause-says g c xs first text later left =
+    let (ys, before, refused) = c.in_err-outcome.ensures.says text later left in (
+      ys,
+      before,
+      match_gives (λ p. Accepts xs ys p) (IsStop (IsRefusal xs ys)) c.from_residual.result (stop_of_reader c.in_err-outcome.field-0.0) c.from_residual.ensures.1
+          (reader_stops xs ys c.args.file.now c.in_err-outcome.field-0.0 first refused),
+    )
 
 pub returns-in-None-clause-says : goal.returns-in-None-clause-says
-returns-in-None-clause-says g c xs ys first second =
-    let (cert, spells, same, found) = c.in_ok-outcome.ensures.says ys second in
-    found_none xs ys c.args.file.now cert c.in_ok-outcome.outcome.property first spells same
-    (subst (λ m. IsFound m cert None) c.model.ensures (subst (λ o. IsFound c.model.result.now cert o) c.in-None.is found))
+returns-in-None-clause-says g c xs first text later left =
+    let (ys, before, outcome) = c.in_ok-outcome.ensures.says text later left in
+    let (cert, spells, same, found) = outcome in (
+      ys,
+      before,
+      found_none xs ys c.args.file.now cert c.in_ok-outcome.outcome.property first spells same
+          (subst (λ m. IsFound m cert None) c.model.ensures (subst (λ o. IsFound c.model.result.now cert o) c.in-None.is found)),
+    )
 
 pub returns-in-Some-clause-says : goal.returns-in-Some-clause-says
-returns-in-Some-clause-says g c xs ys first second =
-    let (cert, spells, same, found) = c.in_ok-outcome.ensures.says ys second in
-    found_some xs ys c.args.file.now cert c.in-Some.number first spells
-    (subst (λ m. IsFound m cert (Some c.in-Some.number)) c.model.ensures (subst (λ o. IsFound c.model.result.now cert o) c.in-Some.is found))
+returns-in-Some-clause-says g c xs first text later left =
+    let (ys, before, outcome) = c.in_ok-outcome.ensures.says text later left in
+    let (cert, spells, same, found) = outcome in (
+      ys,
+      before,
+      found_some xs ys c.args.file.now cert c.in-Some.number first spells
+          (subst (λ m. IsFound m cert (Some c.in-Some.number)) c.model.ensures (subst (λ o. IsFound c.model.result.now cert o) c.in-Some.is found)),
+    )

@@ -12,22 +12,36 @@ use Rattle.checker.proofs.TextParts.{finds_more}
 use Rattle.checker.proofs.section_text.check_section.Goals as goal
 
 pub returns-in_err-section-clause-says : goal.returns-in_err-section-clause-says
-returns-in_err-section-clause-says g c ys known =
+returns-in_err-section-clause-says g c text later left =
     let case : Case = record { base = c.args.refuter.now.base; units = c.args.units.now } in
-    err_finds (IsOfCase case) (section_at (letter_of c.args.kind) (c.args.reader.now ++ ys)) c.from_residual.result c.in_err-section.field-0.0 c.section.new.self (g.S.Source.remaining c.section.new.from) c.from_residual.ensures.1
-    (section_refused c.args.kind c.in_err-section.field-0.0 (c.args.reader.now ++ ys) (c.in_err-section.ensures.says ys known))
+    let (ys, before, refused) = c.in_err-section.ensures.says text later left in (
+      ys,
+      before,
+      err_finds (IsOfCase case) (section_at (letter_of c.args.kind) (c.args.reader.now ++ ys)) c.from_residual.result c.in_err-section.field-0.0 c.section.new.self later c.from_residual.ensures.1
+          (section_refused c.args.kind c.in_err-section.field-0.0 (c.args.reader.now ++ ys) refused),
+    )
 
 pub returns-in-Err-clause-says : goal.returns-in-Err-clause-says
-returns-in-Err-clause-says g c ys known =
+returns-in-Err-clause-says g c text later left =
     let case : Case = record { base = c.args.refuter.now.base; units = c.args.units.now } in
     let fault = c.in-Err.fault in
-    section_finds (IsOfCase case) c.args.kind (c.args.reader.now ++ ys) c.section.new.self c.skip_refused.new.reader _ (g.S.Source.remaining c.skip_refused.new.from) c.skip_refused.result (c.in_ok-section.ensures.says ys known)
-    (λ zs here. finds_more (λ lines found. (found ≡ Some fault) × (fault ≢ OutOfMemory witness)) (IsOfCase case) (items_at item_at (c.section.new.self ++ zs)) c.skip_refused.result c.skip_refused.new.reader (g.S.Source.remaining c.skip_refused.new.from)
-    (of_begun case fault (c.in-Err.ensures.memory c.requires.fresh)) (c.skip_refused.ensures.says zs here))
+    let (zs, between, skipped) = c.skip_refused.ensures.says text later left in
+    let (ys, before, letter) = c.in_ok-section.ensures.says text zs between in (
+      ys,
+      before,
+      section_finds (IsOfCase case) c.args.kind (c.args.reader.now ++ ys) c.section.new.self c.skip_refused.new.reader zs later c.skip_refused.result letter
+          (finds_more (λ lines found. (found ≡ Some fault) × (fault ≢ OutOfMemory witness)) (IsOfCase case) (items_at item_at (c.section.new.self ++ zs)) c.skip_refused.result c.skip_refused.new.reader later
+          (of_begun case fault (c.in-Err.ensures.memory c.requires.fresh)) skipped),
+    )
 
 pub returns-clause-says : goal.returns-clause-says
-returns-clause-says g c ys known =
+returns-clause-says g c text later left =
     let case : Case = record { base = c.args.refuter.now.base; units = c.args.units.now } in
-    section_finds (IsOfCase case) c.args.kind (c.args.reader.now ++ ys) c.section.new.self c.feed_lines.new.reader _ (g.S.Source.remaining c.feed_lines.new.from) c.feed_lines.result (c.in_ok-section.ensures.says ys known)
-    (λ zs here. finds_more (IsFed c.begin.new.self.base.vars c.begin.new.self.stage) (IsOfCase case) (items_at item_at (c.section.new.self ++ zs)) c.feed_lines.result c.feed_lines.new.reader (g.S.Source.remaining c.feed_lines.new.from)
-    (fed_behind case c.in_default.ensures.few c.begin.new.self c.in_default.ensures.ok.1) (c.feed_lines.ensures.says zs here))
+    let (zs, between, fed) = c.feed_lines.ensures.says text later left in
+    let (ys, before, letter) = c.in_ok-section.ensures.says text zs between in (
+      ys,
+      before,
+      section_finds (IsOfCase case) c.args.kind (c.args.reader.now ++ ys) c.section.new.self c.feed_lines.new.reader zs later c.feed_lines.result letter
+          (finds_more (IsFed c.begin.new.self.base.vars c.begin.new.self.stage) (IsOfCase case) (items_at item_at (c.section.new.self ++ zs)) c.feed_lines.result c.feed_lines.new.reader later
+          (fed_behind case c.in_default.ensures.few c.begin.new.self c.in_default.ensures.ok.1) fed),
+    )

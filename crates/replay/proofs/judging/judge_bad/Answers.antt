@@ -14,14 +14,19 @@ use Rattle.replay.proofs.Trials.{initial_found, refused_found, reset_cause}
 use Rattle.replay.proofs.judging.judge_bad.Goals as goal
 
 pub returns-then-initial-len-clause-says : goal.returns-then-initial-len-clause-says
-returns-then-initial-len-clause-says g c ys p known watched =
+returns-then-initial-len-clause-says g c text later left =
+    let (ys, before, skipped) = c.skip_lines.ensures.says text later left in
     let m = c.args.circuit.now in
     let initial = c.args.initial.now in
     let same : c.len.result ≡ length m.latches = c.len.ensures ∙ ap (λ (q : Parts). length q.latches) c.parts-parts.ensures.parts in
-    let wrong : length initial ≢ length m.latches = λ e. c.if-initial-len.true (e ∙ sym same) in
-    finds_more (λ lines found. found ≡ Some 66) (AreFound m p initial) (items_at line_at (c.args.reader.now ++ ys)) c.skip_lines.result c.skip_lines.new.reader (g.S.Source.remaining c.skip_lines.new.from)
-    (λ lines x is. subst (AreFound m p initial lines) (sym is) (initial_found m p initial lines (watched_there m p c.args.bad watched) wrong))
-    (c.skip_lines.ensures.says ys known)
+    let wrong : length initial ≢ length m.latches = λ e. c.if-initial-len.true (e ∙ sym same) in (
+      ys,
+      before,
+      λ p watched.
+          finds_more (λ lines found. found ≡ Some 66) (AreFound m p initial) (items_at line_at (c.args.reader.now ++ ys)) c.skip_lines.result c.skip_lines.new.reader later
+          (λ lines x is. subst (AreFound m p initial lines) (sym is) (initial_found m p initial lines (watched_there m p c.args.bad watched) wrong))
+          skipped,
+    )
 
 pub play_lines-requires-clause-in_range : goal.play_lines-requires-clause-in_range
 play_lines-requires-clause-in_range g c =
@@ -32,13 +37,18 @@ play_lines-requires-clause-in_range g c =
     (subst (λ (n : Replayed). All (λ a. variable a ≤ n.circuit.max_var) m.constraints) (sym c.in-Ok.ensures.begun.0) wide)
 
 pub returns-in-Err-InitialReset-clause-says : goal.returns-in-Err-InitialReset-clause-says
-returns-in-Err-InitialReset-clause-says g c ys p known watched =
+returns-in-Err-InitialReset-clause-says g c text later left =
+    let (ys, before, refuses) = c.refuse_lines.ensures.says text later left in
     let m = c.args.circuit.now in
     let initial = c.args.initial.now in
-    let there = watched_there m p c.args.bad watched in
     let latches : length initial ≡ length m.latches = c.if-initial-len.false ∙ c.len.ensures ∙ ap (λ (q : Parts). length q.latches) c.parts-parts.ensures.parts in
     let long : c.len-long.result ≡ length m.inputs = c.len-long.ensures ∙ ap (λ (q : Parts). length q.inputs) c.parts-parts.ensures.parts in
-    let against : IsFirstAgainst m.latches initial c.in-Err-InitialReset.field-0-0 = search rules in
-    finds_more (λ more found. AreRefused 60 c.len-long.result ([] ++ more) found) (AreFound m p initial) (items_at line_at (c.args.reader.now ++ ys)) c.refuse_lines.result c.refuse_lines.new.reader (g.S.Source.remaining c.refuse_lines.new.from)
-    (λ lines x refused. refused_found m p initial 60 lines x there latches (reset_cause m p initial lines c.in-Err-InitialReset.field-0-0 there latches against) (subst (λ n. AreRefused 60 n lines x) long refused))
-    (c.refuse_lines.ensures.says ys [] known refl)
+    let against : IsFirstAgainst m.latches initial c.in-Err-InitialReset.field-0-0 = search rules in (
+      ys,
+      before,
+      λ p watched.
+          let there = watched_there m p c.args.bad watched in
+          finds_more (λ more found. AreRefused 60 c.len-long.result ([] ++ more) found) (AreFound m p initial) (items_at line_at (c.args.reader.now ++ ys)) c.refuse_lines.result c.refuse_lines.new.reader later
+          (λ lines x refused. refused_found m p initial 60 lines x there latches (reset_cause m p initial lines c.in-Err-InitialReset.field-0-0 there latches against) (subst (λ n. AreRefused 60 n lines x) long refused))
+          (refuses [] refl),
+    )

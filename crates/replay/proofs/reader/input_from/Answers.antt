@@ -9,14 +9,17 @@ use Rattle.replay.proofs.StreamLaws.{for_text, moves_from, some_taken, stuck_fro
 use Rattle.replay.proofs.reader.input_from.Goals as goal
 
 pub returns-in-Err-clause-says : goal.returns-in-Err-clause-says
-returns-in-Err-clause-says g c ys known =
+returns-in-Err-clause-says g c text later left =
+    let (ys, before, lies) = c.in_ok-n.ensures.reads text later left in
     let p = line_at in
-    let first = c.first.result.now in
-    let P = p (c.args.pieces.now ++ ys) ≡ None in
-    subst (λ e. ForText (Refused e) P) (sym c.text_error.ensures)
-    (for_text c.saturating_add.result c.in-Err.fault P (p first)
-    (λ none. stuck_from p input_of_line c.args.pieces.now c.next.new.self ys _ (g.S.Source.remaining c.next.new.from) c.in_ok-n.n known c.in_ok-n.ensures.lies (ap p (sym c.first.ensures) ∙ none))
-    c.in-Err.ensures)
+    let P = p (c.args.pieces.now ++ ys) ≡ None in (
+      ys,
+      before,
+      subst (λ e. ForText (Refused e) P) (sym c.text_error.ensures)
+          (for_text c.saturating_add.result c.in-Err.fault P (p c.first.result.now)
+          (λ none. stuck_from p input_of_line c.args.pieces.now c.next.new.self ys later c.in_ok-n.n lies (ap p (sym c.first.ensures) ∙ none))
+          c.in-Err.ensures),
+    )
 
 pub overflow_sub-taken : goal.overflow_sub-taken
 overflow_sub-taken g c =
@@ -25,11 +28,11 @@ overflow_sub-taken g c =
     omega (arith, less)
 
 pub returns-clause-says : goal.returns-clause-says
-returns-clause-says g c ys known =
+returns-clause-says g c text later left =
+    let (ys, before, lies) = c.in_ok-n.ensures.reads text later left in
     let p = line_at in
     let k = c.in_ok-n.n - length c.in-Ok.rest.now in
-    let (rest, is, left) = moves_from p input_of_line c.args.pieces.now c.next.new.self ys c.in-Ok.rest.now _ (g.S.Source.remaining c.next.new.from) c.in_ok-n.n k (line_where c.in-Ok.there c.line_or_end.new.line.items) known c.in_ok-n.ensures.lies c.in_ok-n.ensures.within refl (ap p (sym c.first.ensures) ∙ c.in-Ok.ensures) in
-    (rest, is, (left.0, left.1, left.2 ∙ ap (λ w. w ++ left.0) (sym c.skip.ensures)))
+    (ys, before, moves_from p input_of_line c.args.pieces.now c.next.new.self c.skip.new.self ys later c.in-Ok.rest.now c.in_ok-n.n k (line_where c.in-Ok.there c.line_or_end.new.line.items) lies c.in_ok-n.ensures.within refl c.skip.ensures (ap p (sym c.first.ensures) ∙ c.in-Ok.ensures))
 
 pub returns-clause-moves : goal.returns-clause-moves
 returns-clause-moves g c =
