@@ -1,14 +1,21 @@
 # Completion of aigcheck's words for Bash.
 
 _aigcheck() {
-    local word=${COMP_WORDS[COMP_CWORD]}
+    local word=${COMP_WORDS[COMP_CWORD]} before=${COMP_WORDS[COMP_CWORD - 1]} options
     COMPREPLY=()
     if [ "$COMP_CWORD" -eq 1 ]; then
         mapfile -t COMPREPLY < <(compgen -W 'safe run all --help -h --version -V' -- "$word")
         return
     fi
+    case $before in
+    -p | --property) return ;;
+    esac
+    case ${COMP_WORDS[1]} in
+    safe | run) options='-p --property --help -h' ;;
+    *) options='--help -h' ;;
+    esac
     case $word in
-    -*) mapfile -t COMPREPLY < <(compgen -W '--help -h' -- "$word") ;;
+    -*) mapfile -t COMPREPLY < <(compgen -W "$options" -- "$word") ;;
     *) mapfile -t COMPREPLY < <(compgen -f -- "$word") ;;
     esac
 }

@@ -1,11 +1,12 @@
 //! The command `all`.
 
+use crate::counts::{Counts, Shown};
 use crate::no_answer::{NoAnswer, given};
+use crate::status::FAULT;
 use aiger::read;
-use checker::{RunError, run_safe, run_stimulus};
+use checker::{RunError, run_safe_for, run_stimulus_for};
 use graph::{
-    AigerFile, FromBytes, FromRead, Property, ReadError, ReadToEndError, Sink, ToVec, ToWrite,
-    put_all, read_to_end,
+    AigerFile, FromBytes, FromRead, Property, ReadError, ReadToEndError, ToWrite, read_to_end,
 };
 use inputs::open;
 use properties::{Evidence, all_properties, evidence_name, property_name};
@@ -23,30 +24,12 @@ struct Folder<'a> {
     name: &'a str,
 }
 
-/// Puts a line.
-fn put(rt: &HostRuntime, line: &[u8]) -> Result<(), NoAnswer> {
-    put_all(&mut ToWrite::new(io::writer(rt)), line)?;
-    Ok(())
-}
-
-/// The line of a yes to a property.
-fn yes_line(rt: &HostRuntime, property: Property, evidence: Evidence) -> Result<String, NoAnswer> {
+/// Puts that the folder has no evidence about a property.
+fn put_no_evidence(rt: &HostRuntime, property: Property) -> Result<(), NoAnswer> {
     let Ok(name) = property_name(rt.alloc(), property) else {
         return Err(NoAnswer::Memory);
     };
-    let line = match evidence {
-        Evidence::Certificate => format!(in rt.alloc(); "yes safe {name}\n"),
-        Evidence::Stimulus => format!(in rt.alloc(); "yes run {name}\n"),
-    };
-    line.map_err(|_| NoAnswer::Memory)
-}
-
-/// Puts the line of a no that has a word and the property in place of a number.
-fn put_no(rt: &HostRuntime, word: &str, property: Property) -> Result<(), NoAnswer> {
-    let Ok(name) = property_name(rt.alloc(), property) else {
-        return Err(NoAnswer::Memory);
-    };
-    given(println!(rt; "no {word} {name}"))
+    given(println!(rt; "no evidence {name}"))
 }
 
 impl Folder<'_> {
@@ -66,74 +49,68 @@ impl Folder<'_> {
         }
     }
 
-    /// The answer to a file with evidence, and the line of it.
-    fn judge(
+    /// Whether a file with evidence of this kind is accepted for the property. It puts the line.
+    fn accepts(
         &self,
         rt: &HostRuntime,
-        file: File,
+        property: Property,
         evidence: Evidence,
-    ) -> Result<(bool, Vec<u8>), NoAnswer> {
+        file: File,
+    ) -> Result<bool, NoAnswer> {
         let circuit = &mut FromBytes::new(self.circuit);
         let file = &mut FromRead::new(file);
-        let mut line = ToVec::new(rt.alloc());
-        let answer = match evidence {
-            Evidence::Certificate => run_safe(rt.alloc(), circuit, file, &mut line),
-            Evidence::Stimulus => run_stimulus(rt.alloc(), circuit, file, &mut line),
+        let out = &mut ToWrite::new(io::writer(rt));
+        let yes = match evidence {
+            Evidence::Certificate => run_safe_for(rt.alloc(), property, circuit, file, out)?,
+            Evidence::Stimulus => run_stimulus_for(rt.alloc(), property, circuit, file, out)?,
         };
-        match answer {
-            Ok(yes) => Ok((yes, line.into_vec())),
-            Err(_) if line.failures() > 0 => Err(NoAnswer::Memory),
-            Err(error) => Err(NoAnswer::Call(error)),
-        }
+        Ok(yes)
     }
 
-    /// Whether the evidence of this kind shows what it should of the property, where there is some. It puts
-    /// the line that `safe` or `run` puts, but where that is a yes to another property.
+    /// Whether the evidence of this kind is accepted for the property, where there is some.
     fn answer(
         &self,
         rt: &HostRuntime,
         property: Property,
         evidence: Evidence,
     ) -> Result<Option<bool>, NoAnswer> {
-        let Some(file) = self.open(rt, property, evidence)? else {
-            return Ok(None);
-        };
-        let (yes, line) = self.judge(rt, file, evidence)?;
-        let is_named = line.as_slice() == yes_line(rt, property, evidence)?.as_bytes();
-        if yes && !is_named {
-            put_no(rt, "match", property)?;
-        } else {
-            put(rt, line.as_slice())?;
+        match self.open(rt, property, evidence)? {
+            Some(file) => Ok(Some(self.accepts(rt, property, evidence, file)?)),
+            None => Ok(None),
         }
-        Ok(Some(yes && is_named))
     }
 
-    /// Whether the folder has evidence that gets a yes: the certificate, or else the stimulus. Where it has
-    /// neither, the line says so.
-    fn shows(&self, rt: &HostRuntime, property: Property) -> Result<bool, NoAnswer> {
+    /// What the evidence in the folder shows of a property: the certificate, or else the stimulus. Where it
+    /// has neither, the line says so.
+    fn shown(&self, rt: &HostRuntime, property: Property) -> Result<Shown, NoAnswer> {
         let safe = self.answer(rt, property, Evidence::Certificate)?;
         if safe == Some(true) {
-            return Ok(true);
+            return Ok(Shown::Safe);
         }
         let run = self.answer(rt, property, Evidence::Stimulus)?;
-        if safe.is_none() && run.is_none() {
-            put_no(rt, "evidence", property)?;
+        if run == Some(true) {
+            return Ok(Shown::Violated);
         }
-        Ok(run == Some(true))
+        if safe.is_none() && run.is_none() {
+            put_no_evidence(rt, property)?;
+        }
+        Ok(Shown::Nothing)
     }
 
-    /// Whether each property of the circuit has a yes. The last line counts them.
-    fn shows_all(&self, rt: &HostRuntime, file: &AigerFile) -> Result<bool, NoAnswer> {
-        let (mut yes, mut no) = (0u32, 0u32);
+    /// How many properties of the circuit the evidence shows safe, and how many violated. The last line says
+    /// so.
+    fn count(&self, rt: &HostRuntime, file: &AigerFile) -> Result<Counts, NoAnswer> {
+        let mut counts = Counts::NONE;
         for property in all_properties(rt.alloc(), file.model())? {
-            if self.shows(rt, property)? {
-                yes = yes.saturating_add(1);
-            } else {
-                no = no.saturating_add(1);
-            }
+            counts = counts.with(self.shown(rt, property)?);
         }
-        given(println!(rt; "{yes} yes, {no} no"))?;
-        Ok(no == 0)
+        let Counts {
+            safe,
+            violated,
+            without,
+        } = counts;
+        given(println!(rt; "{safe} safe, {violated} violated, {without} without evidence"))?;
+        Ok(counts)
     }
 }
 
@@ -149,11 +126,11 @@ fn text_of(rt: &HostRuntime, name: &str) -> Result<Vec<u8>, NoAnswer> {
     }
 }
 
-/// Whether each property of the circuit has a yes by the evidence in the folder. A text that is no circuit
-/// gets the no of its refusal.
+/// The status of what the evidence in the folder shows of the circuit's properties. Of a text that is no
+/// circuit it puts the no of its refusal, and there is no answer.
 // What it needs of the stack is not added to that of the other commands.
 #[inline(never)]
-pub fn all(rt: &HostRuntime, circuit: &str, folder: &str) -> Result<bool, NoAnswer> {
+pub fn all(rt: &HostRuntime, circuit: &str, folder: &str) -> Result<u8, NoAnswer> {
     if !given(fs::metadata(rt, folder))?.is_dir() {
         return Err(NoAnswer::Call(RunError::Device));
     }
@@ -163,11 +140,11 @@ pub fn all(rt: &HostRuntime, circuit: &str, folder: &str) -> Result<bool, NoAnsw
         name: folder,
     };
     match read(rt.alloc(), text.as_slice()) {
-        Ok(file) => evidence.shows_all(rt, &file),
+        Ok(file) => Ok(evidence.count(rt, &file)?.status()),
         Err(ReadError::OutOfMemory(refused)) => Err(NoAnswer::from(refused)),
         Err(error) => {
             given(println!(rt; "no {}", error.number()))?;
-            Ok(false)
+            Ok(FAULT)
         }
     }
 }

@@ -5,58 +5,69 @@
 //! the number of the refusal. `aigcheck run FILE STIM` puts `yes run P` where the replay of the stimulus
 //! STIM shows that the property P of the circuit is violated, and else `no` with the number.
 //!
-//! `aigcheck all FILE DIR` does so for each property P of the circuit, in their order
+//! P is the property that CERT or STIM names, and the status says nothing of another. With `-p P` both ask
+//! about P alone: where the evidence is of another property, the answer is `no 30`.
+//!
+//! `aigcheck all FILE DIR` asks so about each property P of the circuit, in their order
 //! (`properties::all_properties`), by the files `P.cert` and `P.stim` of the folder DIR: the certificate,
-//! and where there is none that gets a yes, the stimulus. It puts the line of each that it judges, but `no
-//! match P` for a yes to another property than the file's name says, and `no evidence P` where there is
-//! neither; and last how many properties have a yes, and how many not. A FILE that is no circuit gets `no`
-//! with the number alone.
+//! and where there is none that gets a yes, the stimulus. It puts the line of each that it judges, or
+//! `no evidence P` where there is neither. Last it puts how many properties are shown safe, how many
+//! violated, and how many are without accepted evidence. Of a FILE that is no circuit it puts `no` with the
+//! number alone.
 //!
 //! FILE, CERT or STIM may be `-`, which is the standard input.
 //!
-//! The status is 0 for yes, of `all` for a yes to each property; 1 for no; and 3 where there is no answer.
+//! The status of `safe` and `run` is 0 for yes and 1 for no. That of `all` is 1 where a property is
+//! violated; else 2 where one is without accepted evidence, or the circuit has none; else 0, and then each is
+//! safe. It is 3 where there is no answer, of `all` also where FILE is no circuit.
 //!
-//! Nothing is decided here: the answers are those of `checker::run_safe` and `checker::run_stimulus`,
-//! whose contracts say what they mean. That the files hold what was read is the premise.
+//! Nothing is decided here: the answers are those of `checker::safe_of_readers`, `checker::run_of_readers`,
+//! `checker::run_safe_for` and `checker::run_stimulus_for`, whose contracts say what they mean of the bytes that
+//! were read. That the files hold these is the premise.
 #![tactic(auto)]
 
+mod counts;
 mod folder;
 mod no_answer;
+mod status;
 
 use base::push;
-use checker::{run_safe, run_stimulus};
+use checker::{run_of_readers, safe_of_readers};
 use clap::error::ErrorKind;
 use clap::{Arg, ArgAction, ArgMatches, Command, Error};
 use folder::all;
-use graph::{FromRead, ToWrite};
+use graph::{FromRead, Property, ToWrite};
 use inputs::{Input, is_standard, open};
-use no_answer::{FAULT, NoAnswer, fault, given};
+use no_answer::{NoAnswer, fault, given};
+use property_names::property_named;
+use status::{FAULT, YES, status_of};
 use std::alloc::{AllocError, Global};
 use std::process::ExitCode;
 use std::{env, io};
-
-/// The status of a yes.
-const YES: u8 = 0;
-/// The status of a no.
-const NO: u8 = 1;
 
 /// What `--version` prints behind the program's name.
 static VERSION: &str = "0.1.0 (rattle-kit-13f)";
 
 static STATUSES: &str = "Status: 0 yes, 1 no, 3 no answer.
+Of all: 0 each property is safe, 1 one is violated, else 2 one is without accepted
+evidence or the circuit has none; 3 no answer.
 Each command has a help of its own: aigcheck safe --help.";
 
 static SAFE: &str = "Status: 0 yes, 1 no (with the number of the refusal), 3 no answer.
+A yes is about the property that its line names, and about no other: who asks about one gives -p.
 Examples:
-  aigcheck safe design.aig b0.cert
-  aigmc check design.aig -p b0 --cert b0.cert && aigcheck safe design.aig b0.cert";
+  aigcheck safe design.aig b0.cert -p b0
+  aigmc check design.aig -p b0 --cert b0.cert && aigcheck safe design.aig b0.cert -p b0";
 
-static RUN: &str = "Status: 0 yes, 1 no (with the number of the refusal), 3 no answer.
+static RUN: &str =
+    "Status: 0 yes, it is violated; 1 no (with the number of the refusal), 3 no answer.
+A yes is about the property that its line names, and about no other: who asks about one gives -p.
 Examples:
-  aigcheck run design.aig b0.stim
-  aigmc check design.aig -p b0 > b0.stim; aigcheck run design.aig b0.stim";
+  aigcheck run design.aig b0.stim -p b0
+  aigmc check design.aig -p b0 > b0.stim; aigcheck run design.aig b0.stim -p b0";
 
-static ALL: &str = "Status: 0 a yes to each property, 1 not, 3 no answer.
+static ALL: &str = "Status: 0 each property is safe, and the circuit has one; 1 one is violated;
+else 2 one is without accepted evidence, or the circuit has none; 3 no answer.
 Examples:
   aigcheck all design.aig evidence
   aigmc all design.aig --out evidence; aigcheck all design.aig evidence";
@@ -66,6 +77,16 @@ fn file<'a>(alloc: Global, name: &'a str, about: &'a str) -> Arg<'a> {
     Arg::new(alloc, name)
         .help(about)
         .required(true)
+        .action(ArgAction::Set)
+}
+
+/// The property that is asked about alone.
+fn property<'a>(alloc: Global) -> Arg<'a> {
+    Arg::new(alloc, "property")
+        .help("The property that is asked about alone: b, j or o and its position")
+        .short('p')
+        .long("property")
+        .value_name("P")
         .action(ArgAction::Set)
 }
 
@@ -88,20 +109,20 @@ fn with_files<'a>(
 fn safe_command<'a>(alloc: Global) -> Result<Command<'a>, AllocError> {
     let certificate = file(alloc, "CERT", "The certificate");
     let about = "Whether a certificate shows that a circuit is safe";
-    with_files(alloc, "safe", about, SAFE, certificate)
+    with_files(alloc, "safe", about, SAFE, certificate)?.arg(property(alloc))
 }
 
 /// The words of `run`.
 fn run_command<'a>(alloc: Global) -> Result<Command<'a>, AllocError> {
     let stimulus = file(alloc, "STIM", "The stimulus");
     let about = "Whether a stimulus shows that a property is violated";
-    with_files(alloc, "run", about, RUN, stimulus)
+    with_files(alloc, "run", about, RUN, stimulus)?.arg(property(alloc))
 }
 
 /// The words of `all`.
 fn all_command<'a>(alloc: Global) -> Result<Command<'a>, AllocError> {
     let folder = file(alloc, "DIR", "The folder: b0.cert, b1.stim and so on");
-    let about = "Whether a folder has evidence about each property of a circuit";
+    let about = "What the evidence in a folder shows of each property of a circuit";
     with_files(alloc, "all", about, ALL, folder)
 }
 
@@ -115,6 +136,17 @@ fn command<'a>(alloc: Global) -> Result<Command<'a>, AllocError> {
         .subcommand(safe_command(alloc)?)?
         .subcommand(run_command(alloc)?)?
         .subcommand(all_command(alloc)?)
+}
+
+/// The property that is asked about alone, where the words name one.
+fn asked(words: &ArgMatches<'_>) -> Result<Option<Property>, NoAnswer> {
+    let Some(word) = words.get_str("property") else {
+        return Ok(None);
+    };
+    match property_named(word) {
+        Some(property) => Ok(Some(property)),
+        None => Err(NoAnswer::BadArgument),
+    }
 }
 
 /// Opens the circuit and the second file, of which one may be the standard input, and not both.
@@ -132,31 +164,29 @@ fn open_both(
 }
 
 /// Opens both files, and then says whether the second shows that the first is safe.
-fn safe(rt: &HostRuntime, words: &ArgMatches<'_>) -> Result<bool, NoAnswer> {
+fn safe(rt: &HostRuntime, words: &ArgMatches<'_>) -> Result<u8, NoAnswer> {
+    let property = asked(words)?;
     let (circuit, certificate) = open_both(rt, words, "CERT")?;
-    let yes = run_safe(
-        rt.alloc(),
-        &mut FromRead::new(circuit),
-        &mut FromRead::new(certificate),
-        &mut ToWrite::new(io::writer(rt)),
-    )?;
-    Ok(yes)
+    let circuit = &mut FromRead::new(circuit);
+    let certificate = &mut FromRead::new(certificate);
+    let out = &mut ToWrite::new(io::writer(rt));
+    let yes = safe_of_readers(rt.alloc(), property, circuit, certificate, out)?;
+    Ok(status_of(yes))
 }
 
 /// Opens both files, and then says whether the second shows a violation in the first.
-fn run(rt: &HostRuntime, words: &ArgMatches<'_>) -> Result<bool, NoAnswer> {
+fn run(rt: &HostRuntime, words: &ArgMatches<'_>) -> Result<u8, NoAnswer> {
+    let property = asked(words)?;
     let (circuit, stimulus) = open_both(rt, words, "STIM")?;
-    let yes = run_stimulus(
-        rt.alloc(),
-        &mut FromRead::new(circuit),
-        &mut FromRead::new(stimulus),
-        &mut ToWrite::new(io::writer(rt)),
-    )?;
-    Ok(yes)
+    let circuit = &mut FromRead::new(circuit);
+    let stimulus = &mut FromRead::new(stimulus);
+    let out = &mut ToWrite::new(io::writer(rt));
+    let yes = run_of_readers(rt.alloc(), property, circuit, stimulus, out)?;
+    Ok(status_of(yes))
 }
 
-/// Whether the evidence in a folder shows each property of the circuit.
-fn each(rt: &HostRuntime, words: &ArgMatches<'_>) -> Result<bool, NoAnswer> {
+/// What the evidence in a folder shows of each property of the circuit.
+fn each(rt: &HostRuntime, words: &ArgMatches<'_>) -> Result<u8, NoAnswer> {
     let circuit = words.get_str("FILE").unwrap_or("");
     let folder = words.get_str("DIR").unwrap_or("");
     all(rt, circuit, folder)
@@ -164,15 +194,14 @@ fn each(rt: &HostRuntime, words: &ArgMatches<'_>) -> Result<bool, NoAnswer> {
 
 /// What the words ask for.
 fn answer(rt: &HostRuntime, matches: &ArgMatches<'_>) -> ExitCode {
-    let answer = match matches.subcommand() {
+    let status = match matches.subcommand() {
         Some(("safe", words)) => safe(rt, words),
         Some(("run", words)) => run(rt, words),
         Some(("all", words)) => each(rt, words),
         _ => return ExitCode::from(FAULT),
     };
-    match answer {
-        Ok(true) => ExitCode::from(YES),
-        Ok(false) => ExitCode::from(NO),
+    match status {
+        Ok(status) => ExitCode::from(status),
         Err(why) => fault(rt, why),
     }
 }

@@ -1,17 +1,15 @@
 //! Why there is no answer.
 
-use base::{Failed, Refused};
+use crate::status::FAULT;
+use base::Refused;
 use checker::RunError;
 use std::io;
 use std::process::ExitCode;
 
-/// The status where there is no answer.
-pub const FAULT: u8 = 3;
-
 /// Why there is no answer.
 #[derive(Clone, Copy)]
 pub enum NoAnswer {
-    /// Both files are the standard input.
+    /// Both files are the standard input, or a word names no property.
     BadArgument,
     /// There is no memory for the words, or for the system at a file.
     Memory,
@@ -28,12 +26,6 @@ impl From<RunError> for NoAnswer {
 impl From<Refused> for NoAnswer {
     fn from(refused: Refused) -> NoAnswer {
         NoAnswer::Call(RunError::OutOfMemory(refused))
-    }
-}
-
-impl From<Failed> for NoAnswer {
-    fn from(_e: Failed) -> NoAnswer {
-        NoAnswer::Call(RunError::Device)
     }
 }
 

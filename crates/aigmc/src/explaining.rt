@@ -103,8 +103,8 @@ static ROWS: [Row; 51] = [
     },
     Row {
         number: 30,
-        meaning: "the circuit has no such property",
-        remedy: "bin/properties FILE lists the properties",
+        meaning: "the circuit has no such property, or the evidence is of another one",
+        remedy: "bin/properties FILE lists the properties; the second line of evidence names its own",
     },
     Row {
         number: 32,

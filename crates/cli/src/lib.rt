@@ -14,7 +14,6 @@ mod cli_error;
 mod layout;
 mod loading;
 mod numbering;
-mod property_name;
 
 pub use aiger::load;
 pub use certificate::write as put_certificate;
@@ -22,6 +21,6 @@ pub use cli_error::CliError;
 pub use layout::{Layout, put_file};
 pub use loading::load_stimulus;
 pub use numbering::ready;
-pub use property_name::property_named;
+pub use property_names::property_named;
 pub use stimulus::put_table;
 pub use verdict::{DecideError, Verdict, decide, show};

@@ -1,6 +1,6 @@
 use Rattle.std.proofs.Common.{◌≡◌, length, arith}
-use Rattle.cli.proofs.Positions.{read_spelled, spelled_same, spelled_not_refused}
-use Rattle.cli.proofs.property_name.position.Goals as goal
+use Rattle.property_names.proofs.Positions.{read_spelled, spelled_same, spelled_not_refused}
+use Rattle.property_names.proofs.property_name.position.Goals as goal
 
 pub returns-in_default-clause-only : goal.returns-in_default-clause-only
 returns-in_default-clause-only c n spelled small = absurd (spelled_not_refused _ _ _ _ n c.in_default.is c.number.ensures.value c.number.ensures.place spelled small)
