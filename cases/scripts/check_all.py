@@ -207,6 +207,17 @@ replaced("a circuit", HOLDS, ("b0", "changed", ""))
 replaced("a circuit with two properties", BOTH, ("b0", "changed", ""))
 
 
+@case("check-all: a circuit that is replaced before a search")
+def replaced_before(scratch):
+    place = Place(scratch)
+    make(scratch / "new", counter(63, 3))
+    place.circuit(counter(64, 3))
+    place.wrap("aigmc", f'echo "$1" >> {scratch}/calls; cp {scratch}/new {scratch}/circuit.aag')
+    done = place.check("--limit", "1", "circuit.aag")
+    expect_table(done, 3, [(name, "changed", "") for name in ("b0", "b1", "b2")], "the table")
+    expect((scratch / "calls").read_text(), "all\n", "the calls of aigmc")
+
+
 @case("check-all: a circuit that is taken away while it is searched")
 def taken_away(scratch):
     place = Place(scratch)
@@ -238,7 +249,7 @@ def refused(scratch):
     text = (scratch / "made/circuit.aag/b0.cert").read_bytes()
     place.circuit(VIOLATED)
     (place.bin / "aigmc").unlink()
-    make(place.bin / "aigmc", f"#!/bin/sh\ncp {scratch}/made/circuit.aag/b0.cert .\nprintf '0\\nb0\\n.\\n'\n").chmod(0o755)
+    make(place.bin / "aigmc", "#!/bin/sh\necho junk > b0.cert\nprintf '0\\nb0\\n.\\n'\n").chmod(0o755)
     expect_table(place.check("circuit.aag"), 3, [("b0", "holds", "no")], "the table")
     expect(sorted(os.listdir(scratch / "made/circuit.aag")), ["b0.cert", "b0.result"], "the files")
     expect((scratch / "made/circuit.aag/b0.cert").read_bytes(), text, "the certificate of the circuit before")
@@ -288,17 +299,14 @@ def no_circuit(scratch):
     (scratch / "folder").mkdir()
     done = place.check("words", "counts", "cut", "folder", "none", "folder/..")
     expect_table(done, 3, [("", "failed", "")] * 2 + [("b0", "failed", "")] + [("", "failed", "")] * 3, "the table")
+    expect(b"\ncut b0: failed: aigmc: fault 6 at 20\n" in done.told, True, "whether it says why")
 
 
 @case("check-all: one call asks about the easy properties of a file, and one each about the others")
 def few_calls(scratch):
     place = Place(scratch)
     place.circuit(held(100))
-    hard = counter(64).split("\n")
-    hard[0] = hard[0].removesuffix(" 1") + " 3"
-    at = 1 + 1 + 64
-    hard[at:at + 1] = ["0", hard[at], "0"]
-    place.circuit("\n".join(hard), "hard.aag")
+    place.circuit(counter(64, 3), "hard.aag")
     place.wrap("aigmc", f'echo "$1" "$4" >> {scratch}/calls')
     done = place.check("--limit", "1", "circuit.aag", "hard.aag")
     rows = [(f"b{k}", "holds", "yes") for k in range(100)]

@@ -13,6 +13,7 @@ FILES = TOP / "cases" / "files"
 PROGRAMS = {name: TOP / "crates" / name / "out" / name for name in ("aigmc", "aigcheck")}
 SCRIPTS = ("aigmc-hwmcc", "check-all", "properties")
 LIMIT_SECONDS = 120
+SECONDS_TO_STOP = 8
 
 # One latch that stays 0, and one that is set at the second time: the first property holds, the second does not.
 HOLDS = "aag 1 0 1 0 0 1\n2 2\n2\n"
@@ -46,8 +47,9 @@ def expect(found, wanted, what):
         raise Wrong(f"{what}: {found!r}, and should be {wanted!r}")
 
 
-def counter(bits):
-    """A circuit that takes longer than anybody waits: it counts where its input allows it, and all latches are set at last."""
+def counter(bits, properties=1):
+    """A circuit that takes longer than anybody waits: it counts where its input allows it, and all latches are set at last. Of three
+    properties this is the second, and the others are never so."""
     gates, carry = [], 2
     latches = [2 * k + 4 for k in range(bits)]
     following = []
@@ -62,8 +64,9 @@ def counter(bits):
     bad = latches[0]
     for latch in latches[1:]:
         bad = conjunction(bad, latch)
-    lines = [f"aag {bits + 1 + len(gates)} 1 {bits} 0 {len(gates)} 1", "2"]
-    lines += [f"{latch} {after}" for latch, after in zip(latches, following)] + [str(bad)]
+    lines = [f"aag {bits + 1 + len(gates)} 1 {bits} 0 {len(gates)} {properties}", "2"]
+    lines += [f"{latch} {after}" for latch, after in zip(latches, following)]
+    lines += [str(bad)] if properties == 1 else ["0", str(bad), "0"]
     return "\n".join([*lines, *(f"{left} {one} {other}" for left, one, other in gates)]) + "\n"
 
 
@@ -190,8 +193,10 @@ def is_there(process):
 def stopped(place, number, script, *words):
     """What a call of a script did that got a signal while aigmc ran. Nothing of it is left then."""
     running, search = place.begun(script, *words)
+    begun = time.monotonic()
     running.send_signal(number)
     out, told = running.communicate(timeout=LIMIT_SECONDS)
+    expect(time.monotonic() - begun < SECONDS_TO_STOP, True, f"whether it stops within {SECONDS_TO_STOP} seconds")
     left = is_there(search)
     if left and number != signal.SIGKILL:
         os.kill(search, signal.SIGKILL)
