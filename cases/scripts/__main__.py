@@ -12,6 +12,7 @@ import tempfile
 sys.dont_write_bytecode = True
 
 import check_all
+import competition
 import trial
 
 
