@@ -13,6 +13,7 @@ sys.dont_write_bytecode = True
 
 import check_all
 import competition
+import installing
 import starting
 import trial
 
