@@ -1,8 +1,8 @@
-"""cases/scripts: what the scripts of bin/ do around the programs, which have to be built (bin/build). It is called by hand as
-`python3 cases/scripts [WORD]`, with the cases alone whose names have the word, and by cases/run.
+"""cases/scripts: what the scripts of bin/ do around the programs, which have to be built (bin/build). It is called by
+hand as `python3 cases/scripts [WORD]`, with the cases alone whose names have the word, and by cases/run.
 
-Most cases run the scripts as they are installed, in a scratch folder, and some have a program do something first: sleep, fail, or
-replace the circuit. The last line is 'N passed, M failed'; the status is 0 only where nothing failed.
+Most cases run the scripts as they are installed, in a scratch folder, and some have a program do something first:
+sleep, fail, or replace the circuit. The last line is 'N passed, M failed'; the status is 0 only where nothing failed.
 """
 
 import pathlib

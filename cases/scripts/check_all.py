@@ -8,9 +8,9 @@ import resource
 import shutil
 import signal
 import subprocess
-import time
 
-from trial import BOTH, HOLDS, PROGRAMS, VIOLATED, Place, Wrong, call, case, counter, expect, held, is_there, make, stopped, wait_for
+from trial import BOTH, HOLDS, PROGRAMS, VIOLATED, Place
+from trial import call, case, counter, expect, held, is_there, make, stopped, wait_for
 
 YES_HOLDS = [("b0", "holds", "yes")]
 YES_VIOLATED = [("b0", "violated", "yes")]
@@ -138,10 +138,10 @@ def stops(number):
     @case(f"check-all: {number.name}")
     def signalled(scratch):
         place = Place(scratch)
-        place.circuit(counter(64))
-        _, out, told = stopped(place, number, "check-all", "--out", "made", "circuit.aag")
+        names = [place.circuit(counter(64), f"{k}.aag").name for k in range(3)]
+        _, out, told = stopped(place, number, "check-all", "--jobs", "2", "--out", "made", *names)
         expect((out, told), (b"", b"check-all: stopped\n"), "what it puts")
-        expect(os.listdir(scratch / "made/circuit.aag"), [], "what it leaves")
+        expect([path for path in (scratch / "made").rglob("*") if path.name not in names], [], "what it leaves")
 
 
 for signal_number in (signal.SIGTERM, signal.SIGINT, signal.SIGHUP):
@@ -174,6 +174,17 @@ def torn(scratch):
         expect(len(done.told.splitlines()), asked, f"how often it asks with {kept} bytes of the result")
 
 
+@case("check-all: results that are empty beside evidence")
+def empty(scratch):
+    place = Place(scratch)
+    stale(place)
+    make(scratch / "made/circuit.aag/b0.result", "")
+    done = place.check("circuit.aag")
+    expect_table(done, 0, YES_HOLDS, "the table")
+    expect(done.told, b"circuit.aag b0: holds, 0 s, checked: yes\n", "what it says")
+    expect(place.check("circuit.aag").told, b"", "what the next call says")
+
+
 @case("check-all: results of another aigmc, and with another limit")
 def tied(scratch):
     place = Place(scratch)
@@ -198,7 +209,8 @@ def replaced(name, text, row):
         place.wrap("aigmc", f"cp {scratch}/new {scratch}/circuit.aag")
         done = place.check("circuit.aag")
         expect_table(done, 3, [row], "the table")
-        expect(b"circuit.aag it was replaced meanwhile" in done.told, True, "whether it says so")
+        expect(b"circuit.aag was replaced meanwhile" in done.told, True, "whether it says so")
+        expect(os.listdir(scratch / "made/circuit.aag"), [], "the files")
         place.unwrap("aigmc")
         expect_table(place.check("circuit.aag"), 1, YES_VIOLATED, "the next table")
 
@@ -216,6 +228,26 @@ def replaced_before(scratch):
     done = place.check("--limit", "1", "circuit.aag")
     expect_table(done, 3, [(name, "changed", "") for name in ("b0", "b1", "b2")], "the table")
     expect((scratch / "calls").read_text(), "all\n", "the calls of aigmc")
+
+
+@case("check-all: a circuit that is replaced while its evidence is judged")
+def replaced_behind(scratch):
+    place = Place(scratch)
+    stale(place)
+    make(scratch / "new", VIOLATED)
+    place.wrap("aigcheck", f"cp {scratch}/new {scratch}/circuit.aag")
+    expect_table(place.check("circuit.aag"), 3, [("b0", "changed", "")], "the table")
+    expect_table(place.check("circuit.aag"), 1, YES_VIOLATED, "the next table")
+
+
+@case("check-all: evidence that can't be put where it belongs")
+def no_place(scratch):
+    place = Place(scratch)
+    place.circuit(BOTH)
+    (scratch / "made/circuit.aag/b0.cert").mkdir(parents=True)
+    expect_table(place.check("circuit.aag"), 3, [("b0", "failed", ""), ("b1", "violated", "yes")], "the table")
+    (scratch / "made/circuit.aag/b0.cert").rmdir()
+    expect_table(place.check("circuit.aag"), 1, [("b0", "holds", "yes"), ("b1", "violated", "yes")], "the next table")
 
 
 @case("check-all: a circuit that is taken away while it is searched")
@@ -308,10 +340,27 @@ def few_calls(scratch):
     place.circuit(held(100))
     place.circuit(counter(64, 3), "hard.aag")
     place.wrap("aigmc", f'echo "$1" "$4" >> {scratch}/calls')
-    done = place.check("--limit", "1", "circuit.aag", "hard.aag")
+    done = place.check("--limit", "3", "circuit.aag", "hard.aag")
     rows = [(f"b{k}", "holds", "yes") for k in range(100)]
     expect_table(done, 2, rows + [("b0", "holds", "yes"), ("b1", "limit", ""), ("b2", "holds", "yes")], "the table")
     expect(sorted((scratch / "calls").read_text().splitlines()), ["all .", "all .", "check b1"], "the calls of aigmc")
+    (scratch / "calls").unlink()
+    for name in ("b7", "b70"):
+        (scratch / f"made/circuit.aag/{name}.cert").unlink()
+    expect_table(place.check("circuit.aag"), 0, rows, "the table where evidence is gone")
+    expect(sorted((scratch / "calls").read_text().splitlines()), ["check b7", "check b70"], "the calls of aigmc then")
+
+
+@case("check-all: evidence that one call does not judge in time")
+def judged_one_by_one(scratch):
+    place = Place(scratch)
+    place.circuit(BOTH)
+    rows = [("b0", "holds", "yes"), ("b1", "violated", "yes")]
+    expect_table(place.check("circuit.aag"), 1, rows, "the first table")
+    place.wrap("aigmc", "exit 3")
+    place.wrap("aigcheck", f'echo "$1" >> {scratch}/calls; [ "$1" != all ] || exec sleep 60')
+    expect_table(place.check("circuit.aag"), 1, rows, "the table")
+    expect(sorted((scratch / "calls").read_text().splitlines()), ["all", "run", "safe"], "the calls of aigcheck")
 
 
 @case("check-all: calls side by side")
@@ -319,7 +368,7 @@ def beside(scratch):
     place = Place(scratch)
     for name in ("a", "b", "c"):
         place.circuit(HOLDS, name)
-    place.wrap("aigmc", f"echo begins >> {scratch}/calls\nsleep 0.5\necho goes on >> {scratch}/calls")
+    place.wrap("aigmc", f"echo begins >> {scratch}/calls\nsleep 1\necho goes on >> {scratch}/calls")
     expect_table(place.check("--jobs", "2", "a", "b", "c"), 0, YES_HOLDS * 3, "the table")
     expect((scratch / "calls").read_text().splitlines()[:3], ["begins", "begins", "goes on"], "the calls of aigmc")
 
@@ -352,24 +401,37 @@ def named(scratch):
     expect([list(it) for it in objects], [head.strip().split(",")] * 2, "the keys")
     found = [(it["property"], it["verdict"], it["evidence"], it["checked"], it["name"]) for it in objects]
     folder = "made/circuit.aag"
-    wanted = [("b0", "holds", f"{folder}/b0.cert", "yes", 'stays, "so"'), ("b1", "violated", f"{folder}/b1.stim", "yes", "turns")]
-    expect(found, wanted, "the objects")
+    first = ("b0", "holds", f"{folder}/b0.cert", "yes", 'stays, "so"')
+    expect(found, [first, ("b1", "violated", f"{folder}/b1.stim", "yes", "turns")], "the objects")
 
 
-@case("check-all: a binary circuit's names, and an output's")
-def binary_names(scratch):
+# Circuits, and the names of their properties. The gates of the first one, in binary, are bytes that look like a symbol.
+NAMED = (
+    (b"aig 73 70 0 0 3 1\n142\n\nb0 x\nb0 first\n", ["first"]),
+    (b"aig 3 1 1 0 1 1 0 1\n6\n2\n1\n5\n\x02\x02i0 b9 no\nl0 b0\nb0 first\nj0 second\nc\nb0 no\n", ["first", "second"]),
+    (b"aag 3 1 1 1 1 1 1 1 1\n2\n4 6\n4\n6\n1\n2\n4\n6\n4\n6 4 2\ni0 no\nb0 first\nj0 second\n", ["first", "second"]),
+    (b"aag 1 0 1 1 0\n2 3\n2\no0 out\n", ["out"]),
+    (b"aag 1 0 1 0 0 2\n2 3\n2\n2\nb1 second \xff\nc\nb0 no\n", ["", "second \udcff"]),
+    (b"aag 1 0 1 0 0 1\n2 3\n2\nc\nb0 no\n", [""]),
+)
+
+
+@case("check-all: names of properties in each layout")
+def names_in_layouts(scratch):
     place = Place(scratch)
-    text = b"aig 3 1 1 0 1 1 0 1\n6\n2\n1\n5\n\x02\x02i0 b9 no\nl0 stays\nb0 first\nj0 second\nc\nb0 comment\n"
-    make(scratch / "one.aig", text)
-    place.circuit("aag 1 0 1 1 0\n2 3\n2\no0 out\n", "two.aag")
-    names = [row["name"] for row in csv.DictReader(place.check("one.aig", "two.aag").out.decode().splitlines())]
-    expect(names, ["first", "second", "out"], "the names")
+    for text, wanted in NAMED:
+        make(scratch / "circuit", text)
+        done = place.check("circuit")
+        rows = csv.DictReader(done.out.decode(errors="surrogateescape").splitlines())
+        found = [(row["name"], row["checked"]) for row in rows]
+        expect(found, [(name, "yes") for name in wanted], f"the names and checks of {text!r}")
 
 
 @case("check-all: bad words")
 def bad_words(scratch):
     place = Place(scratch)
     place.circuit(HOLDS)
-    for words in ((), ("--jobs", "0", "circuit.aag"), ("--limit", "1.5", "circuit.aag"), ("--limit",), ("-x", "circuit.aag"), ("--",)):
-        done = place.call("check-all", *words)
-        expect((done.status, done.out, done.told[:27]), (3, b"", b"check-all: it is called bin"), f"what it does with {words}")
+    for words in ("", "--jobs 0 circuit.aag", "--limit 1.5 circuit.aag", "--limit", "-x circuit.aag", "--"):
+        done = place.call("check-all", *words.split())
+        is_usage = done.told.startswith(b"check-all: it is called bin/check-all ")
+        expect((done.status, done.out, is_usage), (3, b"", True), f"what it does with {words}")

@@ -40,7 +40,8 @@ def several(scratch):
     place.circuit(BOTH)
     done = place.call("aigmc-hwmcc", "circuit.aag")
     expect((done.status, done.out), (3, b""), "what it does")
-    expect(done.told, b"aigmc-hwmcc: circuit.aag has 2 properties, b0 to b1: -p names the one to ask about\n", "what it says")
+    said = b"aigmc-hwmcc: circuit.aag has 2 properties, b0 to b1: -p names the one to ask about\n"
+    expect(done.told, said, "what it says")
 
 
 @case("aigmc-hwmcc: the property that is named")
@@ -61,7 +62,8 @@ def named(scratch):
     out, status = answer(place, "-p", "j0", "circuit.aag", "60")
     make(scratch / "lasso", out)
     expect(status, 10, "the status of j0")
-    expect(call(PROGRAMS["aigcheck"], "run", "circuit.aag", "lasso", cwd=scratch).out, b"yes run j0\n", "what the judge says of j0")
+    judged = call(PROGRAMS["aigcheck"], "run", "circuit.aag", "lasso", cwd=scratch).out
+    expect(judged, b"yes run j0\n", "what the judge says of j0")
 
 
 @case("aigmc-hwmcc: odd names, no circuit, bad words")
@@ -72,8 +74,8 @@ def odd(scratch):
     make(scratch / "words", "no circuit\n")
     expect(answer(place, "--", "-d.aag", "60"), (b"0\nb0\n.\n", 20), "-d.aag")
     expect(answer(place, b"n\xff.aag"), (b"0\nb0\n.\n", 20), "a name that is not UTF-8")
-    for words in ((), ("words",), ("none",), ("-d.aag",), ("--", "-d.aag", "0"), ("--", "-d.aag", "1m"), ("--", "-d.aag", "1", "2")):
-        expect(answer(place, *words), (b"", 3), repr(words))
+    for words in ("", "words", "none", "-d.aag", "-- -d.aag 0", "-- -d.aag 1m", "-- -d.aag 1 2", "-p b0"):
+        expect(answer(place, *words.split()), (b"", 3), repr(words))
 
 
 @case("aigmc-hwmcc: a full device")

@@ -1,8 +1,10 @@
 """Cases of make install, of symbolic links to scripts, and of their --help."""
 
 import os
+import pathlib
 import re
 import shutil
+import tempfile
 
 from trial import HOLDS, TOP, VIOLATED, NotTried, call, case, expect, make, make_script
 
@@ -68,7 +70,6 @@ def run(scratch):
 def links(scratch):
     folder = made(scratch, "install")
     make(scratch / "circuit.aag", HOLDS)
-    (scratch / "my bin").mkdir()
     for place in (TOP / "bin", folder / "bin"):
         for name, words, status in (
             ("aigmc", ("check", "circuit.aag", "-p", "b0", "--cert", "cert"), 0),
@@ -77,12 +78,14 @@ def links(scratch):
             ("check-all", ("circuit.aag",), 0),
             ("properties", ("circuit.aag",), 0),
         ):
-            link, again = scratch / "my bin" / f"my-{name}", scratch / "my bin" / name
-            for path, to in ((link, place / name), (again, link.name)):
-                path.unlink(missing_ok=True)
-                path.symlink_to(to)
-                done = call(path, *words, cwd=scratch)
-                expect((done.status, done.told.replace(b"circuit.aag b0: holds, 0 s, checked: yes\n", b"")), (status, b""), str(path))
+            with tempfile.TemporaryDirectory(prefix="my bin") as links_folder:
+                first, second = pathlib.Path(links_folder, "my-link"), pathlib.Path(links_folder, name)
+                first.symlink_to(place / name)
+                second.symlink_to(first.name)
+                for path in (first, second):
+                    done = call(path, *words, cwd=scratch)
+                    told = done.told.replace(b"circuit.aag b0: holds, 0 s, checked: yes\n", b"")
+                    expect((done.status, told), (status, b""), f"{path} to {place}")
 
 
 @case("--help of each script")

@@ -1,5 +1,5 @@
-"""Cases of bin/started and bin/build, in a small repository of its own. What stands there for `rt` proves nothing, and makes programs
-that say which source they were made of."""
+"""Cases of bin/started and bin/build, in a small repository of its own. What stands there for `rt` proves nothing,
+and makes programs that say which source they were made of."""
 
 import os
 import shutil
@@ -91,6 +91,7 @@ def touched(scratch):
     here.says()
     found = []
     os.utime(here.source())
+    make(here.source("base", ".lib.rt.swp"), "an editor's\n")
     found.append((here.says("aigmc"), here.builds())[1])
     make(here.source("other"), "two\n")
     found.append((here.says("aigmc"), here.builds())[1])
@@ -120,6 +121,8 @@ def edited_meanwhile(scratch):
     make(scratch / "edit", "")
     expect(here.says(), "aigmc of one: -x a b\n", "what the program says")
     (scratch / "edit").unlink()
+    is_newer = here.source().stat().st_mtime > (here.top / "crates/aigmc/out/aigmc").stat().st_mtime
+    expect(is_newer, True, "whether the source is newer than the program")
     expect((here.says(), here.builds()), ("aigmc of three: -x a b\n", 2), "what the program says then, and the builds")
 
 
@@ -139,9 +142,12 @@ def found_there(scratch):
 def without_sources(scratch):
     here = Repository(scratch)
     here.says()
-    (here.top / "crates.txt").unlink()
+    (here.top / "crates.txt").rename(scratch / "crates.txt")
     shutil.rmtree(here.top / "crates/base")
     expect((here.says(), here.builds()), ("aigmc of one: -x a b\n", 1), "what the program says, and the builds")
+    (scratch / "crates.txt").rename(here.top / "crates.txt")
+    shutil.rmtree(here.top / "crates/aigmc/src")
+    expect((here.says(), here.builds()), ("aigmc of one: -x a b\n", 1), "what it says without its own sources")
 
 
 @case("started: a copy of the repository that is edited")

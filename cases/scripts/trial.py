@@ -1,4 +1,5 @@
-"""What the cases of the scripts stand on: a scratch folder with the scripts as they are installed, circuits, and calls."""
+"""What the cases of the scripts stand on: a scratch folder with the scripts as they are installed, circuits, and
+calls."""
 
 import csv
 import os
@@ -48,8 +49,8 @@ def expect(found, wanted, what):
 
 
 def counter(bits, properties=1):
-    """A circuit that takes longer than anybody waits: it counts where its input allows it, and all latches are set at last. Of three
-    properties this is the second, and the others are never so."""
+    """A circuit that takes longer than anybody waits: it counts where its input allows it, and all latches are set at
+    last. Of three properties this is the second, and the others are never so."""
     gates, carry = [], 2
     latches = [2 * k + 4 for k in range(bits)]
     following = []
@@ -73,8 +74,8 @@ def counter(bits, properties=1):
 def held(properties):
     """A circuit with so many latches that stay 0, and a bad literal for each."""
     latches = [2 * k + 2 for k in range(properties)]
-    lines = [f"aag {properties} 0 {properties} 0 0 {properties}", *(f"{latch} {latch}" for latch in latches), *map(str, latches)]
-    return "\n".join(lines) + "\n"
+    lines = [f"{latch} {latch}" for latch in latches] + [str(latch) for latch in latches]
+    return "\n".join([f"aag {properties} 0 {properties} 0 0 {properties}", *lines]) + "\n"
 
 
 def make(path, text):
@@ -144,7 +145,8 @@ class Place:
 
     def begun(self, script, *words):
         """A call of a script that is under way, and the process of aigmc that it waits for."""
-        running = subprocess.Popen([self.bin / script, *words], cwd=self.folder, stdout=subprocess.PIPE, stderr=subprocess.PIPE)
+        streams = {"stdout": subprocess.PIPE, "stderr": subprocess.PIPE}
+        running = subprocess.Popen([self.bin / script, *words], cwd=self.folder, **streams)
         try:
             return running, wait_for(lambda: searching(running.pid), "aigmc was not called")
         except Wrong:
@@ -182,6 +184,19 @@ def searching(process):
     return next((number for number, name in children(process).items() if name == "aigmc"), None)
 
 
+def below(folder):
+    """The processes that run in a folder or below it."""
+    found = []
+    for path in pathlib.Path("/proc").glob("[0-9]*/cwd"):
+        try:
+            inside = pathlib.Path(os.readlink(path))
+        except OSError:
+            continue
+        if folder in (inside, *inside.parents):
+            found.append(int(path.parent.name))
+    return found
+
+
 def is_there(process):
     """Whether there is a process that runs."""
     try:
@@ -197,10 +212,8 @@ def stopped(place, number, script, *words):
     running.send_signal(number)
     out, told = running.communicate(timeout=LIMIT_SECONDS)
     expect(time.monotonic() - begun < SECONDS_TO_STOP, True, f"whether it stops within {SECONDS_TO_STOP} seconds")
-    left = is_there(search)
-    if left and number != signal.SIGKILL:
-        os.kill(search, signal.SIGKILL)
-        raise Wrong("aigmc goes on")
+    if number != signal.SIGKILL:
+        expect([is_there(search), *below(place.folder)], [False], "what goes on")
     expect(b"Traceback" in told, False, "a traceback")
     expect(running.returncode, -number, "the status")
     return search, out, told

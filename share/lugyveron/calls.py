@@ -1,4 +1,5 @@
-"""How the scripts of bin/ call the proved programs: side by side, over bytes that nobody changes, and none outlives its caller."""
+"""How the scripts of bin/ call the proved programs: side by side, over bytes that nobody changes, and none outlives
+its caller."""
 
 import collections
 import ctypes
@@ -25,8 +26,8 @@ SET_DEATH_SIGNAL = 1  # PR_SET_PDEATHSIG of prctl(2)
 
 LIBRARY = ctypes.CDLL(None)
 
-# What to call: the program and its words, the bytes that it reads, the folder that it runs in, and how long it may take (no
-# number: as long as it likes). `pieces` of what it put have their times; `told` is its standard error.
+# What to call: the program and its words, the bytes that it reads, the folder that it runs in, and how long it may
+# take (no number: as long as it likes). `pieces` of what it put have their times; `told` is its standard error.
 Call = collections.namedtuple("Call", "program words text folder seconds")
 Done = collections.namedtuple("Done", "status pieces told seconds is_over")
 
@@ -61,7 +62,8 @@ def reason(error):
 
 
 def expect_streams():
-    """Complains where standard output is closed. A closed standard input or error is opened, so that no file takes its place."""
+    """Complains where standard output is closed. A closed standard input or error is opened, so that no file takes
+    its place."""
     for stream in (0, 1, 2):
         try:
             os.fstat(stream)
@@ -206,8 +208,8 @@ class Crew:
         self.children = {}
 
     def advance(self, task, step):
-        """Has a task go on by a step, and begins the call that it comes to, where it has not ended. A call that the system does not
-        begin is an error in the task."""
+        """Has a task go on by a step, and begins the call that it comes to, where it has not ended. A call that the
+        system does not begin is an error in the task."""
         while True:
             try:
                 call = step()
@@ -262,8 +264,8 @@ class Crew:
 
 
 def side_by_side(take, jobs):
-    """Runs tasks, so many at a time. `take` gives the next one, or nothing where none is there now. A task is a generator of calls,
-    which gets what each has done."""
+    """Runs tasks, so many at a time. `take` gives the next one, or nothing where none is there now. A task is a
+    generator of calls, which gets what each has done."""
     crew = Crew()
     with Signals() as signals:
         crew.selector.register(signals.wakes, selectors.EVENT_READ)
@@ -289,13 +291,13 @@ def one(task):
 
 
 def programs(script, *names):
-    """The programs of these names: beside the script where they are installed, and in the repository those that bin/started finds,
-    or proves and builds first."""
+    """The programs of these names: beside the script where they are installed, and in the repository those that
+    bin/started finds, or proves and builds first."""
     here = pathlib.Path(script).resolve().parent
     paths = [here / name for name in names]
     if (here / "started").exists():
-        streams = {"stdin": subprocess.DEVNULL, "stdout": subprocess.PIPE}
-        found = subprocess.run([here / "started", "--path", *names], **streams, preexec_fn=dying(signal.SIGTERM), check=False)
+        how = {"stdin": subprocess.DEVNULL, "stdout": subprocess.PIPE, "preexec_fn": dying(signal.SIGTERM)}
+        found = subprocess.run([here / "started", "--path", *names], check=False, **how)
         if found.returncode:
             raise Failed("there are no programs")
         paths = [pathlib.Path(os.fsdecode(path)) for path in found.stdout.split(b"\n")[:-1]]

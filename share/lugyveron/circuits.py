@@ -56,7 +56,7 @@ def property_names(counts):
 
 
 def behind(text, start, wanted, count):
-    """The least place that has as many ends between it and the start as are wanted. `count` counts the ends in bytes."""
+    """The least place with as many ends between it and the start as are wanted. `count` counts the ends in bytes."""
     low, high, missing = start, len(text), wanted
     while low < high:
         middle = (low + high) // 2
