@@ -7,7 +7,8 @@ use Rattle.solver.specs.Answers.{IsModel}
 use Rattle.solver.specs.Parts.{IsPartModel}
 use Rattle.solver.specs.declared.part.Part.{Part}
 use Rattle.cdcl_kernel.specs.Valued.{is_positive, with_value, with_values, valued, IsLastValue, AreLastValues}
-use Rattle.cdcl_kernel.specs.Verdicts.{AreTrueBy, IsSatisfiedBy, IsAndBy}
+use Rattle.solver.specs.Values.{AreTrueBy, IsAndBy}
+use Rattle.cdcl_kernel.specs.Verdicts.{IsSatisfiedBy}
 use lib.Signed.{lt_z}
 
 -- ---- one literal more

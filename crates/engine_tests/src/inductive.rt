@@ -10,6 +10,7 @@ use checker::check;
 use engine::{Engine, Finding, Progress};
 use graph::{Budget, Lit, Model, Property, Seq};
 use ic3::Ic3;
+use solver::{PartSat, Plain};
 use std::alloc::Global;
 use std::test::Fail;
 use stimulus::{Stimulus, judge};
@@ -60,11 +61,16 @@ fn is_shown(alloc: Global, circuit: &Model, initial: Seq<bool>, inputs: Seq<Seq<
     judge(alloc, circuit, &stimulus).is_ok()
 }
 
-/// Whether the circuit is found safe or not, with evidence that stands.
-fn found(alloc: Global, circuit: &Model, safe: bool) -> Result<bool, Fail>
+/// Whether the circuit is found safe or not by this solver, with evidence that stands.
+fn found<S: PartSat>(
+    alloc: Global,
+    solver: S,
+    circuit: &Model,
+    safe: bool,
+) -> Result<bool, Fail>
     requires { IsForBad circuit.now }
 {
-    match Ic3::new(Cdcl::new(alloc)).find(alloc, circuit, &mut Budget::new(STEPS))? {
+    match Ic3::new(solver).find(alloc, circuit, &mut Budget::new(STEPS))? {
         Finding::Invariant(clauses) => Ok(
             safe && is_certified(alloc, circuit, clauses.as_slice())?,
         ),
@@ -73,10 +79,13 @@ fn found(alloc: Global, circuit: &Model, safe: bool) -> Result<bool, Fail>
     }
 }
 
-/// The same of the circuit of a text.
+/// The same of the circuit of a text, by each of the two solvers.
 fn is_found(alloc: Global, text: &[u8], safe: bool) -> Result<bool, Fail> {
     let circuit = circuit(alloc, text)?;
-    found(alloc, &circuit, safe)
+    Ok(
+        found(alloc, Cdcl::new(alloc), &circuit, safe)?
+            && found(alloc, Plain::new(alloc), &circuit, safe)?,
+    )
 }
 
 #[test]

@@ -1,8 +1,8 @@
 use Rattle.std.proofs.Common.{rules, ◌≡◌, ℤ, pos, SFits, w32, get_or, true, refl, sym, ◌∙◌}
 use Rattle.lrat.proofs.Fit.{read32}
 use Rattle.solver.proofs.Looks.{all_more, all_whole}
-use Rattle.cdcl_kernel.specs.Verdicts.{true_by}
-use Rattle.cdcl_kernel.proofs.values.are_true.Goals as goal
+use Rattle.solver.specs.Values.{true_by}
+use Rattle.solver.proofs.values.are_true.Goals as goal
 
 pub loop-literal-preserved : goal.loop-literal-preserved
 loop-literal-preserved c =

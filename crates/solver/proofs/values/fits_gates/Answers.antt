@@ -1,7 +1,7 @@
 use Rattle.std.proofs.Common.{refl}
 use Rattle.solver.proofs.Looks.{all_more, all_whole}
-use Rattle.cdcl_kernel.specs.Verdicts.{IsAndBy}
-use Rattle.cdcl_kernel.proofs.values.fits_gates.Goals as goal
+use Rattle.solver.specs.Values.{IsAndBy}
+use Rattle.solver.proofs.values.fits_gates.Goals as goal
 
 pub loop-gate-preserved : goal.loop-gate-preserved
 loop-gate-preserved c = all_more (IsAndBy c.args.values.now) _ _ _ c.loop-gate-test.true c.loop-gate.invariant (c.fits_gate.ensures.0 c.if-not-fits_gate.false)
