@@ -1,4 +1,4 @@
-"""The cases of cases/cases.tsv with a small C library preloaded (bench/hostile), for `bench/refused` and `bench/devices`."""
+"""The cases of cases/cases.tsv with a small C library preloaded (robustness/hostile), for `robustness/refused` and `robustness/devices`."""
 
 import contextlib
 import importlib.machinery
@@ -30,7 +30,7 @@ def due(cases, names):
 def built(folder, source):
     """The library to preload."""
     path = pathlib.Path(folder) / f"{source}.so"
-    command = ["cc", "-O2", "-fno-builtin", "-shared", "-fPIC", "-o", path, TOP / "bench" / "hostile" / f"{source}.c"]
+    command = ["cc", "-O2", "-fno-builtin", "-shared", "-fPIC", "-o", path, TOP / "robustness" / "hostile" / f"{source}.c"]
     subprocess.run(command, check=True)
     return path
 
