@@ -77,7 +77,7 @@ pub fn core_of_failed_assumption(
 /// The core that the clause in progress denies, where its hints show it.
 fn checked_core(
     kernel: &mut LoggedKernel,
-    guide: &Guide,
+    guide: &mut Guide,
     assume: &[i32],
 ) -> Result<Option<Vec<i32>>, SatError>
     ensures keeps { Keeps kernel.old kernel.new }
@@ -91,6 +91,7 @@ fn checked_core(
         guide.analysis.hints.as_slice(),
         assume,
     )?;
+    guide.statistics.count_core(core.is_some());
     Ok(core)
 }
 

@@ -5,6 +5,7 @@ use crate::assignment::Assignment;
 use crate::decisions::Decisions;
 use crate::learned::Learned;
 use crate::restarts::Restarts;
+use crate::statistics::Statistics;
 use crate::watches::Watches;
 use base::Refused;
 use std::alloc::Global;
@@ -26,6 +27,7 @@ pub struct Guide {
     pub(crate) pending_units: Vec<u32>,
     /// the assumptions of the last call
     pub(crate) assumptions: Vec<i32>,
+    pub(crate) statistics: Statistics,
 }
 
 impl Guide {
@@ -42,7 +44,20 @@ impl Guide {
             pending_conflict: None,
             pending_units: Vec::new(alloc),
             assumptions: Vec::new(alloc),
+            statistics: Statistics::new(),
         }
+    }
+
+    /// No variables and no clauses again. The statistics stay.
+    pub fn renew(&mut self, alloc: Global) {
+        let statistics = self.statistics;
+        *self = Guide::new(alloc);
+        self.statistics = statistics;
+    }
+
+    /// How often the search did what, since `new`.
+    pub fn statistics(&self) -> Statistics {
+        self.statistics
     }
 
     /// Makes room for the variables of the literals.

@@ -29,11 +29,13 @@ pub fn learn(
 {
     backtrack(guide, level)?;
     analyse(kernel.known(), guide, conflict, level)?;
-    if !kernel.learn(
+    let is_kept = kernel.learn(
         guide.alloc,
         guide.analysis.clause.as_slice(),
         guide.analysis.hints.as_slice(),
-    )? {
+    )?;
+    guide.statistics.count_learned(is_kept);
+    if !is_kept {
         return Ok(backtrack(guide, 0)?);
     }
     let id = last_id(kernel.known());

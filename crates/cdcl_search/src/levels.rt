@@ -5,6 +5,7 @@
 //! level without a decision, so that the level alone says which assumption is next.
 
 use crate::guide::Guide;
+use crate::statistics::count;
 use crate::table::Table;
 use base::{Refused, push};
 use std::alloc::Global;
@@ -165,6 +166,7 @@ pub fn decide(guide: &mut Guide, literal: i32) -> Result<(), Refused> {
     };
     push(&mut guide.assignment.levels.starts, start)?;
     if guide.assignment.values.is_unassigned(literal) {
+        count(&mut guide.statistics.decisions);
         guide.assignment.enqueue(literal, None)?;
     }
     Ok(())

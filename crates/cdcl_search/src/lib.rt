@@ -28,6 +28,7 @@ mod reduction;
 mod restarts;
 mod searching;
 mod short_lists;
+mod statistics;
 mod table;
 mod trail;
 mod trail_reuse;
@@ -37,3 +38,4 @@ mod watches;
 
 pub use guide::Guide;
 pub use searching::search;
+pub use statistics::Statistics;

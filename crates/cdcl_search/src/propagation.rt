@@ -11,6 +11,7 @@ ghost use Rattle.base.specs.Budget.{Spends};
 use crate::guide::Guide;
 use crate::long_clauses::WatchVisit;
 use crate::short_lists::Short;
+use crate::statistics::count;
 use crate::values::{Value, Values, code_of, literal_of};
 use crate::watches::Watch;
 use base::{Budget, Refused};
@@ -61,6 +62,7 @@ pub fn propagate(
         let Some(literal) = guide.assignment.next_to_propagate() else {
             return Ok(Propagated::NoConflict);
         };
+        count(&mut guide.statistics.propagations);
         match propagate_literal(guide, budget, literal.wrapping_neg())? {
             Propagated::NoConflict => guide.assignment.mark_propagated(),
             Propagated::Conflict(id) => return Ok(Propagated::Conflict(id)),

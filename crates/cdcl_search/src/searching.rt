@@ -19,6 +19,7 @@ use crate::learning::learn;
 use crate::levels::{backtrack, decide};
 use crate::propagation::{Propagated, propagate};
 use crate::reduction::{least_between, reduce};
+use crate::statistics::count;
 use crate::trail_reuse::reuse_trail;
 use crate::units::{learn_root_units, propagate_unit};
 use base::{Budget, Refused};
@@ -106,6 +107,7 @@ fn handle_conflict(
     ensures ends { IfOk result (λ r. IfSome r (EndsWith kernel.old kernel.new assume.now)) }
     ensures limit { IfErr result (λ e. e ≡ Limit full → IsFull kernel.new) }
 {
+    count(&mut guide.statistics.conflicts);
     let level = conflict_level(kernel.known(), &guide.assignment, conflict);
     if level == 0 {
         guide.pending_conflict = Some(conflict);
@@ -117,9 +119,11 @@ fn handle_conflict(
     let clauses = kernel.known().clauses();
     let least = least_between(clauses, guide.decisions.parts.is_part, assume);
     if guide.learned.reductions.is_due(least) {
+        count(&mut guide.statistics.reductions);
         reduce(kernel, guide)?;
     }
     if guide.restarts.is_due() {
+        count(&mut guide.statistics.restarts);
         let level = assume.len().min(guide.assignment.levels.current());
         backtrack(guide, level)?;
     }

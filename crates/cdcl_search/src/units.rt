@@ -71,7 +71,9 @@ fn learn_root_unit(
     }
     hint_units(&guide.assignment, &mut guide.analysis, clause, literal)?;
     guide.analysis.hint(id)?;
-    if kernel.learn(guide.alloc, &[literal], guide.analysis.hints.as_slice())? {
+    let is_kept = kernel.learn(guide.alloc, &[literal], guide.analysis.hints.as_slice())?;
+    guide.statistics.count_learned(is_kept);
+    if is_kept {
         let unit = last_id(kernel.known());
         guide.watches.reach(kernel.known().clauses());
         guide.assignment.unit_ids.put(variable, unit);
