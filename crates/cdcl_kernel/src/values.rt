@@ -1,4 +1,4 @@
-//! Values of variables in a list, each at its variable's place, and which clauses they satisfy.
+//! Values of variables in a list, each at its variable's index, and which clauses they satisfy.
 
 ghost use Rattle.std.specs.Prelude.{◌≡◌, ◌<◌, ◌^◌, IsTrue, ◌↔◌, IfOk};
 ghost use Rattle.cdcl_kernel.specs.Valued.{AreLastValues, valued};
@@ -8,7 +8,7 @@ use base::{Refused, filled};
 use solver::is_true;
 use std::alloc::Global;
 
-/// The values of the variables 1 to `vars` by which the literals are true, after a place 0 that
+/// The values of the variables 1 to `vars` by which the literals are true, after an index 0 that
 /// is false. Variables of which there is no literal are false, literals of other variables are
 /// passed over, and of a variable's literals the last one counts.
 pub fn values_of(alloc: Global, vars: u32, literals: &[i32]) -> Result<Vec<bool>, Refused>
@@ -18,9 +18,9 @@ pub fn values_of(alloc: Global, vars: u32, literals: &[i32]) -> Result<Vec<bool>
 {
     let mut values = filled(alloc, false, vars as usize + 1)?;
     for literal in literals {
-        let place = literal.unsigned_abs() as usize;
-        if place < values.len() {
-            values[place] = *literal > 0;
+        let index = literal.unsigned_abs() as usize;
+        if index < values.len() {
+            values[index] = *literal > 0;
         }
     }
     Ok(values)

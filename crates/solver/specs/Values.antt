@@ -1,4 +1,4 @@
--- What is true under values in a list, each at its variable's place.
+-- What is true under values in a list, each at its variable's index.
 use Rattle.std.specs.Prelude.{ℤ, Bool, List}
 use Rattle.lrat.specs.Literals.{is_true}
 use Rattle.solver.specs.Answers.{AreTrue, values}

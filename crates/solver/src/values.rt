@@ -1,16 +1,16 @@
-//! What is true under values of variables, each at its variable's place.
+//! What is true under values of variables, each at its variable's index.
 
 ghost use Rattle.std.specs.Prelude.{◌≡◌, false, IsTrue, ◌↔◌, All, slice_index_or};
 ghost use Rattle.solver.specs.Values.{true_by, AreTrueBy, IsAndBy};
 
 use crate::part::AndGate;
 
-/// The value at a place: past the end it is false.
+/// The value at an index: past the end it is false.
 #[inline]
-fn value_at(values: &[bool], place: usize) -> bool
-    ensures { result ≡ slice_index_or values.now place false }
+fn value_at(values: &[bool], index: usize) -> bool
+    ensures { result ≡ slice_index_or values.now index false }
 {
-    match values.get(place) {
+    match values.get(index) {
         Some(value) => *value,
         None => false,
     }

@@ -1,6 +1,6 @@
 use Rattle.std.proofs.Common.{◌≤◌, length}
 use Rattle.base.specs.Budget.{Spends}
-use Rattle.cdcl_search.proofs.propagation.visit_long.Given as goal
+use Rattle.cdcl_search.proofs.propagation.visit_long_watches.Given as goal
 
 abbrev pub invariant-loop-at : goal.invariant-loop-at
 invariant-loop-at l = record {

@@ -5,22 +5,22 @@ use cdcl_kernel::Kernel;
 
 /// What the values leave of a clause.
 #[derive(Clone, Copy, PartialEq, Eq)]
-pub enum Found {
+pub enum ClauseStatus {
     /// no clause has the id
     Missing,
     /// each of its literals is false
     Conflict,
     /// the one literal that is left is true already
     Satisfied,
-    /// this one literal is left, and is open
+    /// this one literal is left, and is unassigned
     Unit(i32),
     /// two or more distinct literals are not false
     Several,
 }
 
-/// A literal of the clause that is not false, besides one.
+/// A literal of the clause that is not false, besides one: it can be watched in place of another.
 #[inline]
-pub fn replacement(kernel: &Kernel, values: &Values, id: u32, other: i32) -> Option<i32> {
+pub fn replacement_watch(kernel: &Kernel, values: &Values, id: u32, other: i32) -> Option<i32> {
     for literal in kernel.clause(id)? {
         if *literal != other && !values.is_false(*literal) {
             return Some(*literal);
@@ -30,18 +30,18 @@ pub fn replacement(kernel: &Kernel, values: &Values, id: u32, other: i32) -> Opt
 }
 
 /// What the values leave of the clause with this id.
-pub fn look(kernel: &Kernel, values: &Values, id: u32) -> Found {
+pub fn clause_status(kernel: &Kernel, values: &Values, id: u32) -> ClauseStatus {
     if kernel.clause(id).is_none() {
-        return Found::Missing;
+        return ClauseStatus::Missing;
     }
-    let Some(literal) = replacement(kernel, values, id, 0) else {
-        return Found::Conflict;
+    let Some(literal) = replacement_watch(kernel, values, id, 0) else {
+        return ClauseStatus::Conflict;
     };
-    if replacement(kernel, values, id, literal).is_some() {
-        return Found::Several;
+    if replacement_watch(kernel, values, id, literal).is_some() {
+        return ClauseStatus::Several;
     }
     if values.is_true(literal) {
-        return Found::Satisfied;
+        return ClauseStatus::Satisfied;
     }
-    Found::Unit(literal)
+    ClauseStatus::Unit(literal)
 }
