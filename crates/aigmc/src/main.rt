@@ -140,16 +140,16 @@ fn refuse(rt: &HostRuntime, wrong: &Wrong) -> ExitCode {
 
 /// Does what the words ask for, and answers the status.
 fn answer(rt: &HostRuntime, words: &[String]) -> ExitCode {
-    let request = match parse(rt.alloc(), words) {
-        Ok(Some(request)) => request,
+    let asked = match parse(rt.alloc(), words) {
+        Ok(Some(asked)) => asked,
         Ok(None) => return tell(rt, Stop::BadArgument),
         Err(error) => return refuse(rt, &error),
     };
-    match done(rt, request) {
+    match done(rt, asked.request) {
         Ok(status) => ExitCode::from(status),
         Err(stop) => {
             let status = tell(rt, stop);
-            tell_detail(rt, request, stop);
+            tell_detail(rt, asked, stop);
             status
         }
     }
