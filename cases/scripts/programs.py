@@ -68,14 +68,14 @@ def quiet(scratch):
 @case("aigmc --timeout: the search ends, and what was found stays")
 def timed(scratch):
     make(scratch / "circuit.aag", counter(64, 3))
-    for engine in ("bmc", "ic3", "all"):
+    for engine in ("ic3", "all"):
         words = ("check", "circuit.aag", "-p", "b1", "--timeout", "1", "--engine", engine, "--depth", "255", "-v")
-        out, told, status = program(scratch, "aigmc", *words, "--budget", ALL_STEPS, timeout=60)
+        out, told, status = program(scratch, "aigmc", *words, "--budget", ALL_STEPS)
         last = told.splitlines()[-1]
         expect((out, last, status), (b"2\nb1\n.\n", b"b1: " + SPENT, 2), f"what {engine} does")
     (scratch / "made").mkdir()
     words = ("all", "circuit.aag", "--timeout", "1", "--engine", "ic3", "--budget", ALL_STEPS, "--out", "made")
-    out, told, status = program(scratch, "aigmc", *words, timeout=60)
+    out, told, status = program(scratch, "aigmc", *words)
     expect((out, told, status), (b"0\nb0\n.\n2\nb1\n.\n2\nb2\n.\n", b"", 2), "what all does")
     expect([path.name for path in (scratch / "made").iterdir()], ["b0.cert"], "the evidence")
     judged = program(scratch, "aigcheck", "safe", "circuit.aag", "made/b0.cert", "-p", "b0")

@@ -1,5 +1,8 @@
 //! Properties by their names in a circuit's symbol table.
 
+ghost use Rattle.std.specs.Prelude.{◌≡◌, IfOk, IfSome};
+ghost use Rattle.property_names.specs.Symbols.{IsCalled, IsOf};
+
 use crate::property_name::property_named;
 use graph::{AigerFile, Property, Symbol, SymbolKind};
 
@@ -40,8 +43,10 @@ pub fn asked_by(word: &str) -> Option<Asked<'_>> {
     }
 }
 
-/// The property that the symbol names, where it is one of the circuit's.
-fn property_of(symbol: &Symbol, are_outputs_bad: bool) -> Option<Property> {
+/// The property that the symbol names, where it may be one.
+fn property_of(symbol: &Symbol, are_outputs_bad: bool) -> Option<Property>
+    ensures { IfSome result (IsOf symbol.now) }
+{
     match symbol.kind {
         SymbolKind::Bad => Some(Property::Bad(symbol.position)),
         SymbolKind::Justice => Some(Property::Justice(symbol.position)),
@@ -50,15 +55,27 @@ fn property_of(symbol: &Symbol, are_outputs_bad: bool) -> Option<Property> {
     }
 }
 
+/// The property that the symbol gives this name.
+fn called_by(symbol: &Symbol, name: &[u8], are_outputs_bad: bool) -> Option<Property>
+    ensures of { IfSome result (IsOf symbol.now) }
+    ensures named { IfSome result (λ _. symbol.now.name ≡ name.now) }
+{
+    if symbol.name.as_slice() == name {
+        property_of(symbol, are_outputs_bad)
+    } else {
+        None
+    }
+}
+
 /// The one property of the circuit that has this name in the symbol table.
-pub fn property_called(file: &AigerFile, name: &str) -> Result<Property, Unnamed> {
+pub fn property_called(file: &AigerFile, name: &str) -> Result<Property, Unnamed>
+    ensures { IfOk result (IsCalled file.now.symbols name.now) }
+{
     let are_outputs_bad = file.model().parts().are_outputs_bad();
+    let symbols = file.symbols();
     let mut found = None;
-    for symbol in file.symbols() {
-        if symbol.name.as_slice() != name.as_bytes() {
-            continue;
-        }
-        if let Some(property) = property_of(symbol, are_outputs_bad) {
+    for symbol in symbols {
+        if let Some(property) = called_by(symbol, name.as_bytes(), are_outputs_bad) {
             if found.is_some() {
                 return Err(Unnamed::Several);
             }
@@ -69,7 +86,9 @@ pub fn property_called(file: &AigerFile, name: &str) -> Result<Property, Unnamed
 }
 
 /// The name of the property in the circuit's symbol table, where it has one.
-pub fn symbol_of(file: &AigerFile, property: Property) -> Option<&[u8]> {
+pub fn symbol_of(file: &AigerFile, property: Property) -> Option<&[u8]>
+    ensures { IfSome result (λ name. IsCalled file.now.symbols name.now property) }
+{
     let are_outputs_bad = file.model().parts().are_outputs_bad();
     for symbol in file.symbols() {
         if property_of(symbol, are_outputs_bad) == Some(property) {
