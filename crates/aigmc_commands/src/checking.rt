@@ -47,6 +47,11 @@ impl Timing {
         }
     }
 
+    /// A solver that is asked until then.
+    fn solver(self, alloc: Global) -> Timed<Cdcl> {
+        Timed::new(Cdcl::new(alloc), self.deadline)
+    }
+
     /// How many steps the search may cost: none where the time is over.
     fn budget(self) -> Budget {
         if self.deadline.is_over() {
@@ -67,19 +72,17 @@ pub fn ask(
     candidates: Seq<Seq<Lit>>,
 ) -> Result<Verdict, Stop> {
     let alloc = rt.alloc();
-    let Timing { search, deadline } = timing;
+    let search = timing.search;
     let shown = timing.shown(rt);
     let depth = u32::from(search.depth);
     let mut engines: Vec<Box<dyn Engine>> = Vec::new(alloc);
     if search.engine.has_bounded() {
-        let solver = Timed::new(Cdcl::new(alloc), deadline);
-        let bounded = Bmc::new(solver, depth).with_progress(Reporter::new(rt, shown));
+        let bounded = Bmc::new(timing.solver(alloc), depth).with_progress(Reporter::new(rt, shown));
         let engine: Box<dyn Engine> = boxed(alloc, bounded)?;
         push(&mut engines, engine)?;
     }
     if search.engine.has_inductive() {
-        let solver = Timed::new(Cdcl::new(alloc), deadline);
-        let inductive = Ic3::with_candidates(solver, candidates);
+        let inductive = Ic3::with_candidates(timing.solver(alloc), candidates);
         let inductive = inductive.with_progress(Reporter::new(rt, shown));
         let engine: Box<dyn Engine> = boxed(alloc, inductive)?;
         push(&mut engines, engine)?;

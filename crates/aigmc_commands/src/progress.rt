@@ -152,14 +152,8 @@ impl Progress for Reporter {
     }
 }
 
-/// Says what was found of the property, or why nothing is known of it, and its name where it has one.
-pub fn conclude(
-    rt: &HostRuntime,
-    property: Property,
-    verdict: &Verdict,
-    symbol: Option<&[u8]>,
-    is_over: bool,
-) {
+/// Says what was found of the property, and why nothing is known of it.
+fn tell_found(rt: &HostRuntime, property: Property, verdict: &Verdict, is_over: bool) {
     let (letter, number) = match property {
         Property::Bad(number) => ('b', number),
         Property::Justice(number) => ('j', number),
@@ -191,6 +185,17 @@ pub fn conclude(
             "{letter}{number}: no engine had evidence"
         ),
     };
+}
+
+/// Says what was found of the property, and why nothing is known of it, and its name where it has one.
+pub fn conclude(
+    rt: &HostRuntime,
+    property: Property,
+    verdict: &Verdict,
+    symbol: Option<&[u8]>,
+    is_over: bool,
+) {
+    tell_found(rt, property, verdict, is_over);
     let _ = match symbol {
         Some(symbol) => eprintln!(rt; " ({})", Printable(symbol)),
         None => eprintln!(rt),
