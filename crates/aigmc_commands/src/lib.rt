@@ -4,9 +4,11 @@
 mod adopting;
 mod checking;
 mod counterexample;
+mod naming;
 mod progress;
 mod relevant;
 mod shadow;
+mod timed;
 mod tracing;
 mod witnessing;
 
