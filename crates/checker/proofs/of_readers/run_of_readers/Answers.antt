@@ -19,7 +19,7 @@ returns-in-None g c = record {
       (both_given c.args.circuit.now.given c.run_stimulus.new.circuit.given c.args.stimulus.now.given c.run_stimulus.new.stimulus.given _ _ _ _ _ _ _ _ _ c.run_stimulus.result c.run_stimulus.ensures.ended c.run_stimulus.ensures.yes);
   no =
       wanted_so _ _ c.in-None.is _ _ _ _ _ _ _ _ _ _ _ _
-      (λ w xs ys. IfOk c.run_stimulus.result (λ said. said ≡ false → (n : ℕ) × IsRunRefusalOf w xs ys n × Appends _ _ (no_line n)))
+      (λ w xs ys. IfOk c.run_stimulus.result (λ said. said ≡ false → (n : ℕ) × IsRunRefusalOf w xs ys n × Appends (g.W.Sink.contents c.args.out.now) (g.W.Sink.contents c.run_stimulus.new.out) (no_line n)))
       c.run_stimulus.ensures.no;
   exact =
       wanted_so _ _ c.in-None.is _ _ _ _ _ _ _ _ _ _ _ _
@@ -31,7 +31,7 @@ returns-in-None g c = record {
   nothing = c.run_stimulus.ensures.nothing;
   beginning =
       wanted_so _ _ c.in-None.is _ _ _ _ _ _ _ _ _ _ _ _
-      (λ w xs ys. OnErr c.run_stimulus.result (_ ≡ _ + 1 → BeginsRunLineOf w xs ys _ _))
+      (λ w xs ys. OnErr c.run_stimulus.result (g.W.Sink.failed c.run_stimulus.new.out ≡ g.W.Sink.failed c.args.out.now + 1 → BeginsRunLineOf w xs ys (g.W.Sink.contents c.args.out.now) (g.W.Sink.contents c.run_stimulus.new.out)))
       c.run_stimulus.ensures.beginning;
 }
 
@@ -46,7 +46,7 @@ returns-in-Some g c = record {
       (both_given c.args.circuit.now.given c.run_stimulus_for.new.circuit.given c.args.stimulus.now.given c.run_stimulus_for.new.stimulus.given _ _ _ _ _ _ _ _ _ c.run_stimulus_for.result c.run_stimulus_for.ensures.ended c.run_stimulus_for.ensures.yes);
   no =
       wanted_so _ _ c.in-Some.is _ _ _ _ _ _ _ _ _ _ _ _
-      (λ w xs ys. IfOk c.run_stimulus_for.result (λ said. said ≡ false → (n : ℕ) × IsRunRefusalOf w xs ys n × Appends _ _ (no_line n)))
+      (λ w xs ys. IfOk c.run_stimulus_for.result (λ said. said ≡ false → (n : ℕ) × IsRunRefusalOf w xs ys n × Appends (g.W.Sink.contents c.args.out.now) (g.W.Sink.contents c.run_stimulus_for.new.out) (no_line n)))
       c.run_stimulus_for.ensures.no;
   exact =
       wanted_so _ _ c.in-Some.is _ _ _ _ _ _ _ _ _ _ _ _
@@ -58,6 +58,6 @@ returns-in-Some g c = record {
   nothing = c.run_stimulus_for.ensures.nothing;
   beginning =
       wanted_so _ _ c.in-Some.is _ _ _ _ _ _ _ _ _ _ _ _
-      (λ w xs ys. OnErr c.run_stimulus_for.result (_ ≡ _ + 1 → BeginsRunLineOf w xs ys _ _))
+      (λ w xs ys. OnErr c.run_stimulus_for.result (g.W.Sink.failed c.run_stimulus_for.new.out ≡ g.W.Sink.failed c.args.out.now + 1 → BeginsRunLineOf w xs ys (g.W.Sink.contents c.args.out.now) (g.W.Sink.contents c.run_stimulus_for.new.out)))
       c.run_stimulus_for.ensures.beginning;
 }

@@ -19,7 +19,7 @@ returns-in-None g c = record {
       (both_given c.args.circuit.now.given c.run_safe.new.circuit.given c.args.certificate.now.given c.run_safe.new.certificate.given _ _ _ _ _ _ _ _ _ c.run_safe.result c.run_safe.ensures.ended c.run_safe.ensures.yes);
   no =
       wanted_so _ _ c.in-None.is _ _ _ _ _ _ _ _ _ _ _ _
-      (λ w xs ys. IfOk c.run_safe.result (λ said. said ≡ false → (n : ℕ) × IsRefusalOf w xs ys n × Appends _ _ (no_line n)))
+      (λ w xs ys. IfOk c.run_safe.result (λ said. said ≡ false → (n : ℕ) × IsRefusalOf w xs ys n × Appends (g.W.Sink.contents c.args.out.now) (g.W.Sink.contents c.run_safe.new.out) (no_line n)))
       c.run_safe.ensures.no;
   exact =
       wanted_so _ _ c.in-None.is _ _ _ _ _ _ _ _ _ _ _ _
@@ -31,7 +31,7 @@ returns-in-None g c = record {
   nothing = c.run_safe.ensures.nothing;
   beginning =
       wanted_so _ _ c.in-None.is _ _ _ _ _ _ _ _ _ _ _ _
-      (λ w xs ys. OnErr c.run_safe.result (_ ≡ _ + 1 → BeginsLineOf w xs ys _ _))
+      (λ w xs ys. OnErr c.run_safe.result (g.W.Sink.failed c.run_safe.new.out ≡ g.W.Sink.failed c.args.out.now + 1 → BeginsLineOf w xs ys (g.W.Sink.contents c.args.out.now) (g.W.Sink.contents c.run_safe.new.out)))
       c.run_safe.ensures.beginning;
 }
 
@@ -46,7 +46,7 @@ returns-in-Some g c = record {
       (both_given c.args.circuit.now.given c.run_safe_for.new.circuit.given c.args.certificate.now.given c.run_safe_for.new.certificate.given _ _ _ _ _ _ _ _ _ c.run_safe_for.result c.run_safe_for.ensures.ended c.run_safe_for.ensures.yes);
   no =
       wanted_so _ _ c.in-Some.is _ _ _ _ _ _ _ _ _ _ _ _
-      (λ w xs ys. IfOk c.run_safe_for.result (λ said. said ≡ false → (n : ℕ) × IsRefusalOf w xs ys n × Appends _ _ (no_line n)))
+      (λ w xs ys. IfOk c.run_safe_for.result (λ said. said ≡ false → (n : ℕ) × IsRefusalOf w xs ys n × Appends (g.W.Sink.contents c.args.out.now) (g.W.Sink.contents c.run_safe_for.new.out) (no_line n)))
       c.run_safe_for.ensures.no;
   exact =
       wanted_so _ _ c.in-Some.is _ _ _ _ _ _ _ _ _ _ _ _
@@ -58,6 +58,6 @@ returns-in-Some g c = record {
   nothing = c.run_safe_for.ensures.nothing;
   beginning =
       wanted_so _ _ c.in-Some.is _ _ _ _ _ _ _ _ _ _ _ _
-      (λ w xs ys. OnErr c.run_safe_for.result (_ ≡ _ + 1 → BeginsLineOf w xs ys _ _))
+      (λ w xs ys. OnErr c.run_safe_for.result (g.W.Sink.failed c.run_safe_for.new.out ≡ g.W.Sink.failed c.args.out.now + 1 → BeginsLineOf w xs ys (g.W.Sink.contents c.args.out.now) (g.W.Sink.contents c.run_safe_for.new.out)))
       c.run_safe_for.ensures.beginning;
 }
