@@ -129,7 +129,7 @@ fn search_up_to<S: Sat, P: Progress>(
     let cone = cone_of(alloc, circuit, &nexts)?;
     let mut unrolling = begin(solver, alloc, circuit, &cone, depth + 1)?;
     'deepening: for steps in 0..depth + 1 {
-        progress.begun(steps, unrolling.encoder.variables, budget);
+        progress.depth_begun(steps, unrolling.encoder.variables, budget);
         match reach(
             solver,
             circuit,

@@ -57,7 +57,7 @@ impl<S: PartSat> FrameSolver<S> {
             let Some((level, index)) = queue.pop_min() else {
                 return Ok(None);
             };
-            progress.asked(budget);
+            progress.query_asked(budget);
             let clause = found[index].clause.as_slice();
             match self.block(circuit, frames, level, clause, budget)? {
                 Blocking::Initial => {

@@ -60,7 +60,7 @@ impl<S: PartSat> FrameSolver<S> {
         ensures sound { OnOk result (IsSound circuit.now self.new frames.new) }
         ensures invariant { IfOk result (λ r. IfSome r (IsInvariant circuit.now)) }
     {
-        progress.opened(frames.top(), frames.entries().len(), budget);
+        progress.frame_opened(frames.top(), frames.entries().len(), budget);
         self.try_candidates(circuit, frames, candidates, budget)?;
         self.propagate(circuit, frames, budget)
     }
@@ -83,7 +83,7 @@ impl<S: PartSat> FrameSolver<S> {
         ensures found { IfOk result (IsFound circuit.now budget.new) }
     {
         'searching: while budget.tick() {
-            progress.asked(budget);
+            progress.query_asked(budget);
             match self.at_bad(circuit, frames, budget)? {
                 AtBad::Set(time) => {
                     match self.block_obligations(
@@ -133,7 +133,7 @@ impl<S: PartSat> FrameSolver<S> {
         let mut frames = Frames::first(alloc, circuit)?;
         self.load(circuit, &frames, LEVELS)?;
         let mut lifting = Lifting::new(alloc, circuit)?;
-        progress.opened(frames.top(), frames.entries().len(), budget);
+        progress.frame_opened(frames.top(), frames.entries().len(), budget);
         self.search_from(
             circuit,
             &mut frames,
