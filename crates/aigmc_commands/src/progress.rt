@@ -84,7 +84,7 @@ impl Reporter {
         }
     }
 
-    /// Whether the one line is due: half a second after it was written, or after the first question.
+    /// Whether the one line is due: half a second after it was written, or after the first query.
     fn is_due(&mut self) -> bool {
         let Ok(now) = Instant::now(&self.rt) else {
             return false;
@@ -129,7 +129,7 @@ impl Reporter {
 }
 
 impl Progress for Reporter {
-    fn opened(&mut self, frame: u32, clauses: usize, budget: &Budget) {
+    fn frame_opened(&mut self, frame: u32, clauses: usize, budget: &Budget) {
         self.frame = frame;
         self.clauses = clauses;
         if self.shown == Shown::Lines {
@@ -137,7 +137,7 @@ impl Progress for Reporter {
         }
     }
 
-    fn begun(&mut self, steps: u32, variables: u32, budget: &Budget) {
+    fn depth_begun(&mut self, steps: u32, variables: u32, budget: &Budget) {
         if self.shown == Shown::Lines {
             self.say_depth("", steps, variables, "\n", budget);
         } else if self.shown == Shown::OneLine && self.is_due() {
@@ -145,7 +145,7 @@ impl Progress for Reporter {
         }
     }
 
-    fn asked(&mut self, budget: &Budget) {
+    fn query_asked(&mut self, budget: &Budget) {
         if self.shown == Shown::OneLine && self.is_due() {
             self.say_frame("\r", "\x1b[K", budget);
         }

@@ -96,34 +96,34 @@ fn finds_worked_circuits(rt: HostRuntime) -> Result<(), Fail> {
     Ok(())
 }
 
-/// What was heard of a search: the last frame, how many clauses the frames had then, and how many questions.
+/// What was told of a search: the last frame, how many clauses the frames had then, and how many queries.
 #[derive(Drop)]
-struct Heard {
+struct Told {
     frame: u32,
     clauses: usize,
-    questions: u32,
+    queries: u32,
 }
 
-impl Progress for Heard {
-    fn opened(&mut self, frame: u32, clauses: usize, _budget: &Budget) {
+impl Progress for Told {
+    fn frame_opened(&mut self, frame: u32, clauses: usize, _budget: &Budget) {
         self.frame = frame;
         self.clauses = clauses;
     }
 
-    fn begun(&mut self, _steps: u32, _variables: u32, _budget: &Budget) {}
+    fn depth_begun(&mut self, _steps: u32, _variables: u32, _budget: &Budget) {}
 
-    fn asked(&mut self, _budget: &Budget) {
-        self.questions = self.questions.saturating_add(1);
+    fn query_asked(&mut self, _budget: &Budget) {
+        self.queries = self.queries.saturating_add(1);
     }
 }
 
-/// What is heard of the search in the circuit of a text.
-fn heard_of(alloc: Global, text: &[u8]) -> Result<Heard, Fail> {
+/// What is told of the search in the circuit of a text.
+fn told_of(alloc: Global, text: &[u8]) -> Result<Told, Fail> {
     let circuit = circuit(alloc, text)?;
-    let nothing = Heard {
+    let nothing = Told {
         frame: 0,
         clauses: 0,
-        questions: 0,
+        queries: 0,
     };
     let mut engine = Ic3::new(Cdcl::new(alloc)).with_progress(nothing);
     engine.find(alloc, &circuit, &mut Budget::new(STEPS))?;
@@ -134,7 +134,7 @@ fn heard_of(alloc: Global, text: &[u8]) -> Result<Heard, Fail> {
 /// clause; asked again, it excludes the bad literal. Frame 2 has the clause too.
 #[test]
 fn tells_how_far_it_has_come(rt: HostRuntime) -> Result<(), Fail> {
-    let heard = heard_of(rt.alloc(), WORKED[0].0)?;
-    assert!(rt; heard.frame == 2 && heard.clauses == 1 && heard.questions == 4);
+    let told = told_of(rt.alloc(), WORKED[0].0)?;
+    assert!(rt; told.frame == 2 && told.clauses == 1 && told.queries == 4);
     Ok(())
 }

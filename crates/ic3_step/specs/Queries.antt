@@ -1,4 +1,4 @@
--- The part of a circuit that a question is about.
+-- The part of a circuit that a query is about.
 use Rattle.std.specs.Prelude.{◌≡◌, ℕ, ◌+◌, Bool, false, Option, None, Some, List, ◌++◌, length, slice_index_or, filter_map, map, All, Contains}
 use Rattle.graph.specs.declared.circuit.Lit.{Lit}
 use Rattle.graph.specs.declared.circuit.Gate.{Gate}

@@ -1,10 +1,10 @@
-//! The part of a circuit that a question is about.
+//! The part of a circuit that a query is about.
 
 ghost use Rattle.std.specs.Prelude.{◌≡◌, ◌++◌, map, All, IfOk, OnOk};
 ghost use Rattle.cnf.specs.Clauses.{literal, truth_clause};
 ghost use Rattle.cones.specs.Reach.{IsGateTable};
 ghost use Rattle.ic3_step.specs.Replies.{IsUsable};
-ghost use Rattle.ic3_step.specs.Questions.{IsUnasked, ArePartGates, IsPartFor};
+ghost use Rattle.ic3_step.specs.Queries.{IsUnasked, ArePartGates, IsPartFor};
 
 use crate::asking::push_lits;
 use crate::part_gates::PartGates;

@@ -1,11 +1,11 @@
--- What waits, where one frame changes.
+-- What is in the queue, where one frame changes.
 use Rattle.std.proofs.Common.{◌≡◌, ℕ, ◌<◌, ◌≤◌, ◌∙◌, List, [], ◌∷◌, ◌++◌, Vec, Global, if◌then◌else◌, length, get_or, set, map, All, Some, None, Result, Ok, Err, OnOk, OnErr, is_ok, ◌+◌, inl, inr, sym, ap, subst, arith}
 use Rattle.std.proofs.lemmas.Bool.{cases_lt}
 use Rattle.std.proofs.lemmas.List.{get_or-map, get_or-set_same, get_or_default, set-set, set-get_or, map-set, length-map}
 use Rattle.std.proofs.lemmas.List.Elements.{All-set, All-contains, Contains-push}
 use Rattle.std.proofs.Math.Seq.{map-set_same}
 use Rattle.graph.proofs.Evaluation.{All-left}
-use Rattle.ic3.specs.Waiting.{IsPut, IsLowest, IsTaken}
+use Rattle.ic3.specs.Queue.{IsEnqueued, IsLowest, IsPopped}
 
 -- the indices in each frame
 abbrev pub items_in : List (Vec ℕ Global) → List (List ℕ)
@@ -17,17 +17,17 @@ same_items frames i old new at same = map-set_same (λ (frame : Vec ℕ Global).
 
 -- a frame with one more
 more_items : (frames : List (Vec ℕ Global)) (i index : ℕ) (old new : Vec ℕ Global) → i < length frames → old ≡ get_or frames i old → new.items ≡ old.items ++ index ∷ [] →
-    IsPut (items_in frames) (items_in (set frames i new)) i index
-unfolding IsPut
+    IsEnqueued (items_in frames) (items_in (set frames i new)) i index
+unfolding IsEnqueued
 more_items frames i index old new inside at more =
     let Items : Vec ℕ Global → List ℕ = λ frame. frame.items in
     let here : old.items ≡ get_or (items_in frames) i [] = ap Items at ∙ sym (get_or-map Items frames i old [] inside) in
     map-set Items frames i new ∙ ap (set (items_in frames) i) (more ∙ ap (λ xs. xs ++ index ∷ []) here)
 
--- a frame without its last one: put there, it makes what was before
+-- a frame without its last one: added there, it makes what was before
 fewer_items : (frames : List (Vec ℕ Global)) (i index : ℕ) (old new : Vec ℕ Global) → i < length frames → old ≡ get_or frames i old → old.items ≡ new.items ++ index ∷ [] →
-    IsPut (items_in (set frames i new)) (items_in frames) i index
-unfolding IsPut
+    IsEnqueued (items_in (set frames i new)) (items_in frames) i index
+unfolding IsEnqueued
 fewer_items frames i index old new inside at fewer =
     let Items : Vec ℕ Global → List ℕ = λ frame. frame.items in
     let all = items_in frames in
@@ -39,34 +39,34 @@ fewer_items frames i index old new inside at fewer =
     sym (ap (λ ws. set ws i (get_or ws i [] ++ index ∷ [])) now ∙ back)
 
 -- a push that may be refused
-pub put_there : {T E : Type 0} (r : Result T E) (frames : List (Vec ℕ Global)) (i index : ℕ) (old new : Vec ℕ Global) → i < length frames → old ≡ get_or frames i old →
-    new.items ≡ (if is_ok r then old.items ++ index ∷ [] else old.items) → OnOk r (IsPut (items_in frames) (items_in (set frames i new)) i index)
-put_there (Ok x) frames i index old new inside at is = more_items frames i index old new inside at is
-put_there (Err e) frames i index old new inside at is = tt
+pub added_there : {T E : Type 0} (r : Result T E) (frames : List (Vec ℕ Global)) (i index : ℕ) (old new : Vec ℕ Global) → i < length frames → old ≡ get_or frames i old →
+    new.items ≡ (if is_ok r then old.items ++ index ∷ [] else old.items) → OnOk r (IsEnqueued (items_in frames) (items_in (set frames i new)) i index)
+added_there (Ok x) frames i index old new inside at is = more_items frames i index old new inside at is
+added_there (Err e) frames i index old new inside at is = tt
 
-pub not_put : {T E : Type 0} (r : Result T E) (frames : List (Vec ℕ Global)) (i index : ℕ) (old new : Vec ℕ Global) → old ≡ get_or frames i old →
+pub not_added : {T E : Type 0} (r : Result T E) (frames : List (Vec ℕ Global)) (i index : ℕ) (old new : Vec ℕ Global) → old ≡ get_or frames i old →
     new.items ≡ (if is_ok r then old.items ++ index ∷ [] else old.items) → OnErr r (items_in (set frames i new) ≡ items_in frames)
-not_put (Ok x) frames i index old new at is = tt
-not_put (Err e) frames i index old new at is = same_items frames i old new at is
+not_added (Ok x) frames i index old new at is = tt
+not_added (Err e) frames i index old new at is = same_items frames i old new at is
 
--- the last of a frame is taken, below which nothing waits
-pub last_taken : (before : List (List ℕ)) (frames : List (Vec ℕ Global)) (i index : ℕ) (old new : Vec ℕ Global) → items_in frames ≡ before → i < length frames → old ≡ get_or frames i old → old.items ≡ new.items ++ index ∷ [] →
-    IsLowest before i → IsTaken before (items_in (set frames i new)) (Some (i, index))
-unfolding IsTaken
-last_taken before frames i index old new same inside at fewer lowest =
+-- the last of a frame is popped, below which there is none
+pub last_popped : (before : List (List ℕ)) (frames : List (Vec ℕ Global)) (i index : ℕ) (old new : Vec ℕ Global) → items_in frames ≡ before → i < length frames → old ≡ get_or frames i old → old.items ≡ new.items ++ index ∷ [] →
+    IsLowest before i → IsPopped before (items_in (set frames i new)) (Some (i, index))
+unfolding IsPopped
+last_popped before frames i index old new same inside at fewer lowest =
     let Items : Vec ℕ Global → List ℕ = λ frame. frame.items in
     let length_is : length before ≡ length frames = ap length (sym same) ∙ length-map frames Items in
-    (subst (λ n. i < n) (sym length_is) inside, lowest, subst (λ ws. IsPut (items_in (set frames i new)) ws i index) same (fewer_items frames i index old new inside at fewer))
+    (subst (λ n. i < n) (sym length_is) inside, lowest, subst (λ ws. IsEnqueued (items_in (set frames i new)) ws i index) same (fewer_items frames i index old new inside at fewer))
 
--- nothing waits in any frame
-pub none_taken : (before : List (List ℕ)) (frames : List (Vec ℕ Global)) (i : ℕ) → items_in frames ≡ before → length frames ≤ i → IsLowest before i → IsTaken before (items_in frames) None
-unfolding IsTaken
-none_taken before frames i same past lowest =
+-- no frame has one
+pub none_popped : (before : List (List ℕ)) (frames : List (Vec ℕ Global)) (i : ℕ) → items_in frames ≡ before → length frames ≤ i → IsLowest before i → IsPopped before (items_in frames) None
+unfolding IsPopped
+none_popped before frames i same past lowest =
     let Items : Vec ℕ Global → List ℕ = λ frame. frame.items in
     let length_is : length before ≡ length frames = ap length (sym same) ∙ length-map frames Items in
     (λ k d k_in. get_or_default before k d [] k_in ∙ lowest k (omega (arith, k_in, length_is)), same)
 
--- nothing waits in a frame either
+-- a frame has none either
 pub lowest_more : (before : List (List ℕ)) (frames : List (Vec ℕ Global)) (i : ℕ) (old : Vec ℕ Global) → items_in frames ≡ before → i < length frames → old ≡ get_or frames i old → old.items ≡ [] → IsLowest before i → IsLowest before (i + 1)
 lowest_more before frames i old same inside at empty lowest k k_in =
     let Items : Vec ℕ Global → List ℕ = λ frame. frame.items in
@@ -78,9 +78,9 @@ lowest_more before frames i old same inside at empty lowest k k_in =
     ]
 
 -- what is below a number without its last one, and that one
-pub below_taken : (count : ℕ) (frames : List (Vec ℕ Global)) (i index : ℕ) (old new : Vec ℕ Global) → i < length frames → old ≡ get_or frames i old → old.items ≡ new.items ++ index ∷ [] →
+pub below_popped : (count : ℕ) (frames : List (Vec ℕ Global)) (i index : ℕ) (old new : Vec ℕ Global) → i < length frames → old ≡ get_or frames i old → old.items ≡ new.items ++ index ∷ [] →
     All (λ frame. All (λ k. k < count) frame.items) frames → All (λ frame. All (λ k. k < count) frame.items) (set frames i new) × (index < count)
-below_taken count frames i index old new inside at fewer each =
+below_popped count frames i index old new inside at fewer each =
     let IsBelow : ℕ → Type 0 = λ k. k < count in
     let Below : Vec ℕ Global → Type 0 = λ frame. All IsBelow frame.items in
     let here : Below old = subst Below (sym at) (each i old inside) in

@@ -2,10 +2,10 @@ use Rattle.std.proofs.Common.{◌≡◌, ◌∙◌, ◌++◌, All, ap, sym, subs
 use Rattle.std.proofs.lemmas.List.Elements.{All-append}
 use Rattle.cnf.proofs.Formed.{IsKnown}
 use Rattle.cones.proofs.Grown.{full, full_domain, full_inside, full_all}
-use Rattle.ic3_step.specs.Questions.{ands_in}
+use Rattle.ic3_step.specs.Queries.{ands_in}
 use Rattle.ic3_step.proofs.Loaded.{known_small, constraints_known}
 use Rattle.ic3_step.proofs.Parted.{part_from}
-use Rattle.ic3_step.proofs.question.part_of.Goals as goal
+use Rattle.ic3_step.proofs.query.part_of.Goals as goal
 
 pub extend-requires-clause-wanted : goal.extend-requires-clause-wanted
 extend-requires-clause-wanted c =

@@ -1,5 +1,5 @@
 use Rattle.std.proofs.Common.{◌≡◌, ◌<◌, ℕ, [], All, length, map, replicate}
-use Rattle.ic3.proofs.waiting.Waiting.new.Given as goal
+use Rattle.ic3.proofs.obligation_queue.ObligationQueue.new.Given as goal
 
 abbrev pub invariant-opening : goal.invariant-opening
 invariant-opening l = record {
