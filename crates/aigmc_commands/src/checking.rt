@@ -4,6 +4,7 @@ use crate::naming::{asked_for, property_in};
 use crate::progress::{Reporter, Shown, conclude};
 use crate::relevant::relevant_clauses;
 use crate::timed::{Deadline, Timed};
+use crate::vacuity::warn_of_vacuity;
 use aigmc_files::{
     DONE, Has, NO_PROPERTY, Role, Stop, VIOLATED, about, at, circuit, expect_folder, finished,
     is_same, keep, path_of, print, print_alone,
@@ -45,6 +46,14 @@ impl Timing {
         } else {
             Shown::new(rt, self.search.verbose)
         }
+    }
+
+    /// Says where no run keeps the constraints, if anything is said of the search.
+    fn warn(self, rt: &HostRuntime, circuit: &Model) -> Result<(), Stop> {
+        if self.shown(rt) == Shown::Nothing {
+            return Ok(());
+        }
+        about(Role::Circuit, warn_of_vacuity(rt, circuit))
     }
 
     /// A solver that is asked until then.
@@ -185,6 +194,7 @@ fn check_in(
     certificate: Option<&str>,
     timing: Timing,
 ) -> Result<u8, Stop> {
+    timing.warn(rt, file.model())?;
     let candidates = Seq::new(rt.alloc());
     match about(Role::Circuit, ask(rt, file, property, timing, candidates)) {
         Ok(verdict) => keep_and_print(rt, file, certificate, property, &verdict, timing),
@@ -317,6 +327,7 @@ pub fn check_all(
         folder,
         timing,
     };
+    timing.warn(rt, file.model())?;
     let properties = all_properties(rt.alloc(), file.model()).map_err(CliError::from)?;
     let mut clauses = Seq::new(rt.alloc());
     let mut status = DONE;

@@ -10,6 +10,7 @@ mod relevant;
 mod shadow;
 mod timed;
 mod tracing;
+mod vacuity;
 mod witnessing;
 
 pub use adopting::{certify_clauses, make_fitting, make_shadow};
