@@ -3,7 +3,7 @@
 ghost use Rattle.std.specs.Prelude.{◌-◌, ◌<◌, ◌^◌};
 
 use crate::detail::{put_line, tell_circuit, tell_unnamed};
-use crate::no_answer::{NoAnswer, Role, given, opened};
+use crate::no_answer::{NoAnswer, Role, opened};
 use checker::{
     RunError, run_of_readers, run_safe, run_safe_for, run_stimulus, run_stimulus_for,
     safe_of_readers,
@@ -104,22 +104,21 @@ impl Question<'_> {
     /// The same, once the circuit was read for its symbol table, or for the place of its fault.
     fn of_text(self, rt: &HostRuntime, circuit: Input, file: Input) -> Result<bool, NoAnswer> {
         let text = text_of(rt, circuit)?;
-        let property = match aiger::read(rt.alloc(), text.as_slice()) {
-            Ok(circuit) => self.property_in(rt, &circuit)?,
+        let (property, fault) = match aiger::read(rt.alloc(), text.as_slice()) {
+            Ok(circuit) => (self.property_in(rt, &circuit)?, None),
             Err(ReadError::OutOfMemory(refused)) => return Err(NoAnswer::from(refused)),
-            Err(error) => {
-                given(println!(rt; "no {}", error.number()))?;
-                if self.verbose {
-                    tell_circuit(rt, self.names.circuit, text.as_slice(), error);
-                }
-                return Ok(false);
-            }
+            Err(error) => (None, Some(error)),
         };
         let circuit = &mut FromBytes::new(text.as_slice());
         let file = &mut FromRead::new(file);
         let out = &mut ToVec::new(rt.alloc());
         let yes = judge(rt.alloc(), self.evidence, property, circuit, file, out)?;
-        put_line(rt, out.as_slice(), self.names.evidence, self.verbose)?;
+        put_line(rt, out.as_slice(), self.names.evidence, self.verbose && fault.is_none())?;
+        if let Some(error) = fault
+            && self.verbose
+        {
+            tell_circuit(rt, self.names.circuit, text.as_slice(), error);
+        }
         Ok(yes)
     }
 
