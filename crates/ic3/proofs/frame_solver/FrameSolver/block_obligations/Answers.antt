@@ -44,6 +44,11 @@ blocking-preserved-else-level-top g c =
       queued = c.in-Some.ensures.queued (length c.blocking.found.items) h.queued;
     }
 
+pub index-after-requires : goal.index-after-requires
+index-after-requires g c =
+    let found = c.blocking.found in
+    subst (λ (k : ℕ). c.in-Some.index < k) (sym found.ok.0) (c.in-Some.ensures.index (length found.items) c.blocking.invariant.queued)
+
 pub obligation_before-requires-clause-clause : goal.obligation_before-requires-clause-clause
 obligation_before-requires-clause-clause g c =
     let h = c.blocking.invariant in
