@@ -113,7 +113,12 @@ impl Question<'_> {
         let file = &mut FromRead::new(file);
         let out = &mut ToVec::new(rt.alloc());
         let yes = judge(rt.alloc(), self.evidence, property, circuit, file, out)?;
-        put_line(rt, out.as_slice(), self.names.evidence, self.verbose && fault.is_none())?;
+        put_line(
+            rt,
+            out.as_slice(),
+            self.names.evidence,
+            self.verbose && fault.is_none(),
+        )?;
         if let Some(error) = fault
             && self.verbose
         {

@@ -34,7 +34,13 @@ fn is_vacuous(alloc: Global, circuit: &Model) -> Result<bool, Stop> {
     let engine: Box<dyn Engine> = boxed(alloc, Ic3::new(Cdcl::new(alloc)))?;
     push(&mut engines, engine)?;
     let mut budget = Budget::new(STEPS);
-    let decided = decide(alloc, &covered, Property::Bad(0), engines.as_mut_slice(), &mut budget);
+    let decided = decide(
+        alloc,
+        &covered,
+        Property::Bad(0),
+        engines.as_mut_slice(),
+        &mut budget,
+    );
     let verdict = decided.map_err(CliError::from)?;
     Ok(matches!(verdict, Verdict::Safe(_)))
 }

@@ -62,12 +62,7 @@ fn is_shown(alloc: Global, circuit: &Model, initial: Seq<bool>, inputs: Seq<Seq<
 }
 
 /// Whether the circuit is found safe or not by this solver, with evidence that stands.
-fn found<S: PartSat>(
-    alloc: Global,
-    solver: S,
-    circuit: &Model,
-    safe: bool,
-) -> Result<bool, Fail>
+fn found<S: PartSat>(alloc: Global, solver: S, circuit: &Model, safe: bool) -> Result<bool, Fail>
     requires { IsForBad circuit.now }
 {
     match Ic3::new(solver).find(alloc, circuit, &mut Budget::new(STEPS))? {
