@@ -2,7 +2,7 @@
 
 use crate::counts::{Counts, Shown};
 use crate::detail::{put_line, tell_circuit, tell_symbol};
-use crate::judging::{Names, judge, text_of};
+use crate::judging::{Names, answer_in_memory, judge, text_of};
 use crate::no_answer::{NoAnswer, Role, given, opened};
 use crate::status::FAULT;
 use aiger::read;
@@ -57,7 +57,8 @@ impl Folder<'_> {
         let circuit = &mut FromBytes::new(self.circuit);
         let file = &mut FromRead::new(file);
         let out = &mut ToVec::new(rt.alloc());
-        let yes = judge(rt.alloc(), evidence, Some(property), circuit, file, out)?;
+        let answer = judge(rt.alloc(), evidence, Some(property), circuit, file, out);
+        let yes = answer_in_memory(answer, out)?;
         put_line(rt, out.as_slice(), name, true)?;
         Ok(yes)
     }

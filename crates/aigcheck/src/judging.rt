@@ -80,6 +80,14 @@ pub fn judge<M: Source, C: Source, W: Sink>(
     }
 }
 
+/// The answer of a judge that puts its line into memory: where that fails, there is none left.
+pub fn answer_in_memory(answer: Result<bool, RunError>, out: &ToVec) -> Result<bool, NoAnswer> {
+    match answer {
+        Err(RunError::Device) if out.failures() > 0 => Err(NoAnswer::Memory),
+        answer => Ok(answer?),
+    }
+}
+
 impl Question<'_> {
     /// Whether the evidence is accepted: both files are opened first.
     pub fn answer(self, rt: &HostRuntime) -> Result<bool, NoAnswer> {
@@ -112,7 +120,8 @@ impl Question<'_> {
         let circuit = &mut FromBytes::new(text.as_slice());
         let file = &mut FromRead::new(file);
         let out = &mut ToVec::new(rt.alloc());
-        let yes = judge(rt.alloc(), self.evidence, property, circuit, file, out)?;
+        let answer = judge(rt.alloc(), self.evidence, property, circuit, file, out);
+        let yes = answer_in_memory(answer, out)?;
         put_line(
             rt,
             out.as_slice(),
