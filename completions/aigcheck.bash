@@ -4,15 +4,15 @@ _aigcheck() {
     local word=${COMP_WORDS[COMP_CWORD]} before=${COMP_WORDS[COMP_CWORD - 1]} options
     COMPREPLY=()
     if [ "$COMP_CWORD" -eq 1 ]; then
-        mapfile -t COMPREPLY < <(compgen -W 'safe run all --help -h --version -V' -- "$word")
+        mapfile -t COMPREPLY < <(compgen -W 'safe run all explain --help -h --version -V' -- "$word")
         return
     fi
     case $before in
     -p | --property) return ;;
     esac
     case ${COMP_WORDS[1]} in
-    safe | run) options='-p --property --help -h' ;;
-    *) options='--help -h' ;;
+    safe | run) options='-p --property --verbose -v --help -h' ;;
+    *) options='--verbose -v --help -h' ;;
     esac
     case $word in
     -*) mapfile -t COMPREPLY < <(compgen -W "$options" -- "$word") ;;

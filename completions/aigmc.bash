@@ -12,21 +12,21 @@ _aigmc() {
         mapfile -t COMPREPLY < <(compgen -W 'all bmc ic3 random' -- "$word")
         return
         ;;
-    -p | --depth | --budget | --seed) return ;;
+    -p | --depth | --budget | --seed | --timeout) return ;;
     --out)
         mapfile -t COMPREPLY < <(compgen -d -- "$word")
         return
         ;;
     esac
     case ${COMP_WORDS[1]} in
-    check) options='-p --cert --engine --depth --budget --seed --verbose -v --help -h' ;;
-    certify) options='-p --invariant --cert --budget --strengthen --help -h' ;;
-    to-safety) options='-p --help -h' ;;
-    witness) options='-p --clear --help -h' ;;
-    all) options='--out --engine --depth --budget --seed --verbose -v --help -h' ;;
-    convert) options='--ascii --binary --help -h' ;;
-    trace) options='--all --vcd --help -h' ;;
-    *) options='--help -h' ;;
+    check) options='-p --cert --engine --depth --budget --seed --timeout --quiet --verbose -v --help -h' ;;
+    certify) options='-p --invariant --cert --budget --strengthen --timeout --verbose -v --help -h' ;;
+    to-safety) options='-p --verbose -v --help -h' ;;
+    witness) options='-p --clear --verbose -v --help -h' ;;
+    all) options='--out --engine --depth --budget --seed --timeout --quiet --verbose -v --help -h' ;;
+    convert) options='--ascii --binary --verbose -v --help -h' ;;
+    trace) options='--all --vcd --verbose -v --help -h' ;;
+    *) options='--verbose -v --help -h' ;;
     esac
     case $word in
     -*) mapfile -t COMPREPLY < <(compgen -W "$options" -- "$word") ;;

@@ -1,5 +1,6 @@
-"""cases/scripts: what the scripts of bin/ do around the programs, which have to be built (bin/build). It is called by
-hand as `python3 cases/scripts [WORD]`, with the cases alone whose names have the word, and by cases/run.
+"""cases/scripts: what the programs do over files, and the scripts of bin/ around them; the programs have to be built
+(bin/build). It is called by hand as `python3 cases/scripts [WORD]`, with the cases alone whose names have the word, and
+by cases/run.
 
 Most cases run the scripts as they are installed, in a scratch folder, and some have a program do something first:
 sleep, fail, or replace the circuit. The last line is 'N passed, M failed'; the status is 0 only where nothing failed.
@@ -14,6 +15,7 @@ sys.dont_write_bytecode = True
 import check_all
 import competition
 import installing
+import programs
 import starting
 import trial
 

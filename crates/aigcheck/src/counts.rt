@@ -1,6 +1,6 @@
 //! How many properties the evidence in a folder shows safe, and how many violated.
 
-ghost use Rattle.std.specs.Prelude.{◌≡◌, ◌<◌, ◌⊎◌, ◌↔◌};
+ghost use Rattle.std.specs.Prelude.{◌≡◌, ◌+◌, ◌<◌, ◌⊎◌, ◌↔◌};
 ghost use Rattle.aigcheck.specs.declared.counts.Shown.TheVariants.{Safe, Violated, Nothing};
 
 use crate::status::{NO, UNKNOWN, YES};
@@ -35,8 +35,11 @@ impl Counts {
         without: 0,
     };
 
-    /// The counts with one property more.
+    /// The counts with one property more: 4,294,967,295 is the most of each.
     pub fn with(self, shown: Shown) -> Counts
+        ensures one_safe { shown ≡ Safe → self.safe < 4294967295 → result ≡ record self { safe = self.safe + 1 } }
+        ensures one_violated { shown ≡ Violated → self.violated < 4294967295 → result ≡ record self { violated = self.violated + 1 } }
+        ensures one_without { shown ≡ Nothing → self.without < 4294967295 → result ≡ record self { without = self.without + 1 } }
         ensures safe { (0 < result.safe) ↔ ((0 < self.safe) ⊎ (shown ≡ Safe)) }
         ensures violated { (0 < result.violated) ↔ ((0 < self.violated) ⊎ (shown ≡ Violated)) }
         ensures without { (0 < result.without) ↔ ((0 < self.without) ⊎ (shown ≡ Nothing)) }

@@ -1,27 +1,25 @@
 //! The command `all`.
 
 use crate::counts::{Counts, Shown};
-use crate::no_answer::{NoAnswer, given};
+use crate::detail::{put_line, tell_circuit, tell_symbol};
+use crate::judging::{Names, answer_in_memory, judge, text_of};
+use crate::no_answer::{NoAnswer, Role, given, opened};
 use crate::status::FAULT;
 use aiger::read;
-use checker::{RunError, run_safe_for, run_stimulus_for};
-use graph::{
-    AigerFile, FromBytes, FromRead, Property, ReadError, ReadToEndError, ToWrite, read_to_end,
-};
+use graph::{AigerFile, FromBytes, FromRead, Property, ReadError, ToVec, ToWrite};
 use inputs::open;
 use properties::{Evidence, all_properties, evidence_name, property_name};
 use std::fs::File;
-use std::io::{ErrorKind, Read};
+use std::io::ErrorKind;
 use std::{fs, io};
-
-/// One byte more than the text of a circuit may have: a longer one is refused as too long by that.
-const MOST: u64 = 67_108_865;
 
 /// A circuit's text, and the folder with evidence about its properties.
 #[derive(Clone, Copy)]
 struct Folder<'a> {
     circuit: &'a [u8],
     name: &'a str,
+    /// whether standard error says why evidence is refused, and what properties are called
+    verbose: bool,
 }
 
 /// Puts that the folder has no evidence about a property.
@@ -33,22 +31,6 @@ fn put_no_evidence(rt: &HostRuntime, property: Property) -> Result<(), NoAnswer>
 }
 
 impl Folder<'_> {
-    /// The file with the evidence of this kind about a property, where there is one.
-    fn open(
-        &self,
-        rt: &HostRuntime,
-        property: Property,
-        evidence: Evidence,
-    ) -> Result<Option<File>, NoAnswer> {
-        let Ok(name) = evidence_name(rt.alloc(), self.name, property, evidence) else {
-            return Err(NoAnswer::Memory);
-        };
-        match File::open(rt, name.as_str()) {
-            Err(error) if error.kind() == ErrorKind::NotFound => Ok(None),
-            opened => Ok(Some(given(opened)?)),
-        }
-    }
-
     /// Whether a file with evidence of this kind is accepted for the property. It puts the line.
     fn accepts(
         &self,
@@ -60,10 +42,24 @@ impl Folder<'_> {
         let circuit = &mut FromBytes::new(self.circuit);
         let file = &mut FromRead::new(file);
         let out = &mut ToWrite::new(io::writer(rt));
-        let yes = match evidence {
-            Evidence::Certificate => run_safe_for(rt.alloc(), property, circuit, file, out)?,
-            Evidence::Stimulus => run_stimulus_for(rt.alloc(), property, circuit, file, out)?,
-        };
+        Ok(judge(rt.alloc(), evidence, Some(property), circuit, file, out)?)
+    }
+
+    /// The same. Where it is not, standard error says why.
+    fn accepts_loudly(
+        &self,
+        rt: &HostRuntime,
+        property: Property,
+        evidence: Evidence,
+        name: &str,
+        file: File,
+    ) -> Result<bool, NoAnswer> {
+        let circuit = &mut FromBytes::new(self.circuit);
+        let file = &mut FromRead::new(file);
+        let out = &mut ToVec::new(rt.alloc());
+        let answer = judge(rt.alloc(), evidence, Some(property), circuit, file, out);
+        let yes = answer_in_memory(answer, out)?;
+        put_line(rt, out.as_slice(), name, true)?;
         Ok(yes)
     }
 
@@ -74,10 +70,19 @@ impl Folder<'_> {
         property: Property,
         evidence: Evidence,
     ) -> Result<Option<bool>, NoAnswer> {
-        match self.open(rt, property, evidence)? {
-            Some(file) => Ok(Some(self.accepts(rt, property, evidence, file)?)),
-            None => Ok(None),
-        }
+        let Ok(name) = evidence_name(rt.alloc(), self.name, property, evidence) else {
+            return Err(NoAnswer::Memory);
+        };
+        let file = match File::open(rt, name.as_str()) {
+            Err(error) if error.kind() == ErrorKind::NotFound => return Ok(None),
+            opened => given(opened)?,
+        };
+        let yes = if self.verbose {
+            self.accepts_loudly(rt, property, evidence, name.as_str(), file)?
+        } else {
+            self.accepts(rt, property, evidence, file)?
+        };
+        Ok(Some(yes))
     }
 
     /// What the evidence in the folder shows of a property: the certificate, or else the stimulus. Where it
@@ -103,6 +108,9 @@ impl Folder<'_> {
         let mut counts = Counts::NONE;
         for property in all_properties(rt.alloc(), file.model())? {
             counts = counts.with(self.shown(rt, property)?);
+            if self.verbose {
+                tell_symbol(rt, file, property)?;
+            }
         }
         let Counts {
             safe,
@@ -114,36 +122,31 @@ impl Folder<'_> {
     }
 }
 
-/// The bytes of a circuit's file.
-// Its buffer is off the stack before anything is judged.
-#[inline(never)]
-fn text_of(rt: &HostRuntime, name: &str) -> Result<Vec<u8>, NoAnswer> {
-    let file = given(open(rt, name))?;
-    match read_to_end(rt.alloc(), &mut FromRead::new(file.take(MOST))) {
-        Ok(text) => Ok(text),
-        Err(ReadToEndError::OutOfMemory(refused)) => Err(NoAnswer::from(refused)),
-        Err(ReadToEndError::Device) => Err(NoAnswer::Call(RunError::Device)),
-    }
-}
-
 /// The status of what the evidence in the folder shows of the circuit's properties. Of a text that is no
 /// circuit it puts the no of its refusal, and there is no answer.
 // What it needs of the stack is not added to that of the other commands.
 #[inline(never)]
-pub fn all(rt: &HostRuntime, circuit: &str, folder: &str) -> Result<u8, NoAnswer> {
-    if !given(fs::metadata(rt, folder))?.is_dir() {
-        return Err(NoAnswer::Call(RunError::Device));
+pub fn all(rt: &HostRuntime, names: Names<'_>, verbose: bool) -> Result<u8, NoAnswer> {
+    let found = opened(Role::Evidence, fs::metadata(rt, names.evidence))?;
+    if !found.is_dir() {
+        let word = "it is no folder";
+        let role = Role::Evidence;
+        return Err(NoAnswer::At { role, word });
     }
-    let text = text_of(rt, circuit)?;
+    let text = text_of(rt, opened(Role::Circuit, open(rt, names.circuit))?)?;
     let evidence = Folder {
         circuit: text.as_slice(),
-        name: folder,
+        name: names.evidence,
+        verbose,
     };
     match read(rt.alloc(), text.as_slice()) {
         Ok(file) => Ok(evidence.count(rt, &file)?.status()),
         Err(ReadError::OutOfMemory(refused)) => Err(NoAnswer::from(refused)),
         Err(error) => {
             given(println!(rt; "no {}", error.number()))?;
+            if verbose {
+                tell_circuit(rt, names.circuit, text.as_slice(), error);
+            }
             Ok(FAULT)
         }
     }

@@ -3,8 +3,18 @@
 use crate::status::FAULT;
 use base::Refused;
 use checker::RunError;
+use explanations::word_of;
 use std::io;
 use std::process::ExitCode;
+
+/// What a file is to a command.
+#[derive(Clone, Copy, PartialEq, Eq)]
+pub enum Role {
+    /// The circuit.
+    Circuit,
+    /// The certificate, the stimulus, or the folder.
+    Evidence,
+}
 
 /// Why there is no answer.
 #[derive(Clone, Copy)]
@@ -13,6 +23,15 @@ pub enum NoAnswer {
     BadArgument,
     /// There is no memory for the words, or for the system at a file.
     Memory,
+    /// Standard error says why already.
+    Told,
+    /// The system refused the file of this role, in this word.
+    At {
+        /// which file
+        role: Role,
+        /// the system's word
+        word: &'static str,
+    },
     /// The call that was asked gave none.
     Call(RunError),
 }
@@ -40,11 +59,27 @@ pub fn given<T>(got: io::Result<T>) -> Result<T, NoAnswer> {
     }
 }
 
+/// The file of this role, or the fault of one that was not opened.
+pub fn opened<T>(role: Role, got: io::Result<T>) -> Result<T, NoAnswer> {
+    match got {
+        Ok(file) => Ok(file),
+        Err(error) => Err(match error.kind() {
+            io::ErrorKind::OutOfMemory => NoAnswer::Memory,
+            kind => NoAnswer::At {
+                role,
+                word: word_of(kind),
+            },
+        }),
+    }
+}
+
 /// Tells a fault, and the status of one.
 pub fn fault(rt: &HostRuntime, why: NoAnswer) -> ExitCode {
     let _ = match why {
         NoAnswer::BadArgument => eprintln!(rt; "aigcheck: bad argument"),
         NoAnswer::Memory => eprintln!(rt; "aigcheck: out of memory"),
+        NoAnswer::Told => Ok(()),
+        NoAnswer::At { .. } => eprintln!(rt; "aigcheck: {}", RunError::Device),
         NoAnswer::Call(error) => eprintln!(rt; "aigcheck: {error}"),
     };
     ExitCode::from(FAULT)

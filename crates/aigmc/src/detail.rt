@@ -1,10 +1,13 @@
 //! The second line of a fault: which file it is about, and why.
 
-use crate::explaining::meaning;
 use aigmc_commands::is_terminal;
-use aigmc_files::{Has, Role, Stop};
-use arguments::Request;
-use graph::Property;
+use aigmc_files::{DEVICE, Has, NO_HEADER, Role, Stop};
+use arguments::{Asked, Request};
+use explanations::{is_at_byte, meaning, other_format, position_behind};
+use graph::{FromRead, Property, read_to_end};
+use inputs::{is_standard, open};
+use std::fs;
+use std::io::Read;
 
 /// The name of the file with this role, where the command has one.
 fn name_of<'a>(request: Request<'a>, role: Role) -> Option<&'a str> {
@@ -29,14 +32,6 @@ fn name_of<'a>(request: Request<'a>, role: Role) -> Option<&'a str> {
         (Request::ToSafety(asked), Role::Circuit) => Some(asked.file),
         (Request::ToSafety(asked), Role::Made) => Some(asked.out),
         _ => None,
-    }
-}
-
-/// Whether the words ask for more than the line of a fault.
-fn is_verbose(request: Request<'_>) -> bool {
-    match request {
-        Request::Check { search, .. } | Request::All { search, .. } => search.verbose,
-        _ => false,
     }
 }
 
@@ -72,34 +67,98 @@ fn tell_properties(rt: &HostRuntime, name: &str, property: Property, has: Has) {
     let _ = eprintln!(rt);
 }
 
-/// Says which file a fault is about, and why, where that is asked for or standard error is a terminal.
-pub fn tell_detail(rt: &HostRuntime, request: Request<'_>, stop: Stop) {
-    if !is_verbose(request) && !is_terminal(rt) {
+/// The text of the file of this name as far as the byte, where it can be read again.
+fn text_again(rt: &HostRuntime, name: &str, byte: u64) -> Option<Vec<u8>> {
+    if is_standard(name) || !fs::metadata(rt, name).ok()?.is_file() {
+        return None;
+    }
+    let file = open(rt, name).ok()?;
+    read_to_end(rt.alloc(), &mut FromRead::new(file.take(byte))).ok()
+}
+
+/// How much of a text is looked at to know its format.
+const BEGINNING: u64 = 4096;
+
+/// What the file of this name is that has no header, where it is one of another format.
+fn format_of(rt: &HostRuntime, name: &str) -> Option<&'static str> {
+    other_format(text_again(rt, name, BEGINNING)?.as_slice())
+}
+
+/// Says at which line and column of an ASCII text a byte is, and which byte of a binary circuit.
+fn tell_place(rt: &HostRuntime, name: &str, place: u64) {
+    let Some(text) = text_again(rt, name, place) else {
+        return;
+    };
+    let _ = if text.as_slice().starts_with(b"aig ") {
+        eprint!(rt; " (byte {place})")
+    } else {
+        let position = position_behind(text.as_slice());
+        eprint!(rt; " (line {}, column {})", position.line, position.column)
+    };
+}
+
+/// Whether the name is of a folder.
+fn is_folder(rt: &HostRuntime, name: &str) -> bool {
+    match fs::metadata(rt, name) {
+        Ok(found) => found.is_dir(),
+        Err(_) => false,
+    }
+}
+
+/// The word for a refusal that says more than what its number means, or nothing.
+fn word_for(rt: &HostRuntime, name: &str, number: u8) -> &'static str {
+    match number {
+        DEVICE if is_folder(rt, name) => "it is a folder",
+        NO_HEADER => format_of(rt, name).unwrap_or(""),
+        _ => "",
+    }
+}
+
+/// Says why the file of this name was refused, and where.
+fn tell_file(rt: &HostRuntime, name: &str, number: u8, place: u64, word: &str) {
+    let word = if word.is_empty() {
+        word_for(rt, name, number)
+    } else {
+        word
+    };
+    if !word.is_empty() {
+        let _ = eprintln!(rt; "  {name}: {word}");
         return;
     }
-    let (role, word) = match stop {
+    let _ = eprint!(rt; "  {name}: {}", meaning(number));
+    if is_at_byte(number, place) {
+        tell_place(rt, name, place);
+    }
+    let _ = eprintln!(rt);
+}
+
+/// Says which file a fault is about, and why, where that is asked for or standard error is a terminal.
+pub fn tell_detail(rt: &HostRuntime, asked: Asked<'_>, stop: Stop) {
+    let request = asked.request;
+    if !asked.verbose && !is_terminal(rt) {
+        return;
+    }
+    match stop {
         Stop::NoProperty { property, has, .. } => {
             if let Some(name) = name_of(request, Role::Circuit) {
                 tell_properties(rt, name, property, has);
             }
-            return;
         }
         Stop::At {
             role,
             number,
+            place,
             word,
-            ..
         } => {
-            let word = if word.is_empty() {
-                meaning(number)
-            } else {
-                word
-            };
-            (role, word)
+            if let Some(name) = name_of(request, role) {
+                tell_file(rt, name, number, place, word);
+            }
         }
-        _ => return,
-    };
-    if let Some(name) = name_of(request, role) {
-        let _ = eprintln!(rt; "  {name}: {word}");
+        Stop::Taken => {
+            if let Some(name) = name_of(request, Role::Made) {
+                let _ = eprintln!(rt; "  {name}: it is read, or standard output goes to it");
+            }
+        }
+        _ => {}
     }
 }

@@ -24,7 +24,9 @@
 //! the one and then the other, which is the default; or `random`, random simulation from `--seed`.
 //! `--budget` is how many steps the search may cost. With `--cert OUT` the certificate of a property that
 //! holds is written to OUT before anything is printed; OUT may name neither the circuit's file nor the file
-//! that standard output goes to. What is said is `cli::decide`'s.
+//! that standard output goes to. What is said is `cli::decide`'s. `--timeout` ends bounded search and IC3 after so many seconds,
+//! of `all` for all properties together: what is left of the budget is spent then. `--quiet` leaves out a run. P may be a name of
+//! the symbol table here and in all other commands, where exactly one property has it.
 //!
 //! `aigmc all FILE` does the same for all properties of the circuit, in their order
 //! (`properties::all_properties`), and prints one stimulus after the other. The budget is for each. With
@@ -38,7 +40,7 @@
 //! clauses are none, and begins with those of them that it can use.
 //!
 //! `aigmc to-safety FILE -p jN OUT` writes the shadow circuit of a justice property to OUT, in the layouts of
-//! `convert`.
+//! `convert`. OUT is not FILE.
 //!
 //! `aigmc witness FILE STIM OUT` makes the strict stimulus OUT of the counterexample STIM, as another tool wrote it, of the property that
 //! `-p` or STIM names, or else of any: what doesn't matter is taken as 0 or as 1, and what follows the violation is cut
@@ -46,6 +48,8 @@
 //! written. With `--clear` OUT has an `x` for each value that the violation does not rest on.
 //!
 //! FILE, STIM and INV may be `-`, the standard input, but one of them alone. OUT of `convert` and `trace` may be `-`, the standard output.
+//!
+//! With `-v` the fault of a file has a second line, with the file, the reason, and the line and column of a text.
 //!
 //! The status of `check` is 0 where the property holds, 1 for a violation and 2 where nothing is known. That
 //! of `all` is 1 where a property is violated, else 2 where nothing is known of one, and else 0. Else the
@@ -140,16 +144,16 @@ fn refuse(rt: &HostRuntime, wrong: &Wrong) -> ExitCode {
 
 /// Does what the words ask for, and answers the status.
 fn answer(rt: &HostRuntime, words: &[String]) -> ExitCode {
-    let request = match parse(rt.alloc(), words) {
-        Ok(Some(request)) => request,
+    let asked = match parse(rt.alloc(), words) {
+        Ok(Some(asked)) => asked,
         Ok(None) => return tell(rt, Stop::BadArgument),
         Err(error) => return refuse(rt, &error),
     };
-    match done(rt, request) {
+    match done(rt, asked.request) {
         Ok(status) => ExitCode::from(status),
         Err(stop) => {
             let status = tell(rt, stop);
-            tell_detail(rt, request, stop);
+            tell_detail(rt, asked, stop);
             status
         }
     }

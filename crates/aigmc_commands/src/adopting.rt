@@ -1,14 +1,19 @@
 //! The commands `certify` and `to-safety`: what other engines found becomes evidence.
 
-use crate::checking::{ask, is_taken};
+use crate::checking::{Timing, ask, is_taken};
 use crate::counterexample::tell_counterexample;
+use crate::naming::{asked_for, property_in};
+use crate::progress::conclude;
 use crate::shadow::shadow_file;
-use aigmc_files::{DONE, Role, Stop, about, circuit, keep, make, read_of, read_text};
+use aigmc_files::{
+    DONE, Role, Stop, about, circuit, is_same, keep, make, path_of, read_of, read_text,
+};
 use arguments::{Claim, EngineKind, Search, Shadow};
 use certify::{Certified, certify};
-use cli::{CliError, Layout, Verdict, property_named, ready};
+use cli::{CliError, Layout, Verdict, ready};
 use graph::{AigerFile, Budget, Lit, Property, Seq};
 use inputs::is_standard;
+use property_names::{Asked, symbol_of};
 use std::alloc::Global;
 
 /// The status of clauses that are no inductive invariant which excludes the property's literal.
@@ -76,9 +81,16 @@ fn strengthened(
         depth: 0,
         budget: asked.budget,
         seed: 0,
-        verbose: false,
+        timeout: asked.timeout,
+        quiet: false,
+        verbose: asked.verbose,
     };
-    let verdict = ask(rt, file, property, search, clauses)?;
+    let timing = Timing::begin(rt, search)?;
+    let verdict = ask(rt, file, property, timing, clauses)?;
+    if asked.verbose {
+        let symbol = symbol_of(file, property);
+        conclude(rt, property, &verdict, symbol, timing.deadline.is_over());
+    }
     match &verdict {
         Verdict::Safe(_) => {
             keep(rt, asked.certificate, property, &verdict)?;
@@ -143,21 +155,17 @@ fn certified_clauses(
 
 /// Makes a certificate of the clauses in a file, in the file of that name.
 pub fn certify_clauses(rt: &HostRuntime, asked: Claim<'_>) -> Result<u8, Stop> {
-    let property = property_named(asked.property).ok_or(Stop::BadArgument)?;
+    let word = asked_for(asked.property)?;
     if is_standard(asked.file) && is_standard(asked.invariant) {
         return Err(Stop::BadArgument);
     }
-    if is_taken(rt, asked.file, asked.certificate) {
-        return Err(Stop::BadArgument);
+    let out = asked.certificate;
+    if is_taken(rt, asked.file, out) || is_taken(rt, asked.invariant, out) {
+        return Err(Stop::Taken);
     }
     let file = circuit(rt, asked.file)?;
+    let property = property_in(rt, asked.file, &file, word, asked.verbose)?;
     certified_clauses(rt, asked, property, &file)
-}
-
-/// The shadow circuit of the justice property at the position, of the circuit in the file of this name.
-fn shadow_of(rt: &HostRuntime, name: &str, position: u32) -> Result<AigerFile, Stop> {
-    let file = circuit(rt, name)?;
-    about(Role::Circuit, shadow_file(rt.alloc(), &file, position))
 }
 
 /// The circuit as the layout takes it: for the binary one in its numbering.
@@ -179,14 +187,31 @@ pub fn make_fitting(
     make(rt, out, &file, layout)
 }
 
+/// Whether a justice property may be asked for.
+fn is_of_justice(asked: Asked<'_>) -> bool {
+    matches!(
+        asked,
+        Asked::Property(Property::Justice(_)) | Asked::Symbol(_)
+    )
+}
+
 /// Makes the file of that name with the shadow circuit of a justice property.
 pub fn make_shadow(rt: &HostRuntime, asked: Shadow<'_>) -> Result<u8, Stop> {
-    let Some(Property::Justice(position)) = property_named(asked.property) else {
-        return Err(Stop::BadArgument);
-    };
+    let word = asked_for(asked.property)?;
     let out = asked.out;
     let layout = Layout::of_name(out).ok_or(Stop::BadArgument)?;
-    let shadow = shadow_of(rt, asked.file, position)?;
+    if !is_of_justice(word) {
+        return Err(Stop::BadArgument);
+    }
+    if is_same(rt, out, path_of(asked.file)) {
+        return Err(Stop::Taken);
+    }
+    let file = circuit(rt, asked.file)?;
+    let property = property_in(rt, asked.file, &file, word, asked.verbose)?;
+    let Property::Justice(position) = property else {
+        return Err(Stop::BadArgument);
+    };
+    let shadow = about(Role::Circuit, shadow_file(rt.alloc(), &file, position))?;
     make_fitting(rt, out, shadow, layout)?;
     Ok(DONE)
 }

@@ -4,10 +4,13 @@
 mod adopting;
 mod checking;
 mod counterexample;
+mod naming;
 mod progress;
 mod relevant;
 mod shadow;
+mod timed;
 mod tracing;
+mod vacuity;
 mod witnessing;
 
 pub use adopting::{certify_clauses, make_fitting, make_shadow};

@@ -2,6 +2,7 @@
 
 use cli::Verdict;
 use engine::{Progress, Reason};
+use explanations::Printable;
 use graph::{Budget, Property};
 use std::fs;
 use std::os::unix::fs::{FileTypeExt, MetadataExt};
@@ -83,7 +84,7 @@ impl Reporter {
         }
     }
 
-    /// Whether the one line is due: half a second after it was written, or after the first question.
+    /// Whether the one line is due: half a second after it was written, or after the first query.
     fn is_due(&mut self) -> bool {
         let Ok(now) = Instant::now(&self.rt) else {
             return false;
@@ -128,7 +129,7 @@ impl Reporter {
 }
 
 impl Progress for Reporter {
-    fn opened(&mut self, frame: u32, clauses: usize, budget: &Budget) {
+    fn frame_opened(&mut self, frame: u32, clauses: usize, budget: &Budget) {
         self.frame = frame;
         self.clauses = clauses;
         if self.shown == Shown::Lines {
@@ -136,7 +137,7 @@ impl Progress for Reporter {
         }
     }
 
-    fn begun(&mut self, steps: u32, variables: u32, budget: &Budget) {
+    fn depth_begun(&mut self, steps: u32, variables: u32, budget: &Budget) {
         if self.shown == Shown::Lines {
             self.say_depth("", steps, variables, "\n", budget);
         } else if self.shown == Shown::OneLine && self.is_due() {
@@ -144,7 +145,7 @@ impl Progress for Reporter {
         }
     }
 
-    fn asked(&mut self, budget: &Budget) {
+    fn query_asked(&mut self, budget: &Budget) {
         if self.shown == Shown::OneLine && self.is_due() {
             self.say_frame("\r", "\x1b[K", budget);
         }
@@ -152,7 +153,7 @@ impl Progress for Reporter {
 }
 
 /// Says what was found of the property, and why nothing is known of it.
-pub fn conclude(rt: &HostRuntime, property: Property, verdict: &Verdict) {
+fn tell_found(rt: &HostRuntime, property: Property, verdict: &Verdict, is_over: bool) {
     let (letter, number) = match property {
         Property::Bad(number) => ('b', number),
         Property::Justice(number) => ('j', number),
@@ -161,24 +162,42 @@ pub fn conclude(rt: &HostRuntime, property: Property, verdict: &Verdict) {
     let _ = match verdict {
         Verdict::Safe(certificate) => {
             let clauses = certificate.invariant.as_slice().len();
-            eprintln!(rt; "{letter}{number}: holds, by an invariant of {clauses} clauses")
+            eprint!(rt; "{letter}{number}: holds, by an invariant of {clauses} clauses")
         }
         Verdict::Unsafe(Stimulus::Violated { inputs, .. }) => {
             let times = inputs.as_slice().len();
-            eprintln!(rt; "{letter}{number}: violated, by a run of {times} times")
+            eprint!(rt; "{letter}{number}: violated, by a run of {times} times")
         }
-        Verdict::Unsafe(_) => eprintln!(rt; "{letter}{number}: violated"),
+        Verdict::Unsafe(_) => eprint!(rt; "{letter}{number}: violated"),
         Verdict::Unknown(Reason::Depth(depth)) => {
             let times = depth.saturating_add(1);
-            eprintln!(rt;
+            eprint!(rt;
                 "{letter}{number}: no run of at most {times} times; a greater --depth looks further"
             )
         }
-        Verdict::Unknown(Reason::Budget) => {
-            eprintln!(rt; "{letter}{number}: the budget is spent; a greater --budget looks further")
+        Verdict::Unknown(Reason::Budget) if is_over => {
+            eprint!(rt; "{letter}{number}: the time is over; a greater --timeout looks further")
         }
-        Verdict::Unknown(Reason::NoEvidence) => eprintln!(rt;
+        Verdict::Unknown(Reason::Budget) => {
+            eprint!(rt; "{letter}{number}: the budget is spent; a greater --budget looks further")
+        }
+        Verdict::Unknown(Reason::NoEvidence) => eprint!(rt;
             "{letter}{number}: no engine had evidence"
         ),
+    };
+}
+
+/// Says what was found of the property, and why nothing is known of it, and its name where it has one.
+pub fn conclude(
+    rt: &HostRuntime,
+    property: Property,
+    verdict: &Verdict,
+    symbol: Option<&[u8]>,
+    is_over: bool,
+) {
+    tell_found(rt, property, verdict, is_over);
+    let _ = match symbol {
+        Some(symbol) => eprintln!(rt; " ({})", Printable(symbol)),
+        None => eprintln!(rt),
     };
 }

@@ -21,7 +21,7 @@ pub fn trace(
         return Err(Stop::BadArgument);
     }
     if waveform.is_some_and(|out| is_read(rt, out, name) || is_read(rt, out, stimulus)) {
-        return Err(Stop::BadArgument);
+        return Err(Stop::Taken);
     }
     let file = circuit(rt, name)?;
     let stimulus = stimulus_of(rt, stimulus)?;

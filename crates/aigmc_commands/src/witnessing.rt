@@ -1,27 +1,38 @@
 //! The command `witness`: a counterexample of another tool becomes a strict stimulus.
 
 use crate::checking::is_taken;
+use crate::naming::{asked_for, property_in};
 use aigmc_files::{
     DONE, Role, Stop, about, circuit, finished, make_bytes, make_stimulus, read_of, read_text,
 };
 use arguments::Counterexample;
-use cli::property_named;
 use graph::{AigerFile, Model, Property};
 use inputs::is_standard;
 use properties::property_name;
+use property_names::Asked;
 use stimulus::Stimulus;
 use witness::{Loose, WitnessError, asked_of, clear, strict, text_of};
 
 /// The status of a counterexample of which no choice shows a violation.
 const NOT_SHOWN: u8 = 1;
 
-/// The property that is chosen, where one is.
-fn chosen(asked: Counterexample<'_>) -> Result<Option<Property>, Stop> {
+/// What is chosen, where something is.
+fn chosen<'a>(asked: Counterexample<'a>) -> Result<Option<Asked<'a>>, Stop> {
     match asked.property {
-        Some(name) => match property_named(name) {
-            Some(property) => Ok(Some(property)),
-            None => Err(Stop::BadArgument),
-        },
+        Some(word) => Ok(Some(asked_for(word)?)),
+        None => Ok(None),
+    }
+}
+
+/// The property that is chosen, where one is.
+fn chosen_in(
+    rt: &HostRuntime,
+    asked: Counterexample<'_>,
+    file: &AigerFile,
+    chosen: Option<Asked<'_>>,
+) -> Result<Option<Property>, Stop> {
+    match chosen {
+        Some(word) => Ok(Some(property_in(rt, asked.file, file, word, asked.verbose)?)),
         None => Ok(None),
     }
 }
@@ -104,14 +115,15 @@ fn witnessed_of(
 
 /// Makes the file of that name with the strict stimulus of a counterexample.
 pub fn make_witness(rt: &HostRuntime, asked: Counterexample<'_>) -> Result<u8, Stop> {
-    let property = chosen(asked)?;
+    let word = chosen(asked)?;
     let (circuit_name, name) = (asked.file, asked.stimulus);
     if is_standard(circuit_name) && is_standard(name) {
         return Err(Stop::BadArgument);
     }
     if is_taken(rt, circuit_name, asked.out) || is_taken(rt, name, asked.out) {
-        return Err(Stop::BadArgument);
+        return Err(Stop::Taken);
     }
     let file = circuit(rt, circuit_name)?;
+    let property = chosen_in(rt, asked, &file, word)?;
     witnessed_of(rt, asked, &file, property)
 }

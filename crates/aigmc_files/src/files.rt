@@ -8,11 +8,15 @@ use cli::{
 };
 use graph::{AigerFile, FromRead, Property, ReadToEndError, ToWrite, read_to_end};
 use inputs::{is_standard, open};
+use properties::property_name;
 use std::fs::File;
 use std::io;
 use std::io::{BufWriter, Write};
 use stimulus::Stimulus;
 use trace::{put_trace, put_vcd};
+
+/// The status of a violation.
+pub const VIOLATED: u8 = 1;
 
 /// What the system calls the file that is read by this name.
 pub fn path_of(name: &str) -> &str {
@@ -208,4 +212,16 @@ pub fn print(rt: &HostRuntime, property: Property, verdict: &Verdict) -> Result<
     let mut out = ToWrite::new(out);
     let put = show(property, verdict, &mut out).map_err(CliError::from);
     settled(out, put.map_err(Stop::from))
+}
+
+/// Prints a verdict without a run, and answers its status.
+pub fn print_alone(rt: &HostRuntime, property: Property, verdict: &Verdict) -> Result<u8, Stop> {
+    let Verdict::Unsafe(_) = verdict else {
+        return print(rt, property, verdict);
+    };
+    let Ok(name) = property_name(rt.alloc(), property) else {
+        return Err(Stop::Memory);
+    };
+    finished(print!(rt; "1\n{name}\n.\n"))?;
+    Ok(VIOLATED)
 }

@@ -9,8 +9,11 @@ mod making;
 mod stop;
 
 pub use files::{
-    circuit, keep, make, make_bytes, make_stimulus, make_waveform, path_of, print, print_table,
-    print_trace, read_text, stimulus_of,
+    VIOLATED, circuit, keep, make, make_bytes, make_stimulus, make_waveform, path_of, print,
+    print_alone, print_table, print_trace, read_text, stimulus_of,
 };
 pub use making::{expect_folder, is_same};
-pub use stop::{DONE, FAULT, Has, NO_PROPERTY, Role, Stop, about, at, finished, read_of, tell};
+pub use stop::{
+    DEVICE, DONE, FAULT, Has, NO_HEADER, NO_PROPERTY, Role, Stop, about, at, finished, read_of,
+    tell,
+};

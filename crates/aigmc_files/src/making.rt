@@ -3,12 +3,16 @@
 use crate::stop::{Stop, finished};
 use cli::CliError;
 use std::fs;
-use std::fs::{File, OpenOptions};
+use std::fs::{File, OpenOptions, Permissions};
 use std::io::ErrorKind;
-use std::os::unix::fs::MetadataExt;
+use std::os::unix::fs::{MetadataExt, PermissionsExt};
 
 /// How many names beside a file are tried.
 const NAMES: u32 = 100;
+/// How much of a name's last part stands in the name beside it: that may have 255 bytes.
+const MOST_BYTES: usize = 240;
+/// The bits of a file's mode that say who may read, write and run it.
+const PERMISSIONS: u32 = 0o7777;
 
 /// A file that is being made.
 ///
@@ -26,6 +30,17 @@ fn is_special(rt: &HostRuntime, name: &str) -> bool {
     match fs::metadata(rt, name) {
         Ok(found) => !found.is_file(),
         Err(_) => false,
+    }
+}
+
+/// Gives the file the mode of the one whose name it is to have, where there is one.
+fn keep_mode(rt: &HostRuntime, name: &str, file: &File) -> Result<(), Stop> {
+    match fs::metadata(rt, name) {
+        Ok(old) => {
+            let mode = old.permissions().mode() & PERMISSIONS;
+            finished(file.set_permissions(Permissions::from_mode(mode)))
+        }
+        Err(_) => Ok(()),
     }
 }
 
@@ -64,12 +79,32 @@ impl<'a> Making<'a> {
                 Err(error) if error.kind() == ErrorKind::AlreadyExists => {}
                 _ => {
                     let file = finished(made)?;
-                    let beside = Some(beside);
-                    return Ok((Making { name, beside }, file));
+                    return Making::of_mode(rt, name, beside, file);
                 }
             }
         }
         Err(Stop::Refused(CliError::Device))
+    }
+
+    /// The file beside, which has the mode of the old one from now on.
+    fn of_mode(
+        rt: &HostRuntime,
+        name: &'a str,
+        beside: String,
+        file: File,
+    ) -> Result<(Making<'a>, File), Stop> {
+        let kept = keep_mode(rt, name, &file);
+        let making = Making {
+            name,
+            beside: Some(beside),
+        };
+        match kept {
+            Ok(()) => Ok((making, file)),
+            Err(stop) => {
+                making.end(rt, Err(stop))?;
+                Err(stop)
+            }
+        }
     }
 
     /// Gives what was written its name, where all was written; else takes it away.
@@ -89,9 +124,26 @@ impl<'a> Making<'a> {
     }
 }
 
+/// How many bytes of a name stand in the name beside it: all, but of a long last part only its beginning.
+fn kept_length(name: &str) -> usize {
+    let bytes = name.as_bytes();
+    let last = match bytes.iter().rposition(|byte| *byte == b'/') {
+        Some(slash) => slash.saturating_add(1),
+        None => 0,
+    };
+    let mut length = bytes.len().min(last.saturating_add(MOST_BYTES));
+    for _ in 0..3 {
+        if !name.is_char_boundary(length) {
+            length = length.saturating_sub(1);
+        }
+    }
+    length
+}
+
 /// A name beside this one.
 fn beside(rt: &HostRuntime, name: &str, number: u32) -> Result<String, Stop> {
-    match format!(in rt.alloc(); "{name}.part{number}") {
+    let kept = name.get(..kept_length(name)).unwrap_or(name);
+    match format!(in rt.alloc(); "{kept}.part{number}") {
         Ok(beside) => Ok(beside),
         Err(_) => Err(Stop::Memory),
     }

@@ -3,6 +3,7 @@
 use base::Refused;
 use certify::CertifyError;
 use cli::CliError;
+use explanations::word_of;
 use graph::{Property, ReadError};
 use invariant::InvariantError;
 use live_safe::LiveError;
@@ -17,7 +18,9 @@ pub const FAULT: u8 = 3;
 /// The number of out of memory.
 const OUT_OF_MEMORY: u8 = 20;
 /// The number of a device's fault.
-const DEVICE: u8 = 21;
+pub const DEVICE: u8 = 21;
+/// The number of a circuit without a header.
+pub const NO_HEADER: u8 = 2;
 /// The number of a property that the circuit has not.
 pub const NO_PROPERTY: u8 = 30;
 
@@ -50,6 +53,10 @@ pub struct Has {
 pub enum Stop {
     /// A word asks for nothing that there is.
     BadArgument,
+    /// The file to make is one that is read, or the one that standard output goes to.
+    Taken,
+    /// Standard error says why already.
+    Told,
     /// There is no memory for the words, or for the system at a file.
     Memory,
     /// A call refused.
@@ -142,22 +149,6 @@ impl From<ReadError> for Stop {
     }
 }
 
-/// The system's word for what it refused.
-fn word_of(kind: io::ErrorKind) -> &'static str {
-    match kind {
-        io::ErrorKind::NotFound => "no such file or folder",
-        io::ErrorKind::PermissionDenied => "permission denied",
-        io::ErrorKind::IsADirectory => "it is a folder",
-        io::ErrorKind::NotADirectory => "a part of the name is no folder",
-        io::ErrorKind::AlreadyExists => "it is there already",
-        io::ErrorKind::ReadOnlyFilesystem => "read-only file system",
-        io::ErrorKind::StorageFull => "no space left on the device",
-        io::ErrorKind::FileTooLarge => "file too large",
-        io::ErrorKind::BrokenPipe => "broken pipe",
-        _ => "the system refused it",
-    }
-}
-
 /// What a file's call gave, or the fault of a file that was not opened, made or finished.
 pub fn finished<T>(given: io::Result<T>) -> Result<T, Stop> {
     match given {
@@ -244,7 +235,8 @@ fn tell_fault(rt: &HostRuntime, number: u8, place: u64) -> io::Result<()> {
 /// Tells why a command was not done.
 pub fn tell(rt: &HostRuntime, stop: Stop) -> ExitCode {
     let _ = match stop {
-        Stop::BadArgument => eprintln!(rt; "aigmc: bad argument"),
+        Stop::BadArgument | Stop::Taken => eprintln!(rt; "aigmc: bad argument"),
+        Stop::Told => Ok(()),
         Stop::Memory => eprintln!(rt; "aigmc: out of memory"),
         Stop::Refused(error) => tell_fault(rt, error.number(), error.place()),
         Stop::Fault { number, place } => tell_fault(rt, number, place),

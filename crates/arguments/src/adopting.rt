@@ -18,6 +18,10 @@ pub struct Claim<'a> {
     pub budget: u64,
     /// whether IC3 begins from the clauses where they are no invariant
     pub strengthen: bool,
+    /// how many seconds that search may take, where that is said
+    pub timeout: Option<u64>,
+    /// whether standard error says how far that search is, and why a file is refused
+    pub verbose: bool,
 }
 
 /// A justice property, and the file to make of its shadow circuit.
@@ -29,6 +33,8 @@ pub struct Shadow<'a> {
     pub property: &'a str,
     /// the file to make
     pub out: &'a str,
+    /// whether a fault says more than its line
+    pub verbose: bool,
 }
 
 /// What `certify` asks for.
@@ -40,6 +46,8 @@ pub fn asked_certify<'a>(words: &ArgMatches<'a>) -> Claim<'a> {
         certificate: word(words, "cert"),
         budget: words.get_one::<u64>("budget").unwrap_or(10_000_000),
         strengthen: words.get_flag("strengthen"),
+        timeout: words.get_one::<u64>("timeout"),
+        verbose: words.get_flag("verbose"),
     }
 }
 
@@ -49,5 +57,6 @@ pub fn asked_to_safety<'a>(words: &ArgMatches<'a>) -> Shadow<'a> {
         file: word(words, "FILE"),
         property: word(words, "property"),
         out: word(words, "OUT"),
+        verbose: words.get_flag("verbose"),
     }
 }

@@ -76,9 +76,31 @@ const SEED: Argument = Argument {
 
 /// Whether a search says how far it is.
 const VERBOSE: Argument = Argument {
+    help: "Says on standard error how far the search is, what it found, and why a file is refused",
+    ..REASONS
+};
+
+/// Whether a fault says more than its line.
+const REASONS: Argument = Argument {
     name: "verbose",
-    help: "Says on standard error how far the search is, and what it found",
+    help: "Says on standard error which file is refused, and why",
     short: Some('v'),
+    ..FLAG
+};
+
+/// How long a search may take.
+const TIMEOUT: Argument = Argument {
+    name: "timeout",
+    help: "How many seconds bounded search and IC3 may take in all",
+    value: "SECONDS",
+    takes: Takes::Number,
+    ..OPTION
+};
+
+/// Whether the verdicts alone are printed.
+const QUIET: Argument = Argument {
+    name: "quiet",
+    help: "Prints verdicts alone, without a run",
     ..FLAG
 };
 
@@ -90,6 +112,7 @@ static ROWS: [Row; 9] = [
         behind: "Status: 0 holds, 1 violated, 2 unknown, 3 failed.
 Examples:
   aigmc check design.aig -p b0 --cert b0.cert
+  aigmc check design.aig -p no_overflow --timeout 60
   aigmc check design.aig -p j0 --engine bmc --depth 100 > j0.stim",
         words: &[
             FILE,
@@ -104,6 +127,8 @@ Examples:
             DEPTH,
             ENGINE,
             SEED,
+            TIMEOUT,
+            QUIET,
             VERBOSE,
         ],
     },
@@ -126,6 +151,8 @@ Examples:
             DEPTH,
             ENGINE,
             SEED,
+            TIMEOUT,
+            QUIET,
             VERBOSE,
         ],
     },
@@ -163,6 +190,11 @@ Examples:
                 help: "Lets IC3 begin from the clauses where they are no invariant",
                 ..FLAG
             },
+            Argument {
+                help: "How many seconds that search may take",
+                ..TIMEOUT
+            },
+            VERBOSE,
         ],
     },
     Row {
@@ -186,6 +218,7 @@ Examples:
                 help: "Writes binary, whatever OUT ends in",
                 ..FLAG
             },
+            REASONS,
         ],
     },
     Row {
@@ -198,10 +231,11 @@ Examples:
         words: &[
             FILE,
             Argument {
-                help: "The justice property: j and its position",
+                help: "The justice property: j and its position, or its name in the symbol table",
                 ..PROPERTY
             },
             OUT,
+            REASONS,
         ],
     },
     Row {
@@ -231,6 +265,7 @@ Examples:
                 help: "Writes an x for each value that the violation does not rest on",
                 ..FLAG
             },
+            REASONS,
         ],
     },
     Row {
@@ -240,7 +275,7 @@ Examples:
 Examples:
   aigmc sim design.aig b0.stim
   aigmc check design.aig -p b0 > b0.stim; aigmc sim design.aig b0.stim",
-        words: &[FILE, STIMULUS],
+        words: &[FILE, STIMULUS, REASONS],
     },
     Row {
         name: "trace",
@@ -263,6 +298,7 @@ Examples:
                 value: "OUT",
                 ..OPTION
             },
+            REASONS,
         ],
     },
     Row {
@@ -272,12 +308,15 @@ Examples:
 Examples:
   aigmc explain 30
   aigmc explain 45",
-        words: &[Argument {
-            name: "NUMBER",
-            help: "The number of a fault or of a no",
-            takes: Takes::SmallNumber,
-            ..FILE
-        }],
+        words: &[
+            Argument {
+                name: "NUMBER",
+                help: "The number of a fault or of a no",
+                takes: Takes::SmallNumber,
+                ..FILE
+            },
+            REASONS,
+        ],
     },
 ];
 

@@ -45,6 +45,10 @@ pub struct Search {
     pub budget: u64,
     /// where random simulation begins
     pub seed: u64,
+    /// how many seconds bounded search and IC3 may take in all, where that is said
+    pub timeout: Option<u64>,
+    /// whether verdicts are printed without a run, and standard error does not say how far it is
+    pub quiet: bool,
     /// whether standard error says how far it is
     pub verbose: bool,
 }
@@ -132,6 +136,8 @@ fn asked_search(words: &ArgMatches<'_>) -> Search {
         depth,
         budget,
         seed,
+        timeout: words.get_one::<u64>("timeout"),
+        quiet: words.get_flag("quiet"),
         verbose: words.get_flag("verbose"),
     }
 }
@@ -190,8 +196,17 @@ fn asked_explanation<'a>(words: &ArgMatches<'a>) -> Request<'a> {
     }
 }
 
+/// What is to be done, and whether a fault says more than its line.
+#[derive(Clone, Copy)]
+pub struct Asked<'a> {
+    /// what is to be done
+    pub request: Request<'a>,
+    /// whether a fault says more than its line
+    pub verbose: bool,
+}
+
 /// What the words of a command ask for, where there is such a command.
-fn asked<'a>(name: &str, words: &ArgMatches<'a>) -> Option<Request<'a>> {
+fn asked_of<'a>(name: &str, words: &ArgMatches<'a>) -> Option<Request<'a>> {
     match name {
         "check" => Some(asked_check(words)),
         "all" => Some(asked_all(words)),
@@ -208,10 +223,11 @@ fn asked<'a>(name: &str, words: &ArgMatches<'a>) -> Option<Request<'a>> {
 
 /// What a command line's words ask for, of which the first is the program's name. There is nothing
 /// where they name no command.
-pub fn parse<'a>(alloc: Global, words: &'a [String]) -> Result<Option<Request<'a>>, Wrong> {
+pub fn parse<'a>(alloc: Global, words: &'a [String]) -> Result<Option<Asked<'a>>, Wrong> {
     let matches = command(alloc)?.try_get_matches_from(words)?;
     let Some((name, words)) = matches.subcommand() else {
         return Ok(None);
     };
-    Ok(asked(name, words))
+    let verbose = words.get_flag("verbose");
+    Ok(asked_of(name, words).map(|request| Asked { request, verbose }))
 }

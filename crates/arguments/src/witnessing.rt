@@ -16,6 +16,8 @@ pub struct Counterexample<'a> {
     pub property: Option<&'a str>,
     /// whether the values that the violation does not rest on are to be cleared
     pub clear: bool,
+    /// whether a fault says more than its line
+    pub verbose: bool,
 }
 
 /// What `witness` asks for.
@@ -26,5 +28,6 @@ pub fn asked_witness<'a>(words: &ArgMatches<'a>) -> Counterexample<'a> {
         out: word(words, "OUT"),
         property: words.get_str("property"),
         clear: words.get_flag("clear"),
+        verbose: words.get_flag("verbose"),
     }
 }

@@ -71,7 +71,7 @@ pub const FLAG: Argument = Argument {
 /// The property, which has to be named.
 pub const PROPERTY: Argument = Argument {
     name: "property",
-    help: "The property: b, j or o and its position",
+    help: "The property: b, j or o and its position, or its name in the symbol table",
     short: Some('p'),
     value: "P",
     ..FILE

@@ -1,6 +1,8 @@
 -- The functions whose clauses a solver has: those alone that are asked for, and what they depend on.
 use Rattle.std.specs.Prelude.{◌≡◌, ℕ, ◌<◌, ◌≤◌, Bool, true, not, List, [], ◌∷◌, ◌++◌, map, length, All, ℤ, neg_ℤ, unsigned_abs}
+use Rattle.graph.specs.declared.parts.Parts.{Parts}
 use Rattle.lrat.specs.Literals.{IsLiteral}
+use Rattle.lrat.specs.Shared.{unit_clauses}
 use Rattle.cnf.specs.Meaning.{AreSatisfied}
 use Rattle.cones.specs.Marks.{IsMarked}
 use Rattle.truth_tables.specs.declared.cube.Side.{Side}
@@ -11,6 +13,7 @@ use Rattle.truth_tables.specs.Cubes.{in_some, IsCover}
 use Rattle.bmc.specs.declared.function.Function.{Function}
 use Rattle.bmc.specs.declared.encoder.Encoder.{Encoder}
 use Rattle.bmc.specs.Encodings.{IsDefined, IsGate}
+use Rattle.bmc.specs.Unrollings.{literal_of}
 
 -- what is true where the leaf is not as the cube wants it
 abbrev pub side_clause : Side → ℤ → List ℤ
@@ -60,3 +63,10 @@ pub record IsGivenOne (e : Encoder) (t u : List Bool) (cs ds : List (List ℤ)) 
   pub over : AreOver e.variables t cs → AreOver e.variables u ds
   pub more : IsMore e.functions.items cs ds
   pub decided : IsDecided e.functions.items ds u x
+
+-- the clauses of one time are added: some that say no more than the functions, and the constraints
+pub record AreAdded (m : Parts) (e : Encoder) (table : List ℤ) (cs es : List (List ℤ)) : Type 0 where
+  pub clauses : List (List ℤ)
+  pub range : All (All (IsLiteral e.variables)) clauses
+  pub more : IsMore e.functions.items cs clauses
+  pub units : es ≡ clauses ++ unit_clauses (map (literal_of table) m.constraints)

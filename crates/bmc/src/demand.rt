@@ -22,6 +22,30 @@ use solver::Sat;
 use std::alloc::Global;
 use truth_tables::{Covers, Cube, Side, complement};
 
+/// What the clauses of functions are made of.
+#[derive(Drop)]
+pub struct CoverClauses {
+    /// the covers of the functions that were given
+    by_table: Covers,
+    /// the clause of one cube
+    clause: Vec<i32>,
+}
+
+impl CoverClauses {
+    /// No function was given yet.
+    pub fn new(alloc: Global) -> CoverClauses {
+        CoverClauses {
+            by_table: Covers::new(alloc),
+            clause: Vec::new(alloc),
+        }
+    }
+
+    /// The allocator of the clause.
+    pub fn allocator(&self) -> Global {
+        *self.clause.allocator()
+    }
+}
+
 /// Marks the literal's variable, and adds it to the list where it was not marked.
 fn want(marks: &mut [bool], list: &mut Vec<u32>, literal: i32) -> Result<(), Refused>
     requires { unsigned_abs literal < length marks.old }
@@ -126,11 +150,9 @@ fn add_cover<S: Sat>(
 /// cover of its complement.
 fn add_function<S: Sat>(
     solver: &mut S,
-    alloc: Global,
     literal: i32,
     function: Function,
-    covers: &mut Covers,
-    clause: &mut Vec<i32>,
+    covers: &mut CoverClauses,
 ) -> Result<(), EngineError>
     requires literal { IsLiteral (S.vars solver.old) literal }
     requires leaves { AreLeaves (S.vars solver.old) function }
@@ -139,28 +161,28 @@ fn add_function<S: Sat>(
     ensures said { OnOk result (IsSaid literal function (S.clauses solver.old) (S.clauses solver.new)) }
     ensures limit { IfErr result (λ e. e ≡ Limit full → S.is_full solver.new) }
 {
-    let on = covers.of(alloc, function.table)?;
-    add_cover(solver, alloc, literal, function.leaves, on, clause)?;
-    let off = covers.of(alloc, complement(function.table))?;
+    let alloc = covers.allocator();
+    let leaves = function.leaves;
+    let on = covers.by_table.of(alloc, function.table)?;
+    add_cover(solver, alloc, literal, leaves, on, &mut covers.clause)?;
+    let off = covers.by_table.of(alloc, complement(function.table))?;
     add_cover(
         solver,
         alloc,
         negated(literal),
-        function.leaves,
+        leaves,
         off,
-        clause,
+        &mut covers.clause,
     )
 }
 
 /// Gives the solver the clauses of the listed variable, and marks what it depends on.
 fn give_one<S: Sat>(
     solver: &mut S,
-    alloc: Global,
     encoder: &Encoder,
-    covers: &mut Covers,
+    covers: &mut CoverClauses,
     marks: &mut [bool],
     list: &mut Vec<u32>,
-    clause: &mut Vec<i32>,
     place: usize,
 ) -> Result<(), EngineError>
     requires encoding { IsEncoding encoder.now }
@@ -180,7 +202,7 @@ fn give_one<S: Sat>(
     if first == 0 {
         return Ok(());
     }
-    add_function(solver, alloc, positive(variable), function, covers, clause)?;
+    add_function(solver, positive(variable), function, covers)?;
     want_each(marks, list, &[first, second, third, fourth])?;
     Ok(())
 }
@@ -189,9 +211,8 @@ fn give_one<S: Sat>(
 /// has not got them.
 pub fn give<S: Sat>(
     solver: &mut S,
-    alloc: Global,
     encoder: &Encoder,
-    covers: &mut Covers,
+    covers: &mut CoverClauses,
     marks: &mut [bool],
     table: &[i32],
     constraints: &[Lit],
@@ -212,22 +233,12 @@ pub fn give<S: Sat>(
     ensures bad { OnOk result (All (λ a. IsMarked marks.new (unsigned_abs (literal_of table.now a))) bad.now) }
     ensures limit { IfErr result (λ e. e ≡ Limit full → S.is_full solver.new) }
 {
-    let mut list = Vec::new(alloc);
-    let mut clause = Vec::new(alloc);
+    let mut list = Vec::new(covers.allocator());
     want_all(marks, &mut list, table, constraints)?;
     want_all(marks, &mut list, table, bad)?;
     let mut next: usize = 0;
     'giving: while next < list.len() {
-        give_one(
-            solver,
-            alloc,
-            encoder,
-            covers,
-            marks,
-            &mut list,
-            &mut clause,
-            next,
-        )?;
+        give_one(solver, encoder, covers, marks, &mut list, next)?;
         next += 1;
     }
     Ok(())

@@ -1,4 +1,4 @@
-//! Bounded search (Biere, Cimatti, Clarke, Zhu 1999).
+//! Bounded search, which is bounded model checking (Biere, Cimatti, Clarke, Zhu 1999).
 //!
 //! `Bmc` asks a solver for runs of 0 steps, of 1 step, and so on up to a depth, that keep the
 //! constraints and set the bad literal at their last time. So the first run that it finds has the

@@ -27,7 +27,7 @@ use std::alloc::Global;
 pub struct Bmc<S, P> {
     solver: S,
     depth: u32,
-    /// what hears of each search
+    /// what is told of each search
     progress: P,
 }
 
@@ -66,7 +66,6 @@ fn run_of(
 /// Looks for a run of one step more that sets the bad literal at its last time.
 fn reach<S: Sat>(
     solver: &mut S,
-    alloc: Global,
     circuit: &Model,
     cone: &Cone,
     nexts: &NextTable,
@@ -96,7 +95,8 @@ fn reach<S: Sat>(
         return Ok(Some(Finding::Unknown(Reason::Budget)));
     }
     circuit.well_formed();
-    unrolling.encode(solver, alloc, circuit, cone, nexts)?;
+    let alloc = unrolling.allocator();
+    unrolling.encode(solver, circuit, cone, nexts)?;
     let bad = literal(unrolling.table.as_slice(), circuit.bad()[0]);
     match solver.solve(alloc, &[bad], budget)? {
         Answer::Model(values) => {
@@ -129,10 +129,9 @@ fn search_up_to<S: Sat, P: Progress>(
     let cone = cone_of(alloc, circuit, &nexts)?;
     let mut unrolling = begin(solver, alloc, circuit, &cone, depth + 1)?;
     'deepening: for steps in 0..depth + 1 {
-        progress.begun(steps, unrolling.encoder.variables, budget);
+        progress.depth_begun(steps, unrolling.encoder.variables, budget);
         match reach(
             solver,
-            alloc,
             circuit,
             &cone,
             &nexts,
@@ -160,7 +159,7 @@ impl<S: Sat> Bmc<S, Silent> {
         }
     }
 
-    /// The same search, of which this hears: each number of steps with which it begins.
+    /// The same search, of which this is told: each number of steps with which it begins.
     pub fn with_progress<P: Progress>(self, progress: P) -> Bmc<S, P>
         ensures { result ≡ self }
     {

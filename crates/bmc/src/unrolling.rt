@@ -1,21 +1,21 @@
 //! The times of a circuit in a solver, one after the other.
 
-ghost use Rattle.std.specs.Prelude.{◌≡◌, ◌+◌, ◌<◌, ◌≤◌, [], false, true, length, map, replicate, set, All, IfOk, OnOk, IfErr, unsigned_abs};
+ghost use Rattle.std.specs.Prelude.{◌≡◌, ℤ, List, ◌+◌, ◌<◌, ◌≤◌, [], false, true, length, map, replicate, set, All, IfOk, OnOk, IfErr, unsigned_abs};
 ghost use Rattle.lrat.specs.Literals.{IsLiteral};
 ghost use Rattle.cnf.specs.Clauses.{next_of};
 ghost use Rattle.cnf.specs.Tables.{IsTableOf};
 ghost use Rattle.bmc.specs.Cones.{IsConeOf, latch_at};
-ghost use Rattle.bmc.specs.Encodings.{IsEncoding, told};
-ghost use Rattle.bmc.specs.Demands.{AreGiven};
+ghost use Rattle.bmc.specs.Encodings.{IsEncoding, IsExtended, told};
+ghost use Rattle.bmc.specs.Demands.{AreGiven, AreAdded};
 ghost use Rattle.cones.specs.Marks.{IsMarked};
-ghost use Rattle.bmc.specs.Unrollings.{Leaves, IsTable, IsUnrolled, later, constant_of, AreInitial, literal_at, literal_of};
+ghost use Rattle.bmc.specs.Unrollings.{Leaves, IsTable, AreStates, later, constant_of, AreInitial, literal_at, literal_of};
 ghost use Rattle.bmc.specs.Times.{IsAt, HasRoom, leaves_of};
 ghost use Rattle.engine.specs.declared.engine_error.EngineError.TheVariants.{Limit};
 ghost use Rattle.solver.specs.Full.{full};
 
 use crate::clauses::{add_one, positive};
 use crate::cone::Cone;
-use crate::demand::give;
+use crate::demand::{CoverClauses, give};
 use crate::encoder::Encoder;
 use crate::frame::{add_units, encode_cells, entry, fill_inputs, fill_latches, literal};
 use base::{Refused, filled, push};
@@ -24,7 +24,6 @@ use engine::EngineError;
 use graph::{Latch, Model};
 use solver::Sat;
 use std::alloc::Global;
-use truth_tables::Covers;
 
 /// What is known of the times that were encoded.
 #[derive(Drop)]
@@ -40,8 +39,8 @@ pub struct Unrolling {
     pub table: Vec<i32>,
     /// for each variable whether the solver has the clauses of what it depends on
     pub given: Vec<bool>,
-    /// the covers of the functions that were given
-    pub covers: Covers,
+    /// what the clauses of functions are made of
+    pub covers: CoverClauses,
 }
 
 /// The constant that the latch is reset to, or what is false.
@@ -164,48 +163,33 @@ pub fn begin<S: Sat>(
         state,
         table,
         given,
-        covers: Covers::new(alloc),
+        covers: CoverClauses::new(alloc),
     })
 }
 
-/// Makes the literals of one time, and gives the solver its constraints and what these and the bad
-/// literals depend on. The state is then that of the next time.
-fn encode_frame<S: Sat>(
-    solver: &mut S,
-    alloc: Global,
+/// Makes the literals of one time.
+fn encode_frame(
     circuit: &Model,
     cone: &Cone,
-    nexts: &NextTable,
     encoder: &mut Encoder,
-    covers: &mut Covers,
-    state: &mut [i32],
+    state: &[i32],
     table: &mut [i32],
-    given: &mut [bool],
-) -> Result<(), EngineError>
+) -> Result<(), Refused>
     requires cone { IsConeOf circuit.now cone.now }
-    requires nexts { IsTableOf circuit.now.latches nexts.now }
     requires whole { length table.old ≡ circuit.now.max_var + 1 }
     requires literals { All (IsLiteral encoder.old.variables) table.old }
-    requires lengths { length state.old ≡ length cone.now.latches.items }
-    requires states { All (IsLiteral encoder.old.variables) state.old }
+    requires lengths { length state.now ≡ length cone.now.latches.items }
+    requires states { All (IsLiteral encoder.old.variables) state.now }
     requires encoding { IsEncoding encoder.old }
-    requires given { AreGiven encoder.old given.old (S.clauses solver.old) }
-    requires room { encoder.old.variables + (length cone.now.inputs.items + length cone.now.cells.items) ≤ S.vars solver.old }
-    requires places { length given.old ≡ S.vars solver.old + 1 }
-    requires small { S.vars solver.old ≤ 2147483647 }
-    ensures vars { S.vars solver.new ≡ S.vars solver.old }
+    requires room { encoder.old.variables + (length cone.now.inputs.items + length cone.now.cells.items) ≤ 2147483647 }
     ensures whole { length table.new ≡ length table.old }
-    ensures lengths { length state.new ≡ length state.old }
-    ensures marks { length given.new ≡ length given.old }
     ensures literals { OnOk result (All (IsLiteral encoder.new.variables) table.new) }
     ensures few { OnOk result (encoder.new.variables ≤ encoder.old.variables + (length cone.now.inputs.items + length cone.now.cells.items)) }
-    ensures given { OnOk result (AreGiven encoder.new given.new (S.clauses solver.new)) }
-    ensures bad { OnOk result (All (λ a. IsMarked given.new (unsigned_abs (literal_of table.new a))) circuit.now.bad) }
-    ensures next { (s : Leaves) → IsUnrolled circuit.now cone.now s state.old encoder.old (S.clauses solver.old) →
-        OnOk result (IsUnrolled circuit.now cone.now (later s encoder.old.variables) state.new encoder.new (S.clauses solver.new)
-        × IsTable circuit.now cone.now (later s encoder.old.variables) (told encoder.new (S.clauses solver.new)) (length s.firsts) encoder.new.variables
+    ensures encoding { OnOk result (IsEncoding encoder.new) }
+    ensures extended { OnOk result (IsExtended (encoder.old.variables + length cone.now.inputs.items) encoder.old.functions.items encoder.new.variables encoder.new.functions.items) }
+    ensures table { (s : Leaves) (cs : List (List ℤ)) → AreStates circuit.now cone.now s (told encoder.old cs) (length s.firsts) encoder.old.variables state.now →
+        OnOk result (IsTable circuit.now cone.now (later s encoder.old.variables) (told encoder.new cs) (length s.firsts) encoder.new.variables
         (length cone.now.inputs.items) (length cone.now.latches.items) (length cone.now.cells.items) table.new) }
-    ensures limit { IfErr result (λ e. e ≡ Limit full → S.is_full solver.new) }
 {
     circuit.well_formed();
     let first = encoder.variables;
@@ -214,9 +198,34 @@ fn encode_frame<S: Sat>(
     fill_inputs(circuit, cone, first, table);
     fill_latches(circuit, cone, state, table);
     encode_cells(circuit, cone, encoder, table)?;
+    Ok(())
+}
+
+/// Gives the solver the constraints of one time, and what these and the bad literals depend on.
+fn give_frame<S: Sat>(
+    solver: &mut S,
+    circuit: &Model,
+    encoder: &Encoder,
+    covers: &mut CoverClauses,
+    table: &[i32],
+    given: &mut [bool],
+) -> Result<(), EngineError>
+    requires whole { length table.now ≡ circuit.now.max_var + 1 }
+    requires literals { All (IsLiteral encoder.now.variables) table.now }
+    requires encoding { IsEncoding encoder.now }
+    requires given { AreGiven encoder.now given.old (S.clauses solver.old) }
+    requires places { length given.old ≡ S.vars solver.old + 1 }
+    requires small { S.vars solver.old ≤ 2147483647 }
+    ensures vars { S.vars solver.new ≡ S.vars solver.old }
+    ensures marks { length given.new ≡ length given.old }
+    ensures given { OnOk result (AreGiven encoder.now given.new (S.clauses solver.new)) }
+    ensures bad { OnOk result (All (λ a. IsMarked given.new (unsigned_abs (literal_of table.now a))) circuit.now.bad) }
+    ensures added { OnOk result (AreAdded circuit.now encoder.now table.now (S.clauses solver.old) (S.clauses solver.new)) }
+    ensures limit { IfErr result (λ e. e ≡ Limit full → S.is_full solver.new) }
+{
+    circuit.well_formed();
     give(
         solver,
-        alloc,
         encoder,
         covers,
         given,
@@ -224,17 +233,20 @@ fn encode_frame<S: Sat>(
         circuit.constraints(),
         circuit.bad(),
     )?;
-    add_units(solver, alloc, table, circuit.constraints())?;
-    next_state(circuit, cone, nexts, table, state);
+    add_units(solver, covers.allocator(), table, circuit.constraints())?;
     Ok(())
 }
 
 impl Unrolling {
+    /// The allocator of the literals.
+    pub fn allocator(&self) -> Global {
+        *self.firsts.allocator()
+    }
+
     /// Makes the literals of the next time, and adds its constraints.
     pub fn encode<S: Sat>(
         &mut self,
         solver: &mut S,
-        alloc: Global,
         circuit: &Model,
         cone: &Cone,
         nexts: &NextTable,
@@ -255,18 +267,25 @@ impl Unrolling {
         ensures places { OnOk result (length self.new.given.items ≡ length self.old.given.items) }
         ensures limit { IfErr result (λ e. e ≡ Limit full → S.is_full solver.new) }
     {
+        circuit.well_formed();
         push(&mut self.firsts, self.encoder.variables)?;
         encode_frame(
-            solver,
-            alloc,
             circuit,
             cone,
-            nexts,
             &mut self.encoder,
-            &mut self.covers,
-            self.state.as_mut_slice(),
+            self.state.as_slice(),
             self.table.as_mut_slice(),
+        )?;
+        give_frame(
+            solver,
+            circuit,
+            &self.encoder,
+            &mut self.covers,
+            self.table.as_slice(),
             self.given.as_mut_slice(),
-        )
+        )?;
+        let table = self.table.as_slice();
+        next_state(circuit, cone, nexts, table, self.state.as_mut_slice());
+        Ok(())
     }
 }

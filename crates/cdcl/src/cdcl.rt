@@ -4,7 +4,7 @@ ghost use Rattle.std.specs.Prelude.{◌≡◌, ◌≤◌, []};
 
 use base::Budget;
 use cdcl_log::LoggedKernel;
-use cdcl_search::{Guide, search};
+use cdcl_search::{Guide, Statistics, search};
 use solver::{Answer, Part, PartSat, Sat, SatError};
 use std::alloc::Global;
 use std::marker::Model;
@@ -41,6 +41,12 @@ impl Cdcl {
             guide: Guide::new(alloc),
         }
     }
+
+    /// How often the search did what, over all calls since `new`. Where `refused_learned` or `refused_cores`
+    /// is not 0, the search was wrong somewhere, which costs time alone.
+    pub fn statistics(&self) -> Statistics {
+        self.guide.statistics()
+    }
 }
 
 impl Sat for Cdcl {
@@ -53,7 +59,7 @@ impl Sat for Cdcl {
     /// It costs the number of variables, and a byte of memory for each.
     fn reset(&mut self, alloc: Global, count: u32) -> Result<(), SatError> {
         self.kernel.reset(alloc, count)?;
-        self.guide = Guide::new(alloc);
+        self.guide.renew(alloc);
         Ok(())
     }
 
@@ -68,7 +74,7 @@ impl Sat for Cdcl {
         Ok(())
     }
 
-    /// A step of the budget is a clause that is looked at in propagation, or a decision or a
+    /// A step of the budget is a clause that is visited in propagation, or a decision or a
     /// conflict. After a refusal the clauses are watched anew. What it learns takes ids too.
     fn solve(
         &mut self,
@@ -78,7 +84,7 @@ impl Sat for Cdcl {
     ) -> Result<Answer, SatError> {
         let answer = search(&mut self.kernel, &mut self.guide, None, assume, budget);
         if answer.is_err() {
-            self.guide = Guide::new(alloc);
+            self.guide.renew(alloc);
         }
         answer
     }
@@ -97,7 +103,7 @@ impl PartSat for Cdcl {
         let kernel = &mut self.kernel;
         let answer = search(kernel, &mut self.guide, Some(part), assume, budget);
         if answer.is_err() {
-            self.guide = Guide::new(alloc);
+            self.guide.renew(alloc);
         }
         answer
     }

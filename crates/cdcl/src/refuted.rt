@@ -7,7 +7,7 @@ use lrat::Proof;
 pub enum Refuted {
     /// an accepted proof that nothing satisfies the formula
     Proof(Proof),
-    /// values that satisfy the formula: place `v` is the variable `v`, and place 0 is false
+    /// values that satisfy the formula: index `v` is the variable `v`, and index 0 is false
     Model(Vec<bool>),
     /// the budget is exhausted
     Spent,

@@ -142,7 +142,7 @@ fn searched(
 {
     let answer = search(kernel, guide, None, units, budget);
     if answer.is_err() {
-        *guide = Guide::new(alloc);
+        guide.renew(alloc);
     }
     answer
 }

@@ -1,4 +1,4 @@
-pub mod Placed
+pub mod ClauseRefs
 pub mod Follow
 pub mod Valued
 pub mod Judged

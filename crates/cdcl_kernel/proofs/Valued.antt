@@ -7,7 +7,8 @@ use Rattle.solver.specs.Answers.{IsModel}
 use Rattle.solver.specs.Parts.{IsPartModel}
 use Rattle.solver.specs.declared.part.Part.{Part}
 use Rattle.cdcl_kernel.specs.Valued.{is_positive, with_value, with_values, valued, IsLastValue, AreLastValues}
-use Rattle.cdcl_kernel.specs.Verdicts.{AreTrueBy, IsSatisfiedBy, IsAndBy}
+use Rattle.solver.specs.Values.{AreTrueBy, IsAndBy}
+use Rattle.cdcl_kernel.specs.Verdicts.{IsSatisfiedBy}
 use lib.Signed.{lt_z}
 
 -- ---- one literal more
@@ -31,7 +32,7 @@ valued_more n ls i b lt e =
     ∙ ap (λ (p : Bool). set (valued n (take i ls)) (unsigned_abs l) p) (signed l)
     ∙ sym (valued_next n ls i lt)
 
--- a literal of a variable that has no place
+-- a literal of a variable that has no index
 pub valued_same : (n : ℕ) (ls : List ℤ) (i : ℕ) (b : List Bool) → i < length ls → length b ≤ unsigned_abs (get_or ls i (pos 0)) → b ≡ valued n (take i ls) → b ≡ valued n (take (i + 1) ls)
 valued_same n ls i b lt out e =
     let l : ℤ = get_or ls i (pos 0) in
@@ -39,14 +40,14 @@ valued_same n ls i b lt out e =
     ∙ ap (λ (c : List Bool). with_value c l) e
     ∙ sym (valued_next n ls i lt)
 
--- ---- the places
+-- ---- the length
 
-values_places : (b : List Bool) (ls : List ℤ) → length (with_values b ls) ≡ length b
-values_places b [] = refl
-values_places b (l ∷ ls) = values_places (with_value b l) ls ∙ length-set b (unsigned_abs l) (is_positive l)
+values_length : (b : List Bool) (ls : List ℤ) → length (with_values b ls) ≡ length b
+values_length b [] = refl
+values_length b (l ∷ ls) = values_length (with_value b l) ls ∙ length-set b (unsigned_abs l) (is_positive l)
 
-valued_places : (n : ℕ) (ls : List ℤ) → length (valued n ls) ≡ n + 1
-valued_places n ls = values_places (replicate (n + 1) false) ls ∙ length-replicate (n + 1) false
+valued_length : (n : ℕ) (ls : List ℤ) → length (valued n ls) ≡ n + 1
+valued_length n ls = values_length (replicate (n + 1) false) ls ∙ length-replicate (n + 1) false
 
 value_none : (b : List Bool) (l : ℤ) → slice_index_or b 0 true ≡ false → slice_index_or (with_value b l) 0 true ≡ false
 value_none [] l e = e
@@ -81,7 +82,7 @@ value_last b before after l v inside is others =
     ap (λ (c : List Bool). get_or c v false) (values_after b before (l ∷ after))
     ∙ values_other (with_value (with_values b before) l) after v others
     ∙ subst (λ w. get_or (with_value (with_values b before) l) w false ≡ is_positive l) is
-    (get_or-set_same (with_values b before) (unsigned_abs l) (is_positive l) false (rw (is, values_places b before) inside))
+    (get_or-set_same (with_values b before) (unsigned_abs l) (is_positive l) false (rw (is, values_length b before) inside))
 
 valued_is : (n : ℕ) (ls : List ℤ) (v : ℕ) → v ≤ n → IsLastValue ls v (get_or (valued n ls) v false)
 valued_is n ls v le =
@@ -93,7 +94,7 @@ valued_is n ls v le =
 
 pub last_values : (n : ℕ) (ls : List ℤ) (b : List Bool) → b ≡ valued n ls → AreLastValues n ls b
 last_values n ls b e = record {
-  places = ap length e ∙ valued_places n ls;
+  places = ap length e ∙ valued_length n ls;
   each = λ v le. subst (λ (c : List Bool). IsLastValue ls v (get_or c v false)) (sym e) (valued_is n ls v le);
 }
 
@@ -101,7 +102,7 @@ last_values n ls b e = record {
 
 pub model_from : (n : ℕ) (cs : List (List ℤ)) (assume ls : List ℤ) (b : List Bool) → b ≡ valued n ls → All (IsSatisfiedBy b) cs → AreTrueBy b assume → IsModel n cs assume b
 model_from n cs assume ls b e satisfied assumed = record {
-  places = ap length e ∙ valued_places n ls;
+  places = ap length e ∙ valued_length n ls;
   none = subst (λ (c : List Bool). slice_index_or c 0 true ≡ false) (sym e) (valued_none n ls);
   satisfied = satisfied;
   assumed = assumed;
@@ -109,7 +110,7 @@ model_from n cs assume ls b e satisfied assumed = record {
 
 pub part_model_from : (n : ℕ) (part : Part) (assume ls : List ℤ) (b : List Bool) → b ≡ valued n ls → All (IsAndBy b) part.gates.items → AreTrueBy b part.literals.items → AreTrueBy b assume → IsPartModel n part assume b
 part_model_from n part assume ls b e gates wanted assumed = record {
-  places = ap length e ∙ valued_places n ls;
+  places = ap length e ∙ valued_length n ls;
   none = subst (λ (c : List Bool). slice_index_or c 0 true ≡ false) (sym e) (valued_none n ls);
   gates = gates;
   wanted = wanted;

@@ -1,5 +1,5 @@
 pub mod Kept
-pub mod Places
+pub mod ClauseRefs
 pub mod Known
 pub mod Inside
 pub mod Forgotten

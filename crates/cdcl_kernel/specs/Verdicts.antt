@@ -1,28 +1,14 @@
 -- What values say of clauses, and what hints and assumptions show.
 use Rattle.std.specs.Prelude.{◌≡◌, ◌<◌, ℕ, ℤ, Bool, List, Some, All, Contains, map, neg_ℤ}
-use Rattle.lrat.specs.Literals.{is_true, IsSatisfied}
-use Rattle.solver.specs.Answers.{AreTrue, values}
-use Rattle.solver.specs.Parts.{IsAnd}
-use Rattle.solver.specs.declared.part.AndGate.{AndGate}
+use Rattle.lrat.specs.Literals.{IsSatisfied}
+use Rattle.solver.specs.Answers.{values}
 use Rattle.cdcl_kernel.specs.Kept.{Kept, find_in, origin_in}
 use Rattle.cdcl_kernel.specs.Known.{Known, IsLearned}
 use Rattle.cdcl_kernel.specs.declared.origin.Origin.TheVariants.{Added}
 
--- whether the literal is true under the values
-abbrev pub true_by : List Bool → ℤ → Bool
-true_by b l = is_true (values b) l
-
--- each of the literals is true under the values
-abbrev pub AreTrueBy : List Bool → List ℤ → Type 0
-AreTrueBy b ls = AreTrue (values b) ls
-
 -- one of the clause's literals is true under the values
 abbrev pub IsSatisfiedBy : List Bool → List ℤ → Type 0
 IsSatisfiedBy b c = IsSatisfied (values b) c
-
--- the gate's literal is true under the values exactly where both right sides are
-abbrev pub IsAndBy : List Bool → AndGate → Type 0
-IsAndBy b g = IsAnd (values b) g
 
 -- one of the literals of the clause with the id is true under the values
 abbrev pub SatisfiesOf : List Kept → List Bool → ℕ → Type 0

@@ -17,11 +17,11 @@ ghost use Rattle.solver.specs.Full.{full};
 use crate::literals::{are_nonzero, negated};
 use crate::origin::Origin;
 use crate::store::Store;
-use crate::values::{are_true, fits_gates, values_of};
+use crate::values::values_of;
 use crate::verdict::{assumed_part, opposed_pair};
 use base::copied;
 use lrat::{Fault, Lookup, Trail, derive_with};
-use solver::{Part, SatError, Taken};
+use solver::{Part, SatError, Taken, are_true, fits_gates};
 use std::alloc::Global;
 use std::marker::Model;
 

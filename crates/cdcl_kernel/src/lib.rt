@@ -14,10 +14,10 @@
 //! literals, which is closed up, without memory, where more than half of it is dead.
 #![tactic(auto)]
 
+mod clause_ref;
 mod kernel;
 mod literals;
 mod origin;
-mod place;
 mod sorted;
 mod store;
 mod values;

@@ -9,8 +9,8 @@ ghost use Rattle.cdcl_kernel.specs.declared.origin.Origin.TheVariants.{Removed};
 ghost use Rattle.solver.specs.declared.sat_error.SatError.TheVariants.{Limit};
 ghost use Rattle.solver.specs.Full.{full};
 
+use crate::clause_ref::{ClauseRef, close_up};
 use crate::origin::Origin;
-use crate::place::{Place, close_up};
 use crate::values::satisfies;
 use base::{extend, push, reserve_one};
 use lrat::Lookup;
@@ -24,8 +24,8 @@ pub struct Store {
     /// the greatest variable
     vars: u32,
     /// for each id, from 1 on, where its clause lies
-    places: Vec<Place>,
-    /// for each id where its clause comes from: apart, as the places are read far more often
+    clause_refs: Vec<ClauseRef>,
+    /// for each id where its clause comes from: apart, as the clause references are read far more often
     origins: Vec<Origin>,
     /// the literals of the clauses, one clause after the other
     literals: Vec<i32>,
@@ -38,11 +38,11 @@ impl Model for Store {
 
     ghost Value = { Stored };
 
-    ghost use Rattle.cdcl_kernel.specs.Places.{kept_at, AreInside};
+    ghost use Rattle.cdcl_kernel.specs.ClauseRefs.{kept_at, AreInside};
 
-    ghost view = { λ s. record { vars = s.vars; kept = kept_at s.literals.items s.places.items s.origins.items } };
+    ghost view = { λ s. record { vars = s.vars; kept = kept_at s.literals.items s.clause_refs.items s.origins.items } };
 
-    ghost invariant = { λ s. AreInside s.vars s.literals.items s.places.items s.origins.items };
+    ghost invariant = { λ s. AreInside s.vars s.literals.items s.clause_refs.items s.origins.items };
 }
 
 impl Store {
@@ -52,7 +52,7 @@ impl Store {
     {
         Store {
             vars: 0,
-            places: Vec::new(alloc),
+            clause_refs: Vec::new(alloc),
             origins: Vec::new(alloc),
             literals: Vec::new(alloc),
             dead: 0,
@@ -64,7 +64,7 @@ impl Store {
         ensures { self.new ≡ record { vars = vars; kept = [] } }
     {
         self.vars = vars;
-        self.places.clear();
+        self.clause_refs.clear();
         self.origins.clear();
         self.literals.clear();
         self.dead = 0;
@@ -75,7 +75,7 @@ impl Store {
         ensures value { result ≡ length self.now.kept }
         ensures few { length self.now.kept ≤ 4294967295 }
     {
-        self.places.len()
+        self.clause_refs.len()
     }
 
     /// The ids of the clauses, and those of a room that is left out.
@@ -83,7 +83,7 @@ impl Store {
         requires { room ≤ 2147483647 }
         ensures { result.ids ≡ length self.now.kept + room }
     {
-        Taken::by(self.places.as_slice(), room)
+        Taken::by(self.clause_refs.as_slice(), room)
     }
 
     /// Adds a clause, added or learned, with the next id. A refusal changes nothing.
@@ -95,15 +95,15 @@ impl Store {
         ensures err { OnErr result (self.new ≡ self.old) }
         ensures limit { IfErr result (λ e. e ≡ Limit full → length self.old.kept ≡ 4294967295) }
     {
-        Taken::by(self.places.as_slice(), 0).next_id(&[])?;
+        Taken::by(self.clause_refs.as_slice(), 0).next_id(&[])?;
         let start = self.literals.len();
         reserve_one(&mut self.origins)?;
         extend(&mut self.literals, clause)?;
-        let place = Place {
+        let clause_ref = ClauseRef {
             start,
             len: clause.len(),
         };
-        push(&mut self.places, place)?;
+        push(&mut self.clause_refs, clause_ref)?;
         push(&mut self.origins, origin)?;
         Ok(())
     }
@@ -114,11 +114,11 @@ impl Store {
         ensures kept { self.new.kept ≡ without self.old.kept id }
     {
         let index = id as usize;
-        if index > 0 && index <= self.places.len() {
-            let place = self.places[index - 1];
-            self.dead = self.dead.saturating_add(place.len);
-            self.places[index - 1] = Place {
-                start: place.start,
+        if index > 0 && index <= self.clause_refs.len() {
+            let clause_ref = self.clause_refs[index - 1];
+            self.dead = self.dead.saturating_add(clause_ref.len);
+            self.clause_refs[index - 1] = ClauseRef {
+                start: clause_ref.start,
                 len: 0,
             };
             self.origins[index - 1] = Origin::Removed;
@@ -155,7 +155,7 @@ impl Store {
     fn close_up(&mut self)
         ensures { self.new ≡ self.old }
     {
-        let end = close_up(&mut self.literals, &mut self.places);
+        let end = close_up(&mut self.literals, &mut self.clause_refs);
         self.literals.truncate(end);
         self.dead = 0;
     }
@@ -211,16 +211,16 @@ impl Lookup for Store {
     #[inline]
     fn get(&self, id: u32) -> Option<&[i32]> {
         let index = id as usize;
-        if index == 0 || index > self.places.len() {
+        if index == 0 || index > self.clause_refs.len() {
             return None;
         }
-        let place = self.places[index - 1];
-        if place.len == 0 {
+        let clause_ref = self.clause_refs[index - 1];
+        if clause_ref.len == 0 {
             return match self.origins[index - 1] {
                 Origin::Removed => None,
                 _ => Some(&self.literals[..0]),
             };
         }
-        Some(&self.literals[place.start..place.start + place.len])
+        Some(&self.literals[clause_ref.start..clause_ref.start + clause_ref.len])
     }
 }

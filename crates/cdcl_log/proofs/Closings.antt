@@ -89,7 +89,7 @@ at f room log = record { formula = f; room = room; log = log }
 
 pub closing_grows : (f : Formula) (room k : ℕ) (log more : List Line) (us : List ℤ) (c : Closing) → AreNumbered k (log ++ more) → IsClosingOf (at f room log) us c → IsClosingOf (at f room (log ++ more)) us c
 closing_grows f room k log more us c are is = record {
-  places = is.places;
+  indices = is.indices;
   positive = is.positive;
   in_limits = is.in_limits;
   below = λ i d lt. let b = is.below i d lt in omega (arith, b, length-append log more);
@@ -112,19 +112,19 @@ denials_of : (base : ℕ) (us c : List ℤ) (ps : List ℕ) → AreDeniedAt us c
 denials_of base us [] [] are = tt
 denials_of base us [] (p ∷ ps) are = absurd are
 denials_of base us (l ∷ c) [] are = absurd are
-denials_of base us (l ∷ c) (p ∷ ps) are = (record { place = p; inside = are.0; there = are.1; is = refl }, denials_of base us c ps are.2)
+denials_of base us (l ∷ c) (p ∷ ps) are = (record { index = p; inside = are.0; there = are.1; is = refl }, denials_of base us c ps are.2)
 
-places_of : (us c : List ℤ) (ps : List ℕ) → AreDeniedAt us c ps → All (λ p. p < length us) ps
-places_of us [] [] are = All-nil (λ p. p < length us)
-places_of us [] (p ∷ ps) are = absurd are
-places_of us (l ∷ c) [] are = absurd are
-places_of us (l ∷ c) (p ∷ ps) are = All-cons (λ p. p < length us) p ps are.0 (places_of us c ps are.2)
+indices_of : (us c : List ℤ) (ps : List ℕ) → AreDeniedAt us c ps → All (λ p. p < length us) ps
+indices_of us [] [] are = All-nil (λ p. p < length us)
+indices_of us [] (p ∷ ps) are = absurd are
+indices_of us (l ∷ c) [] are = absurd are
+indices_of us (l ∷ c) (p ∷ ps) are = All-cons (λ p. p < length us) p ps are.0 (indices_of us c ps are.2)
 
 pub denials_are : (base : ℕ) (us c ids : List ℤ) (ps : List ℕ) → AreDeniedAt us c ps → ids ≡ map (unit_id base) ps → AreDenials base us c ids
 denials_are base us c ids ps are is = subst (AreDenials base us c) (sym is) (denials_of base us c ps are)
 
-pub places_within : (us c : List ℤ) (ps : List ℕ) (room : ℕ) → length us ≤ room → AreDeniedAt us c ps → All (λ p. p < room) ps
-places_within us c ps room few are k d lt = let p = places_of us c ps are k d lt in omega (arith, p, few)
+pub indices_within : (us c : List ℤ) (ps : List ℕ) (room : ℕ) → length us ≤ room → AreDeniedAt us c ps → All (λ p. p < room) ps
+indices_within us c ps room few are k d lt = let p = indices_of us c ps are k d lt in omega (arith, p, few)
 
 denied_push : (us c : List ℤ) (ps : List ℕ) (l : ℤ) (p : ℕ) → AreDeniedAt us c ps → p < length us → get_or us p (pos 0) ≡ neg_ℤ l → AreDeniedAt us (c ++ l ∷ []) (ps ++ p ∷ [])
 denied_push us [] [] l p are inside there = (inside, there, tt)
@@ -157,7 +157,7 @@ closing_shown f n ls c us ps id hints lines x are =
     let first : first_id n ≡ length f.clauses + n.room + 1 = ap (λ b. b + n.room + 1) lines.base in
     subst (λ hs. IsClosingOf (at f n.room ls) us (record { denied = ps; hints = hs })) (sym same_hints)
     (record {
-      places = places_of us c ps are;
+      indices = indices_of us c ps are;
       positive = goes.2;
       in_limits = λ k d lt. hint_small _ (x.in_limits.2 k d lt);
       below = subst (λ b. All (λ h. unsigned_abs h < b + length ls) x.hints) first x.below;
@@ -172,13 +172,13 @@ closing_shown f n ls c us ps id hints lines x are =
 pub closing_opposed : (us : List ℤ) (l : ℤ) (one other : ℕ) → one < length us → get_or us one (pos 0) ≡ l → other < length us → get_or us other (pos 0) ≡ neg_ℤ l
     → (r : Refuting) → IsClosingOf r us (record { denied = one ∷ other ∷ []; hints = [] })
 closing_opposed us l one other one_in one_at other_in other_at r = record {
-  places = All-cons (λ p. p < length us) one (other ∷ []) one_in (All-cons (λ p. p < length us) other [] other_in (All-nil (λ p. p < length us)));
+  indices = All-cons (λ p. p < length us) one (other ∷ []) one_in (All-cons (λ p. p < length us) other [] other_in (All-nil (λ p. p < length us)));
   positive = All-nil IsPositive;
   in_limits = All-nil (λ h. unsigned_abs h < 4294967296);
   below = All-nil (λ h. unsigned_abs h < length r.formula.clauses + r.room + 1 + length r.log);
   shown = λ t along m base names units.
-      opposed_shown r.formula.vars m base us l (unit_id base one) (unit_id base other) units (record { place = one; inside = one_in; there = one_at; is = refl })
-      (record { place = other; inside = other_in; there = other_at; is = refl });
+      opposed_shown r.formula.vars m base us l (unit_id base one) (unit_id base other) units (record { index = one; inside = one_in; there = one_at; is = refl })
+      (record { index = other; inside = other_in; there = other_at; is = refl });
 }
 
 -- ---- sections over lemmas
@@ -203,8 +203,8 @@ section_over f room ls t w wanted us k is along top named =
     λ q d e. let le = top q d e in below (unit_clauses us) (w.top + 1) q w.present (omega (arith, le)) ∙ e in
     let units : NamesUnits (fin.get u.present) w.top us =
     λ i lt.
-    let place : w.top + i + 1 ≡ w.top + 1 + i = omega arith in
-    rw place
+    let index : w.top + i + 1 ≡ w.top + 1 + i = omega arith in
+    rw index
     (numbered_get (unit_clauses us) (w.top + 1) i w.present (pos 0 ∷ []) (omega (arith, lt, length-map us (λ (l : ℤ). l ∷ [])))
     ∙ ap Some (get_or-map (λ (l : ℤ). l ∷ []) us i (pos 0) (pos 0 ∷ []) lt)) in
     let line : IsAcceptedLine f.vars (fin.get u.present) [] (map unsigned_abs (hints_behind w.top k)) =
@@ -335,7 +335,7 @@ pub section_line : (r : Refuting) (us : List ℤ) (k : Closing) (top : ℕ) → 
 section_line r us k top small is = (
   (omega arith, omega arith),
   All-nil (IsLiteral 2147483647),
-  All-append IsHint (map (unit_id top) k.denied) k.hints (small_ids top us k.denied small is.places) (closing_hints r us k is),
+  All-append IsHint (map (unit_id top) k.denied) k.hints (small_ids top us k.denied small is.indices) (closing_hints r us k is),
 )
 
 -- ---- the lines that are wanted

@@ -119,13 +119,13 @@ pos_nonzero h lt e = let f : h ≡ 0 = ap unsigned_abs e in omega arith
 
 unit_hint : (base room top : ℕ) (us : List ℤ) (l id : ℤ) → length us ≤ room → base + room < top → top < 4294967296 → IsUnitId base us l id → IsHint id
 unit_hint base room top us l id few above small is =
-    let inside : is.place < length us = is.inside in
-    subst IsHint (sym is.is) (pos_nonzero (base + is.place + 1) (omega arith), let lt : base + is.place + 1 < 4294967296 = omega (arith, inside, few, above, small) in lt)
+    let inside : is.index < length us = is.inside in
+    subst IsHint (sym is.is) (pos_nonzero (base + is.index + 1) (omega arith), let lt : base + is.index + 1 < 4294967296 = omega (arith, inside, few, above, small) in lt)
 
 unit_below : (base room : ℕ) (us : List ℤ) (l id : ℤ) (bound : ℕ) → length us ≤ room → base + room < bound → IsUnitId base us l id → unsigned_abs id < bound
 unit_below base room us l id bound few above is =
-    let inside : is.place < length us = is.inside in
-    subst (λ h. unsigned_abs h < bound) (sym is.is) (let lt : base + is.place + 1 < bound = omega (arith, inside, few, above) in lt)
+    let inside : is.index < length us = is.inside in
+    subst (λ h. unsigned_abs h < bound) (sym is.is) (let lt : base + is.index + 1 < bound = omega (arith, inside, few, above) in lt)
 
 denials_hints : (base room top : ℕ) (us c ids : List ℤ) → length us ≤ room → base + room < top → top < 4294967296 → AreDenials base us c ids → All IsHint ids
 denials_hints base room top us [] [] few above small are = All-nil IsHint
@@ -206,11 +206,11 @@ denied_at us c k lt all = subst (Contains us) (get_or-map neg_ℤ c k (pos 0) (p
 take_more : (c : List ℤ) (k : ℕ) → k < length c → take (k + 1) c ≡ take k c ++ get_or c k (pos 0) ∷ []
 take_more c k lt = rw add-one (take-suc c k (pos 0) lt)
 
-pub denials_next : (base : ℕ) (us c ids : List ℤ) (k place : ℕ) (id : ℤ) → k < length c → place < length us → get_or us place (pos 0) ≡ neg_ℤ (get_or c k (pos 0)) → id ≡ pos (base + place + 1) → AreDenials base us (take k c) ids
+pub denials_next : (base : ℕ) (us c ids : List ℤ) (k index : ℕ) (id : ℤ) → k < length c → index < length us → get_or us index (pos 0) ≡ neg_ℤ (get_or c k (pos 0)) → id ≡ pos (base + index + 1) → AreDenials base us (take k c) ids
     → AreDenials base us (take (k + 1) c) (ids ++ id ∷ [])
-denials_next base us c ids k place id lt inside there is are =
-    subst (λ d. AreDenials base us d (ids ++ id ∷ [])) (sym (take_more c k lt)) (denials_push base us (take k c) ids (get_or c k (pos 0)) id are (record { place = place; inside = inside; there = there; is = is }))
+denials_next base us c ids k index id lt inside there is are =
+    subst (λ d. AreDenials base us d (ids ++ id ∷ [])) (sym (take_more c k lt)) (denials_push base us (take k c) ids (get_or c k (pos 0)) id are (record { index = index; inside = inside; there = there; is = is }))
 
--- a literal that is there has a place
-pub has_place : (us : List ℤ) (l : ℤ) → ((k : ℕ) → k < length us → get_or us k (pos 0) ≡ l → ⊥) → Contains us l → ⊥
-has_place us l none there = none there.0 there.1 (get_or_default us there.0 (pos 0) l there.1 ∙ there.2)
+-- a literal that is there has an index
+pub has_index : (us : List ℤ) (l : ℤ) → ((k : ℕ) → k < length us → get_or us k (pos 0) ≡ l → ⊥) → Contains us l → ⊥
+has_index us l none there = none there.0 there.1 (get_or_default us there.0 (pos 0) l there.1 ∙ there.2)

@@ -65,8 +65,8 @@ carries_first f room us le =
       named = λ q d e.
           ap (λ m. fin.get m q) all ∙ below (unit_clauses us) (1 + length f.clauses) q (numbered_from 1 f.clauses fin.empty) (some_below f.clauses q d e) ∙ e;
       units = λ i lt.
-          let place : length f.clauses + i + 1 ≡ 1 + length f.clauses + i = omega arith in
-          rw place
+          let index : length f.clauses + i + 1 ≡ 1 + length f.clauses + i = omega arith in
+          rw index
           (ap (λ m. fin.get m (1 + length f.clauses + i)) all
           ∙ numbered_get (unit_clauses us) (1 + length f.clauses) i (numbered_from 1 f.clauses fin.empty) (pos 0 ∷ []) (omega (arith, lt, length_units us))
           ∙ ap Some (get_or-map (λ (l : ℤ). l ∷ []) us i (pos 0) (pos 0 ∷ []) lt));
@@ -155,7 +155,7 @@ one_unit : (m : Finder) (base : ℕ) (us done c : List ℤ) (b : ℤ) (id : ℤ)
 one_unit m base us done c b id units apart is =
     record {
       clause = neg_ℤ b ∷ [];
-      found = ap m (ap unsigned_abs is.is) ∙ units is.place is.inside ∙ ap (λ l. Some (l ∷ [])) is.there;
+      found = ap m (ap unsigned_abs is.is) ∙ units is.index is.inside ∙ ap (λ l. Some (l ∷ [])) is.there;
       leaves = record {
         stands = (0, omega arith, refl);
         open_in = λ denied. (apart_from done c (neg_ℤ b) b apart (subst (Contains done) (ap neg_ℤ (neg_neg b)) (from_denial done _ denied))).1 refl;
@@ -192,7 +192,7 @@ ids_positive base us [] [] are = All-nil IsPositive
 ids_positive base us [] (id ∷ ids) are = absurd are
 ids_positive base us (l ∷ c) [] are = absurd are
 ids_positive base us (l ∷ c) (id ∷ ids) are =
-    All-cons IsPositive id ids (subst IsPositive (sym are.0.is) (let lt : 0 < base + are.0.place + 1 = omega arith in lt)) (ids_positive base us c ids are.1)
+    All-cons IsPositive id ids (subst IsPositive (sym are.0.is) (let lt : 0 < base + are.0.index + 1 = omega arith in lt)) (ids_positive base us c ids are.1)
 
 no_pairs : AllPairs (λ (a b : ℤ). (a ≢ b) × (a ≢ neg_ℤ b)) []
 no_pairs i j d lt lt2 = absurd (omega (arith, lt2))
@@ -250,7 +250,7 @@ opposed_shown v m base us l one other units is opposed =
           l,
           record {
             clause = l ∷ [];
-            found = ap m (ap unsigned_abs is.is) ∙ units is.place is.inside ∙ ap (λ k. Some (k ∷ [])) is.there;
+            found = ap m (ap unsigned_abs is.is) ∙ units is.index is.inside ∙ ap (λ k. Some (k ∷ [])) is.there;
             leaves = record {
               stands = (0, omega arith, refl);
               open_in = λ denied. absurd (let lt = denied.1 in omega arith);
@@ -265,7 +265,7 @@ opposed_shown v m base us l one other units is opposed =
         );
         conflict = record {
           clause = neg_ℤ l ∷ [];
-          found = ap m (ap unsigned_abs opposed.is) ∙ units opposed.place opposed.inside ∙ ap (λ k. Some (k ∷ [])) opposed.there;
+          found = ap m (ap unsigned_abs opposed.is) ∙ units opposed.index opposed.inside ∙ ap (λ k. Some (k ∷ [])) opposed.there;
           denied = All-cons (IsDenied (l ∷ [])) (neg_ℤ l) [] (0, omega arith, sym (neg_neg l)) (All-nil (IsDenied (l ∷ [])));
         };
       };
@@ -278,8 +278,8 @@ accepted_opposed f base room us id l one other same few above is opposed =
     let u : Stage = first_stage (with_units f us) in
     let first : IsUnitId (length f.clauses) us l one = subst (λ k. IsUnitId k us l one) same is in
     let second : IsUnitId (length f.clauses) us (neg_ℤ l) other = subst (λ k. IsUnitId k us (neg_ℤ l) other) same opposed in
-    let one_above : 0 < length f.clauses + first.place + 1 = omega arith in
-    let other_above : 0 < length f.clauses + second.place + 1 = omega arith in (
+    let one_above : 0 < length f.clauses + first.index + 1 = omega arith in
+    let other_above : 0 < length f.clauses + second.index + 1 = omega arith in (
       after u id [],
       (
         after u id [],

@@ -128,14 +128,14 @@ told_all first hints old now k le told q low = told.added q low ∙ ap (λ hs. l
 
 -- ---- the walk
 
--- the walk has come to a place, and wants what the kept lines, the last first, hint before it
+-- the walk has come to an index, and wants what the kept lines, the last first, hint before it
 pub record Walk (first : ℕ) (lines all : List Line) (w : ℕ → Bool) (kept : List Line) : Type 0 where
-  pub place : ℕ
-  pub inside : place ≤ length lines
-  pub whole : onto (take place lines) (reverse kept) ≡ trimmed all
-  pub within : (q : ℕ) → w q ≡ true → (first ≤ q) × (q < first + place)
-  pub wants : (q : ℕ) → first ≤ q → q < first + place → w q ≡ hinted (reverse kept) q
-  pub count : length kept + place ≤ length lines + 1
+  pub index : ℕ
+  pub inside : index ≤ length lines
+  pub whole : onto (take index lines) (reverse kept) ≡ trimmed all
+  pub within : (q : ℕ) → w q ≡ true → (first ≤ q) × (q < first + index)
+  pub wants : (q : ℕ) → first ≤ q → q < first + index → w q ≡ hinted (reverse kept) q
+  pub count : length kept + index ≤ length lines + 1
   pub limits : All IsLine (reverse kept)
 
 absent : (a b : Bool) → a ≡ b → b ≡ false → a ≡ true → ⊥
@@ -159,7 +159,7 @@ pub walk_begun : (first : ℕ) (lines : List Line) (last : Line) (old new : ℕ 
 walk_begun first lines last old new kept closing none more others is =
     let back : reverse kept ≡ last ∷ [] = ap reverse is in
     record {
-      place = length lines;
+      index = length lines;
       inside = omega arith;
       whole = ap (λ ks. onto (take (length lines) lines) ks) back ∙ ap (λ ls. onto ls (last ∷ [])) (take_all (length lines) lines (omega arith)) ∙ ap (onto lines) (sym (closing_kept (first + length lines) last closing))
           ∙ sym (onto_last lines last []) ∙ onto_none (lines ++ last ∷ []);
@@ -186,9 +186,9 @@ or_either : (a b : Bool) → (a || b) ≡ true → (a ≡ true) ⊎ (b ≡ true)
 or_either true b e = inl refl
 or_either false b e = inr e
 
--- an id between the greatest that is wanted and the place is not hinted
-not_wanted : (first : ℕ) (w : ℕ → Bool) (kept : List Line) (place m j i : ℕ) → m ≡ first + j → j < i → i < place → ((q : ℕ) → w q ≡ true → q ≤ m) → ((q : ℕ) → first ≤ q → q < first + place → w q ≡ hinted kept q) → hinted kept (first + i) ≡ false
-not_wanted first w kept place m j i at_j above below greatest wants =
+-- an id between the greatest that is wanted and the index is not hinted
+not_wanted : (first : ℕ) (w : ℕ → Bool) (kept : List Line) (index m j i : ℕ) → m ≡ first + j → j < i → i < index → ((q : ℕ) → w q ≡ true → q ≤ m) → ((q : ℕ) → first ≤ q → q < first + index → w q ≡ hinted kept q) → hinted kept (first + i) ≡ false
+not_wanted first w kept index m j i at_j above below greatest wants =
     let same : w (first + i) ≡ hinted kept (first + i) = wants (first + i) (omega arith) (omega arith) in
     elim (hinted kept (first + i)) as (λ b. hinted kept (first + i) ≡ b → b ≡ false) [
       | true ↦ λ e. absurd (let le = greatest (first + i) (same ∙ e) in omega (arith, le, at_j, above))
@@ -212,18 +212,18 @@ pub walk_keeps : (first : ℕ) (lines all : List Line) (w out new : ℕ → Bool
     → Walk first lines all w kept → Walk first lines all new more
 walk_keeps first lines all w out new at_m kept more m j line are limits has greatest out_is apart here at_j line_is hints others is walk =
     let bounds = walk.within m has in
-    let j_place : j < walk.place = omega (arith, bounds.1, at_j) in
-    let j_in : j < length lines = omega (arith, j_place, walk.inside) in
+    let j_index : j < walk.index = omega (arith, bounds.1, at_j) in
+    let j_in : j < length lines = omega (arith, j_index, walk.inside) in
     let n : IsNumbered m line = subst (IsNumbered m) (sym line_is) (subst (λ k. IsNumbered k (get_or lines j line)) (sym at_j) (numbered_line first lines j line are j_in)) in
     let back : reverse more ≡ line ∷ reverse kept = ap reverse is ∙ reverse-append kept (line ∷ []) in
     let some : hinted (reverse kept) m ≡ true = sym (walk.wants m bounds.0 bounds.1) ∙ has in
-    let size : j + 1 + (walk.place - (j + 1)) ≡ walk.place = omega (arith, j_place) in
-    let skipped : onto (take walk.place lines) (reverse kept) ≡ onto (take (j + 1) lines) (reverse kept) =
+    let size : j + 1 + (walk.index - (j + 1)) ≡ walk.index = omega (arith, j_index) in
+    let skipped : onto (take walk.index lines) (reverse kept) ≡ onto (take (j + 1) lines) (reverse kept) =
     ap (λ k. onto (take k lines) (reverse kept)) (sym size)
-    ∙ skip first lines (reverse kept) (j + 1) (walk.place - (j + 1)) line are (omega (arith, size, walk.inside))
-    (λ i low lt. not_wanted first w (reverse kept) walk.place m j i at_j (omega (arith, low)) (omega (arith, lt, size)) greatest walk.wants) in
+    ∙ skip first lines (reverse kept) (j + 1) (walk.index - (j + 1)) line are (omega (arith, size, walk.inside))
+    (λ i low lt. not_wanted first w (reverse kept) walk.index m j i at_j (omega (arith, low)) (omega (arith, lt, size)) greatest walk.wants) in
     record {
-      place = j;
+      index = j;
       inside = omega (arith, j_in);
       whole = ap (λ ks. onto (take j lines) ks) back ∙ ap (λ l. onto (take j lines) (l ∷ reverse kept)) line_is
           ∙ sym (keep first lines (reverse kept) j line are j_in (subst (λ k. hinted (reverse kept) k ≡ true) at_j some)) ∙ sym skipped ∙ walk.whole;
@@ -236,17 +236,17 @@ walk_keeps first lines all w out new at_m kept more m j line are limits has grea
       ];
       wants = λ q le lt.
           let ne : q ≢ m = λ same. omega (arith, same, lt, at_j) in
-          hints q le ∙ ap (λ b. hints_id q line || b) (out_is q ∙ cond_other (at_m q) (w q) (apart q ne) ∙ walk.wants q le (omega (arith, lt, j_place))) ∙ sym (ap (λ ks. hinted ks q) back);
-      count = let c = walk.count in let e : length more ≡ length kept + 1 = ap length is ∙ length-append kept (line ∷ []) in omega (arith, c, e, j_place);
+          hints q le ∙ ap (λ b. hints_id q line || b) (out_is q ∙ cond_other (at_m q) (w q) (apart q ne) ∙ walk.wants q le (omega (arith, lt, j_index))) ∙ sym (ap (λ ks. hinted ks q) back);
+      count = let c = walk.count in let e : length more ≡ length kept + 1 = ap length is ∙ length-append kept (line ∷ []) in omega (arith, c, e, j_index);
       limits = subst (All IsLine) (sym back) (All-cons IsLine line (reverse kept) (subst IsLine (sym line_is) (limits j line j_in)) walk.limits);
     }
 
 -- nothing is wanted any more
 pub walk_done : (first : ℕ) (lines all : List Line) (w : ℕ → Bool) (kept : List Line) (d : Line) → AreNumbered first lines → ((q : ℕ) → w q ≡ false) → Walk first lines all w kept → reverse kept ≡ trimmed all
 walk_done first lines all w kept d are none walk =
-    let whole : 0 + walk.place ≡ walk.place = omega arith in
-    let inside : 0 + walk.place ≤ length lines = let le = walk.inside in omega (arith, le) in
-    let skipped = skip first lines (reverse kept) 0 walk.place d are inside (λ i low lt. sym (walk.wants (first + i) (omega arith) (omega arith)) ∙ none (first + i)) in
+    let whole : 0 + walk.index ≡ walk.index = omega arith in
+    let inside : 0 + walk.index ≤ length lines = let le = walk.inside in omega (arith, le) in
+    let skipped = skip first lines (reverse kept) 0 walk.index d are inside (λ i low lt. sym (walk.wants (first + i) (omega arith) (omega arith)) ∙ none (first + i)) in
     sym skipped ∙ ap (λ k. onto (take k lines) (reverse kept)) whole ∙ walk.whole
 
 -- the greatest that is wanted

@@ -39,7 +39,7 @@ hints_behind base k = map (unit_id base) k.denied ++ k.hints
 -- the closing's hints show the empty clause with these units: over whatever clauses have what they name where the log has led
 -- to, and the units behind an id
 pub record IsClosingOf (r : Refuting) (us : List ℤ) (k : Closing) : Type 0 where
-  pub places : All (λ p. p < length us) k.denied
+  pub indices : All (λ p. p < length us) k.denied
   pub positive : All IsPositive k.hints
   pub in_limits : All (λ h. unsigned_abs h < 4294967296) k.hints
   pub below : All (λ h. unsigned_abs h < length r.formula.clauses + r.room + 1 + length r.log) k.hints

@@ -28,8 +28,8 @@ pub fn closing_line(
     requires few { length units.now ≤ numbering.room }
     ensures { IfOk result (λ l. (ids : List ℤ) × (l ≡ Add id [] (ids ++ hints.now)) × AreDenials numbering.base units.now clause.now ids) }
 {
-    let places = denied_places(alloc, units, clause)?;
-    let mut all = unit_ids(alloc, numbering, places.as_slice())?;
+    let indices = denied_indices(alloc, units, clause)?;
+    let mut all = unit_ids(alloc, numbering, indices.as_slice())?;
     extend(&mut all, hints)?;
     Ok(Line::Add {
         id,
@@ -38,59 +38,59 @@ pub fn closing_line(
     })
 }
 
-/// The ids of the units at these places.
-pub fn unit_ids(alloc: Global, numbering: Numbering, places: &[u64]) -> Result<Vec<i64>, Refused>
-    requires { All (λ p. p < numbering.room) places.now }
-    ensures { IfOk result (λ ids. ids.items ≡ map (unit_id numbering.base) places.now) }
+/// The ids of the units at these indices.
+pub fn unit_ids(alloc: Global, numbering: Numbering, indices: &[u64]) -> Result<Vec<i64>, Refused>
+    requires { All (λ p. p < numbering.room) indices.now }
+    ensures { IfOk result (λ ids. ids.items ≡ map (unit_id numbering.base) indices.now) }
 {
     let mut ids = Vec::new(alloc);
-    for place in places {
-        push(&mut ids, numbering.unit_id(*place as usize))?;
+    for index in indices {
+        push(&mut ids, numbering.unit_id(*index as usize))?;
     }
     Ok(ids)
 }
 
-/// The places of the units that deny the literals of the clause. A core comes in falling order of the
+/// The indices of the units that deny the literals of the clause. A core comes in falling order of the
 /// assumptions, so that each unit is looked for to the left of the last one.
-pub fn denied_places(alloc: Global, units: &[i32], clause: &[i32]) -> Result<Vec<u64>, Refused>
+pub fn denied_indices(alloc: Global, units: &[i32], clause: &[i32]) -> Result<Vec<u64>, Refused>
     requires denied { All (Contains units.now) (map neg_ℤ clause.now) }
     requires in_range { All (IsLiteral 2147483647) clause.now }
-    ensures { IfOk result (λ places. AreDeniedAt units.now clause.now places.items) }
+    ensures { IfOk result (λ indices. AreDeniedAt units.now clause.now indices.items) }
 {
-    let mut places = Vec::new(alloc);
-    let mut place = units.len();
+    let mut indices = Vec::new(alloc);
+    let mut index = units.len();
     for literal in clause {
-        place = place_of(units, negated(*literal), place);
-        push(&mut places, place as u64)?;
+        index = index_of(units, negated(*literal), index);
+        push(&mut indices, index as u64)?;
     }
-    Ok(places)
+    Ok(indices)
 }
 
-/// The last place of the literal before `end`, or else its last place.
-fn place_of(units: &[i32], literal: i32, end: usize) -> usize
+/// The last index of the literal before `end`, or else its last index.
+fn index_of(units: &[i32], literal: i32, end: usize) -> usize
     requires there { Contains units.now literal }
     requires end { end ≤ length units.now }
     ensures inside { result < length units.now }
     ensures there { get_or units.now result (pos 0) ≡ literal }
 {
-    if let Some(place) = place_before(units, literal, end) {
-        return place;
+    if let Some(index) = index_before(units, literal, end) {
+        return index;
     }
-    match place_before(units, literal, units.len()) {
-        Some(place) => place,
+    match index_before(units, literal, units.len()) {
+        Some(index) => index,
         None => unreachable!(),
     }
 }
 
-/// The last place of the literal before `end`.
-fn place_before(units: &[i32], literal: i32, end: usize) -> Option<usize>
+/// The last index of the literal before `end`.
+fn index_before(units: &[i32], literal: i32, end: usize) -> Option<usize>
     requires { end ≤ length units.now }
     ensures found { IfSome result (λ k. (k < length units.now) × (get_or units.now k (pos 0) ≡ literal)) }
     ensures none { result ≡ None → (k : ℕ) → k < end → get_or units.now k (pos 0) ≡ literal → ⊥ }
 {
-    for place in (0..end).rev() {
-        if units[place] == literal {
-            return Some(place);
+    for index in (0..end).rev() {
+        if units[index] == literal {
+            return Some(index);
         }
     }
     None
@@ -109,8 +109,8 @@ pub fn opposed_line(
     requires few { length units.now ≤ numbering.room }
     ensures { IfOk result (λ l. (one : ℤ) × (other : ℤ) × (l ≡ Add id [] (one ∷ other ∷ [])) × IsUnitId numbering.base units.now literal one × IsUnitId numbering.base units.now (neg_ℤ literal) other) }
 {
-    let one = place_of(units, literal, units.len());
-    let other = place_of(units, negated(literal), units.len());
+    let one = index_of(units, literal, units.len());
+    let other = index_of(units, negated(literal), units.len());
     let mut hints = Vec::new(alloc);
     push(&mut hints, numbering.unit_id(one))?;
     push(&mut hints, numbering.unit_id(other))?;
@@ -127,8 +127,8 @@ pub fn opposed_closing(alloc: Global, units: &[i32], literal: i32) -> Result<Clo
     requires in_range { unsigned_abs literal ≤ 2147483647 }
     ensures { IfOk result (λ k. (r : Refuting) → IsClosingOf r units.now k) }
 {
-    let one = place_of(units, literal, units.len());
-    let other = place_of(units, negated(literal), units.len());
+    let one = index_of(units, literal, units.len());
+    let other = index_of(units, negated(literal), units.len());
     let mut denied = Vec::new(alloc);
     push(&mut denied, one as u64)?;
     push(&mut denied, other as u64)?;

@@ -23,7 +23,7 @@ ghost use Rattle.solver.specs.declared.sat_error.SatError.TheVariants.{Limit, Ou
 ghost use Rattle.solver.specs.Full.{full};
 ghost use Rattle.base.specs.Witness.{witness};
 
-use crate::closing::{closing_line, denied_places, opposed_line};
+use crate::closing::{closing_line, denied_indices, opposed_line};
 use crate::lemmas::{Lemmas, all_hints, greatest_id};
 use crate::lines::{added_line, next_id};
 use crate::loading::load;
@@ -270,7 +270,7 @@ impl LoggedKernel {
         let Some(Line::Add { clause, hints, .. }) = &self.end else {
             unreachable!();
         };
-        let denied = denied_places(alloc, units, clause.as_slice())?;
+        let denied = denied_indices(alloc, units, clause.as_slice())?;
         let hints = Seq::from_slice(alloc, hints.as_slice())?;
         self.numbering.shared = self.lines.len();
         Ok(Closing {

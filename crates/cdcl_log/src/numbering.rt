@@ -36,11 +36,11 @@ impl Numbering {
         u64::from(self.base) + u64::from(self.room) + 1
     }
 
-    /// The id of the unit at a place, from 0.
-    pub fn unit_id(self, place: usize) -> i64
-        requires { place < 4294967296 }
-        ensures { result ≡ pos (self.base + place + 1) }
+    /// The id of the unit at an index, from 0.
+    pub fn unit_id(self, index: usize) -> i64
+        requires { index < 4294967296 }
+        ensures { result ≡ pos (self.base + index + 1) }
     {
-        i64::from(self.base) + place as i64 + 1
+        i64::from(self.base) + index as i64 + 1
     }
 }

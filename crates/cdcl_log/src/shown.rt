@@ -6,7 +6,7 @@ use base::Seq;
 /// found it: small, since nothing of the log is copied.
 #[derive(Drop)]
 pub struct Closing {
-    /// the places of units, whose ids a section's line hints first, in this order
+    /// the indices of units, whose ids a section's line hints first, in this order
     pub denied: Seq<u64>,
     /// the ids in the log of the clauses that then show the conflict, in this order
     pub hints: Seq<i64>,
@@ -17,7 +17,7 @@ pub struct Closing {
 pub enum Shown {
     /// what shows that nothing satisfies the formula with the units
     Closing(Closing),
-    /// values that satisfy both: place `v` is the variable `v`, and place 0 is false
+    /// values that satisfy both: index `v` is the variable `v`, and index 0 is false
     Model(Vec<bool>),
     /// the budget is exhausted
     Spent,

@@ -1,4 +1,4 @@
-//! Final analysis: the assumptions that the clauses deny.
+//! Final analysis: the failed assumptions.
 //!
 //! Where an assumption is false, the reasons behind it lead to assumptions decided before it;
 //! the clause that denies those and the assumption itself follows. Where a clause is false at
@@ -13,7 +13,8 @@ ghost use Rattle.solver.specs.Answers.{IsCore};
 ghost use Rattle.solver.specs.declared.sat_error.SatError.TheVariants.{Limit};
 ghost use Rattle.solver.specs.Full.{full};
 
-use crate::analysis::{begin, finish, take_step};
+use crate::analysis::Analysis;
+use crate::assignment::Assignment;
 use crate::guide::Guide;
 use base::{Refused, push};
 use cdcl_kernel::Kernel;
@@ -32,14 +33,19 @@ pub fn empty_core(
     ensures ends { IfOk result (λ r. IfSome r (λ core. Ends kernel.old kernel.new assume.now)) }
     ensures limit { IfErr result (λ e. e ≡ Limit full → IsFull kernel.new) }
 {
-    begin(guide);
-    see_all(kernel.known(), guide, conflict)?;
-    finish(guide, conflict)?;
+    guide.analysis.begin();
+    mark_clause_seen(
+        kernel.known(),
+        &guide.assignment,
+        &mut guide.analysis,
+        conflict,
+    )?;
+    guide.analysis.finish(conflict)?;
     checked_core(kernel, guide, assume)
 }
 
 /// The core where an assumption is false.
-pub fn core_of_denied(
+pub fn core_of_failed_assumption(
     kernel: &mut LoggedKernel,
     guide: &mut Guide,
     literal: i32,
@@ -51,17 +57,19 @@ pub fn core_of_denied(
     ensures ends { IfOk result (λ r. IfSome r (λ core. Ends kernel.old kernel.new assume.now)) }
     ensures limit { IfErr result (λ e. e ≡ Limit full → IsFull kernel.new) }
 {
-    let place = guide.levels.place_of(literal);
-    let Some(reason) = guide.trail.reason(place) else {
+    let trail_index = guide.assignment.levels.trail_index_of(literal);
+    let Some(reason) = guide.assignment.trail.reason(trail_index) else {
         return kernel.known().opposed_of(guide.alloc, assume);
     };
-    begin(guide);
-    guide.see(literal)?;
-    push(&mut guide.clause, literal.wrapping_neg())?;
-    if guide.levels.level_of(literal) == 0 {
-        finish(guide, guide.unit_of(literal))?;
+    let assignment = &guide.assignment;
+    let analysis = &mut guide.analysis;
+    analysis.begin();
+    analysis.mark_seen(literal)?;
+    push(&mut analysis.clause, literal.wrapping_neg())?;
+    if assignment.level_of(literal) == 0 {
+        analysis.finish(assignment.unit_id(literal))?;
     } else {
-        analyse_denial(kernel.known(), guide, place, reason)?;
+        analyse_final(kernel.known(), assignment, analysis, trail_index, reason)?;
     }
     checked_core(kernel, guide, assume)
 }
@@ -69,7 +77,7 @@ pub fn core_of_denied(
 /// The core that the clause in progress denies, where its hints show it.
 fn checked_core(
     kernel: &mut LoggedKernel,
-    guide: &Guide,
+    guide: &mut Guide,
     assume: &[i32],
 ) -> Result<Option<Vec<i32>>, SatError>
     ensures keeps { Keeps kernel.old kernel.new }
@@ -79,58 +87,64 @@ fn checked_core(
 {
     let core = kernel.core_of(
         guide.alloc,
-        guide.clause.as_slice(),
-        guide.hints.as_slice(),
+        guide.analysis.clause.as_slice(),
+        guide.analysis.hints.as_slice(),
         assume,
     )?;
+    guide.statistics.count_core(core.is_some());
     Ok(core)
 }
 
-/// Follows the reasons behind the literal at a place back to decisions, whose denials join the
+/// Follows the reasons behind the literal at a trail index back to decisions, whose denials join the
 /// clause in progress.
-fn analyse_denial(
+fn analyse_final(
     kernel: &Kernel,
-    guide: &mut Guide,
-    place: usize,
+    assignment: &Assignment,
+    analysis: &mut Analysis,
+    trail_index: usize,
     reason: u32,
 ) -> Result<(), Refused> {
-    see_all(kernel, guide, reason)?;
-    let mut before = place;
-    for _ in 0..place {
+    mark_clause_seen(kernel, assignment, analysis, reason)?;
+    let mut before = trail_index;
+    for _ in 0..trail_index {
         before = before.saturating_sub(1);
-        let Some(literal) = guide.trail.literal(before) else {
+        let Some(literal) = assignment.trail.literal(before) else {
             break;
         };
-        if guide.levels.level_of(literal) == 0 {
+        if assignment.level_of(literal) == 0 {
             break;
         }
-        if !guide.is_seen(literal) {
+        if !analysis.is_seen(literal) {
             continue;
         }
-        match guide.trail.reason(before) {
-            None => push(&mut guide.clause, literal.wrapping_neg())?,
+        match assignment.trail.reason(before) {
+            None => push(&mut analysis.clause, literal.wrapping_neg())?,
             Some(id) => {
-                take_step(guide, before, id)?;
-                see_all(kernel, guide, id)?;
+                analysis.push_antecedent(before, id)?;
+                mark_clause_seen(kernel, assignment, analysis, id)?;
             }
         }
     }
-    finish(guide, reason)
+    analysis.finish(reason)
 }
 
-/// Sees the clause's literals, and hints what holds without decisions.
-fn see_all(kernel: &Kernel, guide: &mut Guide, id: u32) -> Result<(), Refused> {
+/// Marks the clause's literals as seen, and hints what holds without decisions.
+fn mark_clause_seen(
+    kernel: &Kernel,
+    assignment: &Assignment,
+    analysis: &mut Analysis,
+    id: u32,
+) -> Result<(), Refused> {
     let Some(clause) = kernel.clause(id) else {
         return Ok(());
     };
     for literal in clause {
-        if guide.is_seen(*literal) {
+        if analysis.is_seen(*literal) {
             continue;
         }
-        guide.see(*literal)?;
-        if guide.levels.level_of(*literal) == 0 {
-            let unit = guide.unit_of(*literal);
-            push(&mut guide.hints, unit)?;
+        analysis.mark_seen(*literal)?;
+        if assignment.level_of(*literal) == 0 {
+            analysis.hint(assignment.unit_id(*literal))?;
         }
     }
     Ok(())

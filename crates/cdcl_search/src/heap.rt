@@ -1,10 +1,10 @@
 //! Which variable to decide: the one that was most active in the last conflicts.
 //!
-//! Each variable that a conflict rests on gains activity, and what a conflict adds grows from one
-//! to the next, so that old conflicts fade (EVSIDS, as in MiniSat by Eén and Sörensson 2003). A
-//! heap has the most active variable at its top. Its entries have the activities beside the
-//! variables, so that comparing two entries reads the heap alone. Below each are four and not two: so it is half as deep,
-//! and what is compared lies together. A heap out of order costs time alone.
+//! Each variable that a conflict rests on gains activity, and what a conflict adds grows from one to the
+//! next, so that old conflicts fade (EVSIDS, as in MiniSat by Eén and Sörensson 2003). A heap has the most
+//! active variable at its top. Its entries have the activities beside the variables, so that comparing two
+//! entries reads the heap alone. Below each are four and not two: so it is half as deep, and what is compared
+//! lies together. A heap out of order costs time alone.
 
 use crate::table::Table;
 use base::{Refused, push};
@@ -29,12 +29,12 @@ struct Entry {
     activity: f64,
 }
 
-/// The variables that may be open, the most active first.
+/// The variables that may be unassigned, the most active first.
 #[derive(Drop)]
 pub struct Heap {
     entries: Vec<Entry>,
-    /// of each variable one more than its place in the heap, or 0
-    places: Table<u32>,
+    /// of each variable one more than its index in the heap, or 0
+    indices: Table<u32>,
     activities: Table<f64>,
     /// what the next conflict adds
     increment: f64,
@@ -42,11 +42,11 @@ pub struct Heap {
 
 /// The index of a variable in tables.
 #[inline]
-fn index_of(literal: i32) -> usize {
+fn variable_index(literal: i32) -> usize {
     literal.unsigned_abs() as usize
 }
 
-/// The first of the most active ones among the first four entries, with its place.
+/// The first of the most active ones among the first four entries, with its index.
 #[inline]
 fn most_active(entries: &[Entry]) -> Option<(usize, Entry)> {
     let [a, b, c, d, ..] = entries else {
@@ -69,7 +69,7 @@ fn most_active(entries: &[Entry]) -> Option<(usize, Entry)> {
     }
 }
 
-/// The first of the most active entries, with its place.
+/// The first of the most active entries, with its index.
 fn most_active_of_few(entries: &[Entry]) -> Option<(usize, Entry)> {
     let mut best = (0, *entries.first()?);
     for (at, entry) in entries.iter().enumerate() {
@@ -85,7 +85,7 @@ impl Heap {
     pub fn new(alloc: Global) -> Heap {
         Heap {
             entries: Vec::new(alloc),
-            places: Table::new(alloc),
+            indices: Table::new(alloc),
             activities: Table::new(alloc),
             increment: 1.0,
         }
@@ -93,7 +93,7 @@ impl Heap {
 
     /// Makes room for the next variable, from 0 on, which is not in the heap yet.
     pub fn grow(&mut self) -> Result<(), Refused> {
-        self.places.push(0)?;
+        self.indices.push(0)?;
         self.activities.push(0.0)
     }
 
@@ -102,60 +102,61 @@ impl Heap {
     fn entry(&self, literal: i32) -> Entry {
         Entry {
             variable: literal.wrapping_abs(),
-            activity: self.activities.at(index_of(literal), 0.0),
+            activity: self.activities.at(variable_index(literal), 0.0),
         }
     }
 
     #[inline]
-    fn set(&mut self, place: usize, entry: Entry) {
-        if place < self.entries.len() && place < 4_294_967_295 {
-            self.entries[place] = entry;
-            self.places.put(index_of(entry.variable), place as u32 + 1);
+    fn set(&mut self, index: usize, entry: Entry) {
+        if index < self.entries.len() && index < 4_294_967_295 {
+            self.entries[index] = entry;
+            self.indices
+                .put(variable_index(entry.variable), index as u32 + 1);
         }
     }
 
-    /// Puts the entry at the place, or above it where those above are less active.
-    fn rise(&mut self, place: usize, entry: Entry) {
-        let mut place = place;
+    /// Puts the entry at the index, or above it where those above are less active.
+    fn percolate_up(&mut self, index: usize, entry: Entry) {
+        let mut index = index;
         for _ in 0..DEPTH {
-            if place == 0 {
+            if index == 0 {
                 break;
             }
-            let above = (place - 1) / BELOW;
+            let above = (index - 1) / BELOW;
             let Some(parent) = self.entries.get(above).copied() else {
                 break;
             };
             if parent.activity >= entry.activity {
                 break;
             }
-            self.set(place, parent);
-            place = above;
+            self.set(index, parent);
+            index = above;
         }
-        self.set(place, entry);
+        self.set(index, entry);
     }
 
-    /// The most active one of those below a place, with its place.
+    /// The most active one of those below an index, with its index.
     #[inline]
-    fn child(&self, place: usize) -> Option<(usize, Entry)> {
-        let first = place.wrapping_mul(BELOW).wrapping_add(1);
+    fn child(&self, index: usize) -> Option<(usize, Entry)> {
+        let first = index.wrapping_mul(BELOW).wrapping_add(1);
         let (at, child) = most_active(self.entries.get(first..)?)?;
         Some((first.wrapping_add(at), child))
     }
 
-    /// Puts the entry at the place, or below it where those below are more active.
-    fn sink(&mut self, place: usize, entry: Entry) {
-        let mut place = place;
+    /// Puts the entry at the index, or below it where those below are more active.
+    fn percolate_down(&mut self, index: usize, entry: Entry) {
+        let mut index = index;
         for _ in 0..DEPTH {
-            let Some((below, child)) = self.child(place) else {
+            let Some((below, child)) = self.child(index) else {
                 break;
             };
             if entry.activity >= child.activity {
                 break;
             }
-            self.set(place, child);
-            place = below;
+            self.set(index, child);
+            index = below;
         }
-        self.set(place, entry);
+        self.set(index, entry);
     }
 
     /// How many variables it has.
@@ -166,11 +167,11 @@ impl Heap {
     /// Puts the literal's variable into the heap, where it isn't there.
     #[inline]
     pub fn insert(&mut self, literal: i32) -> Result<(), Refused> {
-        if self.places.at(index_of(literal), 1) == 0 {
-            let place = self.entries.len();
+        if self.indices.at(variable_index(literal), 1) == 0 {
+            let index = self.entries.len();
             let entry = self.entry(literal);
             push(&mut self.entries, entry)?;
-            self.rise(place, entry);
+            self.percolate_up(index, entry);
         }
         Ok(())
     }
@@ -178,7 +179,7 @@ impl Heap {
     /// Takes all variables out. Their activities stay.
     pub fn clear(&mut self) {
         for entry in self.entries.iter() {
-            self.places.put(index_of(entry.variable), 0);
+            self.indices.put(variable_index(entry.variable), 0);
         }
         self.entries.clear();
     }
@@ -187,25 +188,25 @@ impl Heap {
     pub fn pop(&mut self) -> Option<i32> {
         let top = self.entries.first().copied()?;
         let last = self.entries.pop()?;
-        self.places.put(index_of(top.variable), 0);
+        self.indices.put(variable_index(top.variable), 0);
         if last.variable != top.variable {
-            self.sink(0, last);
+            self.percolate_down(0, last);
         }
         Some(top.variable)
     }
 
     /// A conflict rests on the literal's variable.
     pub fn bump(&mut self, literal: i32) {
-        let index = index_of(literal);
-        let activity = self.activities.at(index, 0.0) + self.increment;
-        self.activities.put(index, activity);
+        let variable = variable_index(literal);
+        let activity = self.activities.at(variable, 0.0) + self.increment;
+        self.activities.put(variable, activity);
         if activity > GREATEST {
             self.rescale();
         }
-        let place = self.places.at(index, 0);
-        if place > 0 {
+        let index = self.indices.at(variable, 0);
+        if index > 0 {
             let entry = self.entry(literal);
-            self.rise(place as usize - 1, entry);
+            self.percolate_up(index as usize - 1, entry);
         }
     }
 
@@ -215,8 +216,8 @@ impl Heap {
             let activity = self.activities.at(variable, 0.0);
             self.activities.put(variable, activity * 1e-100);
         }
-        for place in 0..self.entries.len() {
-            self.entries[place].activity *= 1e-100;
+        for index in 0..self.entries.len() {
+            self.entries[index].activity *= 1e-100;
         }
         self.increment *= 1e-100;
     }

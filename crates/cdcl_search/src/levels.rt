@@ -5,6 +5,7 @@
 //! level without a decision, so that the level alone says which assumption is next.
 
 use crate::guide::Guide;
+use crate::statistics::count;
 use crate::table::Table;
 use base::{Refused, push};
 use std::alloc::Global;
@@ -13,32 +14,35 @@ use std::alloc::Global;
 #[derive(Clone, Copy)]
 struct Entry {
     level: u32,
-    place: u32,
+    trail_index: u32,
 }
 
 /// A variable that was never on the trail.
-const NEVER: Entry = Entry { level: 0, place: 0 };
+const NEVER: Entry = Entry {
+    level: 0,
+    trail_index: 0,
+};
 
 /// Where a level begins.
 #[derive(Clone, Copy)]
 struct Start {
     /// on the trail
-    place: usize,
-    /// what `Guide::justified` was then
+    trail_index: usize,
+    /// what `Decisions::justified` was then
     justified: usize,
 }
 
-/// Where each level begins, and the level and the place of each variable that is on the trail.
+/// Where each level begins, and the level and the trail index of each variable that is on the trail.
 #[derive(Drop)]
 pub struct Levels {
     /// where each level but 0 begins
     starts: Vec<Start>,
     /// of each variable
     entries: Table<Entry>,
-    /// of each level the last count of levels that met it
-    met: Table<u32>,
-    /// the number of the last count
-    count: u32,
+    /// of each level the stamp of the last count that met it
+    stamps: Table<u32>,
+    /// the stamp of the last count
+    stamp: u32,
 }
 
 impl Levels {
@@ -47,18 +51,18 @@ impl Levels {
         Levels {
             starts: Vec::new(alloc),
             entries: Table::new(alloc),
-            met: Table::new(alloc),
-            count: 0,
+            stamps: Table::new(alloc),
+            stamp: 0,
         }
     }
 
     /// Makes room for the next variable, from 0 on.
     pub fn grow(&mut self) -> Result<(), Refused> {
-        self.met.push(0)?;
+        self.stamps.push(0)?;
         self.entries.push(NEVER)
     }
 
-    /// The level that is open.
+    /// The decision level.
     #[inline]
     pub fn current(&self) -> usize {
         self.starts.len()
@@ -72,97 +76,98 @@ impl Levels {
             .level as usize
     }
 
-    /// The place on the trail of such a literal.
+    /// The trail index of such a literal.
     #[inline]
-    pub fn place_of(&self, literal: i32) -> usize {
+    pub fn trail_index_of(&self, literal: i32) -> usize {
         self.entries
             .at(literal.unsigned_abs() as usize, NEVER)
-            .place as usize
+            .trail_index as usize
     }
 
     /// How many levels the literals are of (literal block distance).
-    pub fn block_distance(&mut self, literals: &[i32]) -> u32 {
-        self.count = self.count.wrapping_add(1);
-        let mut distance = 0u32;
+    pub fn glue(&mut self, literals: &[i32]) -> u32 {
+        self.stamp = self.stamp.wrapping_add(1);
+        let mut glue = 0u32;
         for literal in literals {
             let level = self.level_of(*literal);
-            if self.met.at(level, self.count) != self.count {
-                self.met.put(level, self.count);
-                distance = distance.saturating_add(1);
+            if self.stamps.at(level, self.stamp) != self.stamp {
+                self.stamps.put(level, self.stamp);
+                glue = glue.saturating_add(1);
             }
         }
-        distance
+        glue
     }
 
-    /// The literal came on the trail at this place.
+    /// The literal came on the trail at this index.
     #[inline]
-    pub fn note(&mut self, literal: i32, place: usize) {
+    pub fn assign(&mut self, literal: i32, trail_index: usize) {
         let level = self.starts.len();
-        if place < 4_294_967_296 && level < 4_294_967_296 {
+        if trail_index < 4_294_967_296 && level < 4_294_967_296 {
             let entry = Entry {
                 level: level as u32,
-                place: place as u32,
+                trail_index: trail_index as u32,
             };
             self.entries.put(literal.unsigned_abs() as usize, entry);
         }
     }
 }
 
-/// Goes back to a level. What goes from the trail keeps its value as a phase.
-pub fn go_back(guide: &mut Guide, level: usize) -> Result<(), Refused> {
-    give_up(guide, level, Phases::Kept)
+/// Backtracks to a level. The values of what leaves the trail are saved as phases.
+pub fn backtrack(guide: &mut Guide, level: usize) -> Result<(), Refused> {
+    backtrack_with(guide, level, PhaseUpdate::Save)
 }
 
-/// Goes back to a level at the end of a call. The phases of what goes from the trail are the negative
+/// Backtracks to a level after a call. The saved phases of what leaves the trail are the negative
 /// ones again, so that the models of the next call have few variables that are true. Of a part they keep
 /// their values, since its questions are much alike.
-pub fn leave(guide: &mut Guide, level: usize) -> Result<(), Refused> {
-    let phases = if guide.is_part {
-        Phases::Kept
+pub fn backtrack_after_call(guide: &mut Guide, level: usize) -> Result<(), Refused> {
+    let update = if guide.decisions.parts.is_part {
+        PhaseUpdate::Save
     } else {
-        Phases::Negative
+        PhaseUpdate::Reset
     };
-    give_up(guide, level, phases)
+    backtrack_with(guide, level, update)
 }
 
-/// What becomes of the phases of literals that go from the trail.
+/// What becomes of the saved phases of literals that leave the trail.
 #[derive(Clone, Copy, PartialEq, Eq)]
-enum Phases {
+enum PhaseUpdate {
     /// their values
-    Kept,
+    Save,
     /// the negative ones
-    Negative,
+    Reset,
 }
 
-/// Goes back to a level.
-fn give_up(guide: &mut Guide, level: usize, phases: Phases) -> Result<(), Refused> {
-    let Some(start) = guide.levels.starts.get(level).copied() else {
+/// Backtracks to a level.
+fn backtrack_with(guide: &mut Guide, level: usize, update: PhaseUpdate) -> Result<(), Refused> {
+    let Some(start) = guide.assignment.levels.starts.get(level).copied() else {
         return Ok(());
     };
-    for place in start.place..guide.trail.len() {
-        if let Some(literal) = guide.trail.literal(place) {
-            let phase = phases == Phases::Kept && literal > 0;
-            guide.phases.put(literal.unsigned_abs() as usize, phase);
-            guide.values.unset(literal);
-            guide.open(literal)?;
+    for trail_index in start.trail_index..guide.assignment.trail.len() {
+        if let Some(literal) = guide.assignment.trail.literal(trail_index) {
+            let phase = update == PhaseUpdate::Save && literal > 0;
+            guide.decisions.save_phase(literal, phase);
+            guide.assignment.values.unset(literal);
+            guide.decisions.insert(literal)?;
         }
     }
-    guide.trail.truncate(start.place);
-    guide.levels.starts.truncate(level);
-    guide.head = start.place;
-    guide.justified = start.justified;
+    guide.assignment.trail.truncate(start.trail_index);
+    guide.assignment.levels.starts.truncate(level);
+    guide.assignment.propagated = start.trail_index;
+    guide.decisions.justified = start.justified;
     Ok(())
 }
 
-/// Opens a level and decides the literal, where it is open.
-pub fn open_level(guide: &mut Guide, literal: i32) -> Result<(), Refused> {
+/// Begins a level, and decides the literal where it is unassigned.
+pub fn decide(guide: &mut Guide, literal: i32) -> Result<(), Refused> {
     let start = Start {
-        place: guide.trail.len(),
-        justified: guide.justified,
+        trail_index: guide.assignment.trail.len(),
+        justified: guide.decisions.justified,
     };
-    push(&mut guide.levels.starts, start)?;
-    if guide.values.is_open(literal) {
-        guide.enqueue(literal, None)?;
+    push(&mut guide.assignment.levels.starts, start)?;
+    if guide.assignment.values.is_unassigned(literal) {
+        count(&mut guide.statistics.decisions);
+        guide.assignment.enqueue(literal, None)?;
     }
     Ok(())
 }

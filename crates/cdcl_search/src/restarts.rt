@@ -1,7 +1,7 @@
-//! When to give up the decisions and begin anew.
+//! When to restart: to backtrack and begin anew.
 //!
 //! A search that decided badly first stays in a bad place for long; so after some conflicts it
-//! goes back, and keeps what it learned. The conflicts from one restart to the next follow the
+//! backtracks, and keeps what it learned. The conflicts from one restart to the next follow the
 //! sequence 1 1 2 1 1 2 4 .. (Luby, Sinclair, Zuckerman 1993), in hundreds, as in MiniSat.
 
 /// The conflicts of the sequence's first term.

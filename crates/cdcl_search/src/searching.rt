@@ -9,31 +9,32 @@ ghost use Rattle.solver.specs.declared.sat_error.SatError.TheVariants.{Limit};
 ghost use Rattle.solver.specs.Full.{full};
 ghost use Rattle.cdcl_log.specs.Logged.{IsFull};
 
-use crate::analysis::top_level;
-use crate::attaching::{attach_new, recall};
-use crate::final_analysis::{core_of_denied, empty_core};
+use crate::analysis::conflict_level;
+use crate::attaching::{attach_new_clauses, recheck_pending_conflict};
+use crate::clause_status::{ClauseStatus, replacement_watch};
+use crate::final_analysis::{core_of_failed_assumption, empty_core};
 use crate::guide::Guide;
 use crate::justification::unjustified;
 use crate::learning::learn;
-use crate::levels::{go_back, open_level};
-use crate::look::{Found, replacement};
+use crate::levels::{backtrack, decide};
 use crate::propagation::{Propagated, propagate};
 use crate::reduction::{least_between, reduce};
+use crate::statistics::count;
 use crate::trail_reuse::reuse_trail;
-use crate::units::{imply, settle_new};
+use crate::units::{learn_root_units, propagate_unit};
 use base::{Budget, Refused};
 use cdcl_kernel::{Kernel, values_of};
 use cdcl_log::LoggedKernel;
 use solver::{Answer, Part, SatError};
 
-/// What to do where nothing more follows.
+/// What to do where propagation found no conflict.
 enum Next {
-    /// open a level and decide the literal there, where it is open
+    /// begin a level, and decide the literal where it is unassigned
     Decide(i32),
     /// the assumption is false
-    Denied(i32),
-    /// each variable of a clause has a value
-    Full,
+    FailedAssumption(i32),
+    /// each variable of a clause has a value: a model may have been found
+    AllAssigned,
 }
 
 /// Finds a model under the assumptions, of all clauses or of a part, or some of them that can't hold. Where a log is
@@ -55,12 +56,12 @@ pub fn search(
 {
     reuse_trail(guide, part.is_some(), assume)?;
     guide.grow_to(assume)?;
-    attach_new(kernel.known(), guide)?;
-    settle_new(kernel, guide)?;
-    guide.begin(part)?;
-    recall(kernel.known(), guide)?;
+    attach_new_clauses(kernel.known(), guide)?;
+    learn_root_units(kernel, guide)?;
+    guide.decisions.begin(part)?;
+    recheck_pending_conflict(kernel.known(), guide)?;
     'searching: while budget.tick() {
-        if let Some(answer) = turn(kernel, guide, part, assume, budget)? {
+        if let Some(answer) = search_step(kernel, guide, part, assume, budget)? {
             return Ok(answer);
         }
     }
@@ -68,7 +69,7 @@ pub fn search(
 }
 
 /// Propagates, and then learns from a conflict, decides or answers.
-fn turn(
+fn search_step(
     kernel: &mut LoggedKernel,
     guide: &mut Guide,
     part: Option<&Part>,
@@ -82,20 +83,20 @@ fn turn(
     ensures ends { IfOk result (λ r. IfSome r (EndsWith kernel.old kernel.new assume.now)) }
     ensures limit { IfErr result (λ e. e ≡ Limit full → IsFull kernel.new) }
 {
-    if let Some(conflict) = guide.waiting {
-        return meet(kernel, guide, conflict, assume);
+    if let Some(conflict) = guide.pending_conflict {
+        return handle_conflict(kernel, guide, conflict, assume);
     }
     let outcome = propagate(kernel.known(), guide, budget)?;
-    settle_new(kernel, guide)?;
+    learn_root_units(kernel, guide)?;
     match outcome {
         Propagated::Spent => Ok(None),
-        Propagated::Conflict(conflict) => meet(kernel, guide, conflict, assume),
-        Propagated::Quiet => advance(kernel, guide, part, assume),
+        Propagated::Conflict(conflict) => handle_conflict(kernel, guide, conflict, assume),
+        Propagated::NoConflict => decide_or_answer(kernel, guide, part, assume),
     }
 }
 
 /// Learns from a clause that is false. At level 0 nothing satisfies the clauses.
-fn meet(
+fn handle_conflict(
     kernel: &mut LoggedKernel,
     guide: &mut Guide,
     conflict: u32,
@@ -106,28 +107,31 @@ fn meet(
     ensures ends { IfOk result (λ r. IfSome r (EndsWith kernel.old kernel.new assume.now)) }
     ensures limit { IfErr result (λ e. e ≡ Limit full → IsFull kernel.new) }
 {
-    let level = top_level(kernel.known(), guide, conflict);
+    count(&mut guide.statistics.conflicts);
+    let level = conflict_level(kernel.known(), &guide.assignment, conflict);
     if level == 0 {
-        guide.waiting = Some(conflict);
+        guide.pending_conflict = Some(conflict);
         let core = empty_core(kernel, guide, conflict, assume)?;
         return Ok(core.map(Answer::Core));
     }
-    guide.waiting = None;
+    guide.pending_conflict = None;
     learn(kernel, guide, conflict, level)?;
     let clauses = kernel.known().clauses();
-    let least = least_between(clauses, guide.is_part, assume);
-    if guide.reductions.is_due(least) {
+    let least = least_between(clauses, guide.decisions.parts.is_part, assume);
+    if guide.learned.reductions.is_due(least) {
+        count(&mut guide.statistics.reductions);
         reduce(kernel, guide)?;
     }
     if guide.restarts.is_due() {
-        let level = assume.len().min(guide.levels.current());
-        go_back(guide, level)?;
+        count(&mut guide.statistics.restarts);
+        let level = assume.len().min(guide.assignment.levels.current());
+        backtrack(guide, level)?;
     }
     Ok(None)
 }
 
 /// Decides where nothing more follows, or answers.
-fn advance(
+fn decide_or_answer(
     kernel: &mut LoggedKernel,
     guide: &mut Guide,
     part: Option<&Part>,
@@ -139,56 +143,51 @@ fn advance(
     ensures ends { IfOk result (λ r. IfSome r (EndsWith kernel.old kernel.new assume.now)) }
     ensures limit { IfErr result (λ e. e ≡ Limit full → IsFull kernel.new) }
 {
-    match choose(guide, assume)? {
+    match pick_decision(guide, assume)? {
         Next::Decide(literal) => {
-            open_level(guide, literal)?;
+            decide(guide, literal)?;
             Ok(None)
         }
-        Next::Denied(literal) => {
-            let core = core_of_denied(kernel, guide, literal, assume)?;
+        Next::FailedAssumption(literal) => {
+            let core = core_of_failed_assumption(kernel, guide, literal, assume)?;
             Ok(core.map(Answer::Core))
         }
-        Next::Full => look_through(kernel, guide, part, assume),
+        Next::AllAssigned => check_model(kernel, guide, part, assume),
     }
 }
 
-/// Looks for the next assumption that is not true, or else, in a part, for a gate without a false side that needs one, or
-/// else for the most active open variable.
-fn choose(guide: &mut Guide, assume: &[i32]) -> Result<Next, Refused> {
-    if let Some(literal) = assume.get(guide.levels.current()) {
-        if guide.values.is_false(*literal) {
-            return Ok(Next::Denied(*literal));
+/// Picks the next assumption that is not true, or else, in a part, a gate without a false side that needs one, or
+/// else the most active unassigned variable.
+fn pick_decision(guide: &mut Guide, assume: &[i32]) -> Result<Next, Refused> {
+    if let Some(literal) = assume.get(guide.assignment.levels.current()) {
+        if guide.assignment.values.is_false(*literal) {
+            return Ok(Next::FailedAssumption(*literal));
         }
         return Ok(Next::Decide(*literal));
     }
-    if !guide.is_part {
-        return Ok(most_active(guide));
+    if !guide.decisions.parts.is_part {
+        return Ok(pick_most_active(guide));
     }
-    if let Some(literal) = unjustified(guide) {
+    if let Some(literal) = unjustified(&guide.assignment, &mut guide.decisions) {
         return Ok(Next::Decide(literal));
     }
-    if !guide.is_filled {
-        guide.fill()?;
+    if !guide.decisions.is_filled {
+        guide.decisions.fill_heap(&guide.assignment.values)?;
     }
-    Ok(most_active(guide))
+    Ok(pick_most_active(guide))
 }
 
-/// Looks for the most active open variable.
-fn most_active(guide: &mut Guide) -> Next {
-    for _ in 0..guide.heap.len() {
-        let Some(variable) = guide.heap.pop() else {
-            return Next::Full;
-        };
-        if guide.values.is_open(variable) {
-            return Next::Decide(guide.phased(variable));
-        }
+/// Picks the most active unassigned variable.
+fn pick_most_active(guide: &mut Guide) -> Next {
+    match guide.decisions.most_active(&guide.assignment.values) {
+        Some(literal) => Next::Decide(literal),
+        None => Next::AllAssigned,
     }
-    Next::Full
 }
 
 /// Answers the values on the trail where they satisfy the clauses, or the part. Else a clause without a true
-/// literal is met as a conflict, or one of its open literals comes on the trail.
-fn look_through(
+/// literal is a pending conflict, or one of its unassigned literals comes on the trail.
+fn check_model(
     kernel: &mut LoggedKernel,
     guide: &mut Guide,
     part: Option<&Part>,
@@ -202,32 +201,36 @@ fn look_through(
 {
     let values = match part {
         Some(part) => {
-            let literals = guide.trail.literals();
+            let literals = guide.assignment.trail.literals();
             kernel
                 .known()
                 .part_model(guide.alloc, literals, part, assume)?
         }
         None => kernel
             .known()
-            .model_of(guide.alloc, guide.trail.literals(), assume)?,
+            .model_of(guide.alloc, guide.assignment.trail.literals(), assume)?,
     };
     if values.is_none() {
-        repair(kernel.known(), guide)?;
+        propagate_missed_clause(kernel.known(), guide)?;
     }
     Ok(values.map(Answer::Model))
 }
 
-/// Goes on where a clause has no true literal although no variable seemed open.
-fn repair(kernel: &Kernel, guide: &mut Guide) -> Result<(), Refused> {
-    let values = values_of(guide.alloc, kernel.vars(), guide.trail.literals())?;
+/// Propagates a clause that has no true literal although no variable seemed unassigned: the watches missed it.
+fn propagate_missed_clause(kernel: &Kernel, guide: &mut Guide) -> Result<(), Refused> {
+    let values = values_of(
+        guide.alloc,
+        kernel.vars(),
+        guide.assignment.trail.literals(),
+    )?;
     let Some(id) = kernel.unsatisfied(values.as_slice()) else {
         return Ok(());
     };
-    match imply(kernel, guide, id)? {
-        Found::Conflict => guide.waiting = Some(id),
-        Found::Several => {
-            if let Some(literal) = replacement(kernel, &guide.values, id, 0) {
-                open_level(guide, literal)?;
+    match propagate_unit(kernel, &mut guide.assignment, id)? {
+        ClauseStatus::Conflict => guide.pending_conflict = Some(id),
+        ClauseStatus::Several => {
+            if let Some(literal) = replacement_watch(kernel, &guide.assignment.values, id, 0) {
+                decide(guide, literal)?;
             }
         }
         _ => {}

@@ -1,11 +1,12 @@
 //! The clauses of two or three literals, by each of their literals.
 //!
-//! All of them lie in one list, and each literal has a span of it, with some room to grow. Where many clauses come at once
-//! they are counted first, and a span without enough room for those that it is to get moves to the end of the list, where it
-//! has just that room (`reserve`). Where they come one by one a span that is full moves to the end, where it has twice the
-//! room. The places that a span had are not used again. A span keeps its room where clauses are taken out of it. Where a third
-//! of the list is room, all spans are copied, without it, to a list of their own, one literal's behind the other's: the
-//! search waits for memory more than for anything else.
+//! All of them lie in one list, and each literal has a span of it, with some room to grow. Where many clauses
+//! come at once they are counted first, and a span without enough room for those that it is to get moves to
+//! the end of the list, where it has just that room (`reserve`). Where they come one by one a span that is
+//! full moves to the end, where it has twice the room. The part of the list that a span had is not used
+//! again. A span keeps its room where clauses are taken out of it. Where a third of the list is room, all
+//! spans are copied, without it, to a list of their own, one literal's behind the other's: the search waits
+//! for memory more than for anything else.
 
 use crate::table::Table;
 use base::Refused;
@@ -15,7 +16,7 @@ use std::alloc::Global;
 /// For how many clauses a span has room when its first one comes, and was not counted.
 const FIRST_ROOM: u32 = 4;
 
-/// How many places of room are no reason to copy the spans.
+/// How much room is no reason to copy the spans.
 const FEWEST: usize = 1000;
 
 /// A clause of two or three literals that has a literal, and its other ones. Of a clause of two the second is that of
@@ -45,7 +46,7 @@ const NONE: Short = Short {
 /// Where the short clauses of a literal lie.
 #[derive(Clone, Copy)]
 pub struct Span {
-    /// the place of the first one in the list
+    /// the offset of the first one in the list
     start: u32,
     /// how many there are
     pub len: u32,
@@ -64,7 +65,7 @@ pub const EMPTY: Span = Span {
 #[derive(Drop)]
 pub struct ShortLists {
     items: Table<Short>,
-    /// how many of the places are used
+    /// how many of the items are used
     used: usize,
 }
 
@@ -84,14 +85,14 @@ impl ShortLists {
         self.items.part(start, start + span.len as usize)
     }
 
-    /// The clause at a place of a span, or none of any literal past the list's end.
+    /// The clause at an offset in a span, or none of any literal past the list's end.
     #[inline]
     pub fn at(&self, span: Span, at: u32) -> Short {
         self.items.at(span.start as usize + at as usize, NONE)
     }
 
-    /// Adds a clause to a span, and answers the span with it. A full span whose new place would be no number of 32 bits
-    /// stays as it is.
+    /// Adds a clause to a span, and answers the span with it. A full span whose new offset would be no number
+    /// of 32 bits stays as it is.
     pub fn add(&mut self, span: Span, clause: Short) -> Result<Span, Refused> {
         let mut span = span;
         if span.len == span.room {
@@ -107,7 +108,7 @@ impl ShortLists {
     }
 
     /// Answers a span with room for this many clauses more: the same one, or its copy at the end of the list. One whose
-    /// new place would be no number of 32 bits stays as it is.
+    /// new offset would be no number of 32 bits stays as it is.
     pub fn reserve(&mut self, span: Span, more: u32) -> Result<Span, Refused> {
         let room = span.len.saturating_add(more);
         if room <= span.room {
@@ -133,7 +134,7 @@ impl ShortLists {
     }
 
     /// Takes the clauses out of a span that are gone, and answers the span of the others, which stay in order.
-    pub fn sweep(&mut self, span: Span, kernel: &Kernel) -> Span {
+    pub fn flush(&mut self, span: Span, kernel: &Kernel) -> Span {
         let mut kept = Span { len: 0, ..span };
         for at in 0..span.len {
             let clause = self.items.at(span.start as usize + at as usize, NONE);

@@ -5,11 +5,11 @@
 use base::{Refused, push};
 use std::alloc::Global;
 
-/// Literals by places, and why each came.
+/// Literals by trail indices, and why each came.
 #[derive(Drop)]
 pub struct Trail {
     literals: Vec<i32>,
-    /// by places the clause that left only the literal, or none for a decision
+    /// by trail indices the clause that left only the literal, or none for a decision
     reasons: Vec<Option<u32>>,
 }
 
@@ -33,16 +33,16 @@ impl Trail {
         self.literals.as_slice()
     }
 
-    /// The literal at a place.
+    /// The literal at a trail index.
     #[inline]
-    pub fn literal(&self, place: usize) -> Option<i32> {
-        self.literals.get(place).copied()
+    pub fn literal(&self, trail_index: usize) -> Option<i32> {
+        self.literals.get(trail_index).copied()
     }
 
-    /// The reason at a place, where it has one.
+    /// The reason at a trail index, where it has one.
     #[inline]
-    pub fn reason(&self, place: usize) -> Option<u32> {
-        match self.reasons.get(place) {
+    pub fn reason(&self, trail_index: usize) -> Option<u32> {
+        match self.reasons.get(trail_index) {
             Some(reason) => *reason,
             None => None,
         }

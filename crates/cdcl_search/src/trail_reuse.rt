@@ -5,36 +5,36 @@
 //! nothing for them.
 
 use crate::guide::Guide;
-use crate::levels::leave;
+use crate::levels::backtrack_after_call;
 use base::{Refused, extend};
 
 /// The most clauses of one literal that wait for level 0.
 const WAITING: usize = 32;
 
-/// Goes back to where the assumptions are no longer those of the call before, and takes note of
-/// them. It goes back to level 0 where many clauses of one literal wait for that, and where either call is about a part:
-/// what follows outside of a part is not on the trail.
+/// Backtracks to where the assumptions are no longer those of the call before, and takes note of them. It
+/// backtracks to level 0 where many clauses of one literal wait for that, and where either call is about a
+/// part: what follows outside of a part is not on the trail.
 pub fn reuse_trail(guide: &mut Guide, is_part: bool, assume: &[i32]) -> Result<(), Refused> {
-    let is_new = is_part || guide.is_part;
+    let is_new = is_part || guide.decisions.parts.is_part;
     if is_new {
-        guide.empty_heap();
+        guide.decisions.empty_heap();
     }
-    let level = if is_new || guide.single.len() > WAITING {
+    let level = if is_new || guide.pending_units.len() > WAITING {
         0
     } else {
-        shared(guide, assume)
+        shared_levels(guide, assume)
     };
-    leave(guide, level)?;
-    guide.assumed.clear();
-    extend(&mut guide.assumed, assume)
+    backtrack_after_call(guide, level)?;
+    guide.assumptions.clear();
+    extend(&mut guide.assumptions, assume)
 }
 
 /// How many of the first assumptions have their levels already.
-fn shared(guide: &Guide, assume: &[i32]) -> usize {
-    let open = guide.levels.current();
-    let most = open.min(guide.assumed.len()).min(assume.len());
+fn shared_levels(guide: &Guide, assume: &[i32]) -> usize {
+    let current = guide.assignment.levels.current();
+    let most = current.min(guide.assumptions.len()).min(assume.len());
     for level in 0..most {
-        if guide.assumed[level] != assume[level] {
+        if guide.assumptions[level] != assume[level] {
             return level;
         }
     }

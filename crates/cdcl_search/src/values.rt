@@ -14,13 +14,13 @@ use std::alloc::Global;
 #[derive(Clone, Copy, PartialEq, Eq)]
 pub enum Value {
     False,
-    Open,
+    Unassigned,
     True,
 }
 
 impl Value {
-    /// How much may still be true: 0 where the literal is false, 1 where it is open, and 2 where it is true. So two
-    /// literals that come to 2 or more have a true one, or are both open.
+    /// How much may still be true: 0 where the literal is false, 1 where it is unassigned, and 2 where it is
+    /// true. So two literals that come to 2 or more have a true one, or are both unassigned.
     #[inline]
     pub fn chance(self) -> u32
         ensures { result ≤ 2 }
@@ -64,12 +64,12 @@ impl Values {
         }
     }
 
-    /// Makes room for the next variable, from 0 on, which is open. The literals of variable 0 are false.
+    /// Makes room for the next variable, from 0 on, which is unassigned. The literals of variable 0 are false.
     pub fn grow(&mut self) -> Result<(), Refused> {
         let value = if self.values.len() == 0 {
             Value::False
         } else {
-            Value::Open
+            Value::Unassigned
         };
         self.values.push(value)?;
         self.values.push(value)
@@ -78,7 +78,7 @@ impl Values {
     /// The value of the literal with this code.
     #[inline]
     pub fn of(&self, code: u32) -> Value {
-        self.values.at(code as usize, Value::Open)
+        self.values.at(code as usize, Value::Unassigned)
     }
 
     /// Whether the literal is false.
@@ -89,8 +89,8 @@ impl Values {
 
     /// Whether the literal has no value.
     #[inline]
-    pub fn is_open(&self, literal: i32) -> bool {
-        self.of(code_of(literal)) == Value::Open
+    pub fn is_unassigned(&self, literal: i32) -> bool {
+        self.of(code_of(literal)) == Value::Unassigned
     }
 
     /// Whether the literal is true.
@@ -107,11 +107,11 @@ impl Values {
             .put(code_of(literal.wrapping_neg()) as usize, Value::False);
     }
 
-    /// The literal's variable is open from now on.
+    /// The literal's variable is unassigned from now on.
     #[inline]
     pub fn unset(&mut self, literal: i32) {
-        self.values.put(code_of(literal) as usize, Value::Open);
         self.values
-            .put(code_of(literal.wrapping_neg()) as usize, Value::Open);
+            .put(code_of(literal) as usize, Value::Unassigned);
+        self.values.put(code_of(literal.wrapping_neg()) as usize, Value::Unassigned);
     }
 }

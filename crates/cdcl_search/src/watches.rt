@@ -1,18 +1,18 @@
-//! Which clauses to look at when a literal becomes false.
+//! Which clauses to visit when a literal becomes false.
 //!
-//! Of each clause two literals are watched, and only where one of them becomes false the clause
-//! is looked at (Moskewicz, Madigan, Zhao, Zhang, Malik 2001). Beside the clause a watch has
-//! its blocker, another literal of the clause: where that one is true the clause is left alone.
-//! The search has a copy of the clause, with the two watched literals first (`long_clauses`), and the watch has its place.
-//! Clauses of two or three literals lie apart, under each of their literals (`short_lists`): a watch of one has its id and all
-//! the others, and no more is read of it. Where both kinds are to be found stands side by side for each literal, since they
-//! are visited one after the other.
+//! Of each clause two literals are watched, and only where one of them becomes false the clause is visited
+//! (Moskewicz, Madigan, Zhao, Zhang, Malik 2001). Beside the clause a watch has its blocker, another literal
+//! of the clause: where that one is true the clause is left alone. The search has a copy of the clause, with
+//! the two watched literals first (`long_clauses`), and the watch has its clause reference. Clauses of two or
+//! three literals lie apart, under each of their literals (`short_lists`): a watch of one has its id and all
+//! the others, and no more is read of it. Where both kinds are to be found stands side by side for each
+//! literal, since they are visited one after the other.
 //!
-//! No proof rests on what is watched: a clause that is missed is found when a model is looked
-//! through.
+//! No proof rests on what is watched: a clause that is missed is found when a model is
+//! checked.
 
 use crate::counts::Counts;
-use crate::long_clauses::{LongClauses, Look};
+use crate::long_clauses::{LongClauses, WatchVisit};
 use crate::short_lists::{EMPTY, Short, ShortLists, Span};
 use crate::values::{Values, code_of};
 use base::{Refused, push};
@@ -23,8 +23,8 @@ use std::mem;
 /// A clause that watches a literal, and another literal of the clause.
 #[derive(Clone, Copy)]
 pub struct Watch {
-    /// the clause's place among the long ones
-    pub place: u32,
+    /// the clause's reference among the long ones
+    pub clause_ref: u32,
     /// the other literal's code
     pub blocker: u32,
 }
@@ -67,7 +67,7 @@ pub struct Watches {
     attached: usize,
 }
 
-/// The place of a literal's lists.
+/// The index of a literal's lists.
 #[inline]
 fn index_of(literal: i32) -> usize {
     code_of(literal) as usize
@@ -83,15 +83,18 @@ fn third_of(clause: &[i32], first: i32, second: i32) -> Option<i32> {
     None
 }
 
-/// Gives the watches the new places of their clauses, and takes those of clauses out that are gone.
+/// Gives the watches the new references of their clauses, and takes those of clauses out that are gone.
 fn move_watches(list: &mut Vec<Watch>, clauses: &LongClauses) {
     let mut kept = 0;
     for at in 0..list.len() {
         let watch = list[at];
-        if let Some(place) = clauses.new_place(watch.place)
+        if let Some(clause_ref) = clauses.new_ref(watch.clause_ref)
             && kept < list.len()
         {
-            list[kept] = Watch { place, ..watch };
+            list[kept] = Watch {
+                clause_ref,
+                ..watch
+            };
             kept += 1;
         }
     }
@@ -265,7 +268,7 @@ impl Watches {
         self.watch_short(literal, clause)
     }
 
-    /// Watches two literals of a long clause, unless there is no place for it.
+    /// Watches two literals of a long clause, unless there is no reference for it.
     fn attach_long(
         &mut self,
         id: u32,
@@ -273,21 +276,21 @@ impl Watches {
         second: i32,
         clause: &[i32],
     ) -> Result<(), Refused> {
-        let Some(place) = self.clauses.add(id, first, second, clause)? else {
+        let Some(clause_ref) = self.clauses.add(id, first, second, clause)? else {
             return Ok(());
         };
         let (first, second) = (code_of(first), code_of(second));
         self.watch(
             first,
             Watch {
-                place,
+                clause_ref,
                 blocker: second,
             },
         )?;
         self.watch(
             second,
             Watch {
-                place,
+                clause_ref,
                 blocker: first,
             },
         )
@@ -298,34 +301,39 @@ impl Watches {
         self.attached = self.attached.max(id);
     }
 
-    /// The id of the long clause at a place.
+    /// The id of the long clause.
     #[inline]
-    pub fn id(&self, place: u32) -> u32 {
-        self.clauses.id(place)
+    pub fn id(&self, clause_ref: u32) -> u32 {
+        self.clauses.id(clause_ref)
     }
 
-    /// Looks at the long clause at a place, of which a watched literal is false. Where it watches another one from now on,
+    /// Visits the long clause, of which a watched literal is false. Where it watches another one from now on,
     /// it is added to those that watch that one.
     #[inline]
-    pub fn look(&mut self, values: &Values, place: u32, denied: u32) -> Result<Look, Refused> {
-        let look = self.clauses.look(values, place, denied);
-        if let Look::Moved { other, next } = look {
+    pub fn visit(
+        &mut self,
+        values: &Values,
+        clause_ref: u32,
+        false_code: u32,
+    ) -> Result<WatchVisit, Refused> {
+        let visit = self.clauses.visit(values, clause_ref, false_code);
+        if let WatchVisit::Moved { other, replacement } = visit {
             self.watch(
-                next,
+                replacement,
                 Watch {
-                    place,
+                    clause_ref,
                     blocker: other,
                 },
             )?;
         }
-        Ok(look)
+        Ok(visit)
     }
 
-    /// Takes the watches of clauses out that are gone. After an `Err` the watches are worth nothing.
-    pub fn sweep(&mut self, kernel: &Kernel) -> Result<(), Refused> {
+    /// Flushes the watches of clauses that are gone. After an `Err` the watches are worth nothing.
+    pub fn flush(&mut self, kernel: &Kernel) -> Result<(), Refused> {
         let renewed = self.clauses.renew(self.alloc, kernel)?;
         for lists in self.lists.iter_mut() {
-            lists.short = self.shorts.sweep(lists.short, kernel);
+            lists.short = self.shorts.flush(lists.short, kernel);
             move_watches(&mut lists.long, &self.clauses);
         }
         self.clauses = renewed;

@@ -2,6 +2,7 @@ pub mod Accepted
 pub mod Causes
 pub mod Lines
 pub mod Numbers
+pub mod Readers
 pub mod Replayed
 pub mod Stops
 pub mod Streamed

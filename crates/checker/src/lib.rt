@@ -13,6 +13,10 @@
 //!   stimulus's replay shows the violation of its property. It replays the stimulus while it is read
 //!   (`replay`).
 //!
+//! - `run_safe_for` and `run_stimulus_for` do so for one property alone, and answer `no 30` of
+//!   evidence of another one. `safe_of_readers` and `run_of_readers` are all four over readers of std:
+//!   a yes is about just the bytes that these gave in the call.
+//!
 //! A certificate of version 2 has lemmas: lines that are checked once, and whose clauses the step
 //! cases and the bad case then begin with, beside those of the circuit and the invariant. The initial
 //! cases have none of them.

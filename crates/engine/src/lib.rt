@@ -5,7 +5,7 @@
 //!   what an honest one answers is so (`IsSo`): its run shows the bad literal, its invariant is
 //!   inductive, its unknown means what it says. A caller's own engine may be dishonest, so
 //!   whoever asks it checks what it answers. Each engine also says itself what it may answer (`answers`).
-//! - `Progress` hears how far a search has come, and `Silent` is one that does nothing.
+//! - `Progress` is told how far a search has come, and `Silent` is one that does nothing.
 #![tactic(auto)]
 
 mod engine;

@@ -10,6 +10,7 @@ use checker::check;
 use engine::{Engine, Finding, Progress};
 use graph::{Budget, Lit, Model, Property, Seq};
 use ic3::Ic3;
+use solver::{PartSat, Plain};
 use std::alloc::Global;
 use std::test::Fail;
 use stimulus::{Stimulus, judge};
@@ -60,11 +61,11 @@ fn is_shown(alloc: Global, circuit: &Model, initial: Seq<bool>, inputs: Seq<Seq<
     judge(alloc, circuit, &stimulus).is_ok()
 }
 
-/// Whether the circuit is found safe or not, with evidence that stands.
-fn found(alloc: Global, circuit: &Model, safe: bool) -> Result<bool, Fail>
+/// Whether the circuit is found safe or not by this solver, with evidence that stands.
+fn found<S: PartSat>(alloc: Global, solver: S, circuit: &Model, safe: bool) -> Result<bool, Fail>
     requires { IsForBad circuit.now }
 {
-    match Ic3::new(Cdcl::new(alloc)).find(alloc, circuit, &mut Budget::new(STEPS))? {
+    match Ic3::new(solver).find(alloc, circuit, &mut Budget::new(STEPS))? {
         Finding::Invariant(clauses) => Ok(
             safe && is_certified(alloc, circuit, clauses.as_slice())?,
         ),
@@ -73,10 +74,13 @@ fn found(alloc: Global, circuit: &Model, safe: bool) -> Result<bool, Fail>
     }
 }
 
-/// The same of the circuit of a text.
+/// The same of the circuit of a text, by each of the two solvers.
 fn is_found(alloc: Global, text: &[u8], safe: bool) -> Result<bool, Fail> {
     let circuit = circuit(alloc, text)?;
-    found(alloc, &circuit, safe)
+    Ok(
+        found(alloc, Cdcl::new(alloc), &circuit, safe)?
+            && found(alloc, Plain::new(alloc), &circuit, safe)?,
+    )
 }
 
 #[test]
@@ -87,34 +91,34 @@ fn finds_worked_circuits(rt: HostRuntime) -> Result<(), Fail> {
     Ok(())
 }
 
-/// What was heard of a search: the last frame, how many clauses the frames had then, and how many questions.
+/// What was told of a search: the last frame, how many clauses the frames had then, and how many queries.
 #[derive(Drop)]
-struct Heard {
+struct Told {
     frame: u32,
     clauses: usize,
-    questions: u32,
+    queries: u32,
 }
 
-impl Progress for Heard {
-    fn opened(&mut self, frame: u32, clauses: usize, _budget: &Budget) {
+impl Progress for Told {
+    fn frame_opened(&mut self, frame: u32, clauses: usize, _budget: &Budget) {
         self.frame = frame;
         self.clauses = clauses;
     }
 
-    fn begun(&mut self, _steps: u32, _variables: u32, _budget: &Budget) {}
+    fn depth_begun(&mut self, _steps: u32, _variables: u32, _budget: &Budget) {}
 
-    fn asked(&mut self, _budget: &Budget) {
-        self.questions = self.questions.saturating_add(1);
+    fn query_asked(&mut self, _budget: &Budget) {
+        self.queries = self.queries.saturating_add(1);
     }
 }
 
-/// What is heard of the search in the circuit of a text.
-fn heard_of(alloc: Global, text: &[u8]) -> Result<Heard, Fail> {
+/// What is told of the search in the circuit of a text.
+fn told_of(alloc: Global, text: &[u8]) -> Result<Told, Fail> {
     let circuit = circuit(alloc, text)?;
-    let nothing = Heard {
+    let nothing = Told {
         frame: 0,
         clauses: 0,
-        questions: 0,
+        queries: 0,
     };
     let mut engine = Ic3::new(Cdcl::new(alloc)).with_progress(nothing);
     engine.find(alloc, &circuit, &mut Budget::new(STEPS))?;
@@ -125,7 +129,7 @@ fn heard_of(alloc: Global, text: &[u8]) -> Result<Heard, Fail> {
 /// clause; asked again, it excludes the bad literal. Frame 2 has the clause too.
 #[test]
 fn tells_how_far_it_has_come(rt: HostRuntime) -> Result<(), Fail> {
-    let heard = heard_of(rt.alloc(), WORKED[0].0)?;
-    assert!(rt; heard.frame == 2 && heard.clauses == 1 && heard.questions == 4);
+    let told = told_of(rt.alloc(), WORKED[0].0)?;
+    assert!(rt; told.frame == 2 && told.clauses == 1 && told.queries == 4);
     Ok(())
 }

@@ -235,9 +235,17 @@ fn answers_short<S: Sat>(solver: &mut S, alloc: Global) -> Result<bool, Trouble>
     Ok(true)
 }
 
+/// Whether the kernel refused neither a learned clause nor a core of the search.
+fn refuses_nothing(solver: &Cdcl) -> bool {
+    let statistics = solver.statistics();
+    statistics.refused_learned == 0 && statistics.refused_cores == 0
+}
+
 #[test]
 fn short_formulas(rt: HostRuntime) {
-    assert!(rt; answers_short(&mut Cdcl::new(rt.alloc()), rt.alloc()) == Ok(true));
+    let mut cdcl = Cdcl::new(rt.alloc());
+    assert!(rt; answers_short(&mut cdcl, rt.alloc()) == Ok(true));
+    assert!(rt; refuses_nothing(&cdcl));
     assert!(rt; answers_short(&mut Plain::new(rt.alloc()), rt.alloc()) == Ok(true));
 }
 
@@ -278,11 +286,11 @@ fn answers_worked<S: Sat>(
 
 #[test]
 fn worked_formulas(rt: HostRuntime) {
-    let (cdcl, plain) = (
-        answers_worked(&mut Cdcl::new(rt.alloc()), rt.alloc(), false, STEPS),
-        answers_worked(&mut Plain::new(rt.alloc()), rt.alloc(), true, 1_000_000),
-    );
-    assert!(rt; cdcl == Ok(true));
+    let mut cdcl = Cdcl::new(rt.alloc());
+    assert!(rt; answers_worked(&mut cdcl, rt.alloc(), false, STEPS) == Ok(true));
+    assert!(rt; refuses_nothing(&cdcl));
+    assert!(rt; cdcl.statistics().kept_learned > 0);
+    let plain = answers_worked(&mut Plain::new(rt.alloc()), rt.alloc(), true, 1_000_000);
     assert!(rt; plain == Ok(true));
 }
 
@@ -303,7 +311,9 @@ fn grows<S: Sat>(solver: &mut S, alloc: Global) -> Result<bool, Trouble> {
 
 #[test]
 fn clauses_may_come_between_the_calls(rt: HostRuntime) {
-    assert!(rt; grows(&mut Cdcl::new(rt.alloc()), rt.alloc()) == Ok(true));
+    let mut cdcl = Cdcl::new(rt.alloc());
+    assert!(rt; grows(&mut cdcl, rt.alloc()) == Ok(true));
+    assert!(rt; refuses_nothing(&cdcl));
     assert!(rt; grows(&mut Plain::new(rt.alloc()), rt.alloc()) == Ok(true));
 }
 
@@ -415,10 +425,24 @@ fn id_of_last(alloc: Global, formula: &Formula, proof: &Proof) -> Option<u32>
 }
 
 // The 204 clauses have the first ids, the literals of the 56 variables that hold without decisions have one each at
-// most, and each conflict takes one. Clauses are forgotten at every 2,000th conflict.
+// most, and each conflict takes one. Clauses are forgotten after 500 conflicts, after 550 more, after 600 more, and so
+// on.
 #[test]
 fn forgets_clauses_and_goes_on(rt: HostRuntime) -> Result<(), Fail> {
     let list = pigeons(rt.alloc(), 8, 7)?;
     assert!(rt; matches!(last_id(rt.alloc(), list.as_slice())?, Some(2261..)));
+    Ok(())
+}
+
+#[test]
+fn the_kernel_refuses_no_learned_clause(rt: HostRuntime) -> Result<(), Fail> {
+    let list = pigeons(rt.alloc(), 8, 7)?;
+    let mut cdcl = Cdcl::new(rt.alloc());
+    assert!(rt; steps(&mut cdcl, rt.alloc(), 56, list.as_slice())?.is_some());
+    assert!(rt; refuses_nothing(&cdcl));
+    let statistics = cdcl.statistics();
+    assert!(rt; statistics.reductions > 0 && statistics.restarts > 0);
+    assert!(rt; statistics.conflicts > 2_000 && statistics.kept_learned >= 2_000);
+    assert!(rt; statistics.propagations > statistics.decisions && statistics.decisions > 0);
     Ok(())
 }

@@ -10,4 +10,4 @@ pub mod Shown
 pub mod Rising
 pub mod Reduced
 pub mod Clear
-pub mod Waits
+pub mod Queued

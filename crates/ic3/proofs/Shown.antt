@@ -18,7 +18,7 @@ use Rattle.engine.specs.Findings.{IsForBad}
 use Rattle.ic3_step.specs.States.{Denies, latch_at}
 use Rattle.ic3_frames.specs.Resets.{HasResets}
 use Rattle.ic3.specs.declared.obligation.Obligation.{Obligation}
-use Rattle.ic3.specs.Cubes.{LeadToBad}
+use Rattle.ic3.specs.Cubes.{ReachBad}
 use Rattle.ic3.specs.Answers.{IsObligation, IsFound}
 
 -- what the obligations play from a state
@@ -59,7 +59,7 @@ IsInFirst s (o ∷ os) = Denies s o.clause
 
 -- from a state of the first obligation's cube, the inputs of the obligations are a run to the bad literal
 pub played : (m : Parts) (order : List ℕ) (os : List Obligation) (s : List Bool) → IsModel m order → length s ≡ length m.latches → All (λ (o : Obligation). length o.inputs ≡ length m.inputs) os →
-    LeadToBad m os → IsInFirst s os → (r : List Valuation) × IsPlayed m s os r
+    ReachBad m os → IsInFirst s os → (r : List Valuation) × IsPlayed m s os r
 played m order [] s model long inputs leads first = absurd first
 played m order (o ∷ []) s model long inputs leads first =
     let now = existence_law m order model s o.inputs long (All-head (λ (p : Obligation). length p.inputs ≡ length m.inputs) o [] inputs) in
@@ -96,7 +96,7 @@ bad_there m one = let are = one.one in rw are refl
 
 -- the obligations' run shows the bad literal
 pub run_found : (m : Parts) (order : List ℕ) (o : Obligation) (os : List Obligation) (s : List Bool) (lines : List (List Bool)) (after : Spent) → IsModel m order → IsForBad m →
-    All (IsObligation m) (o ∷ os) → LeadToBad m (o ∷ os) → length s ≡ length m.latches → HasResets m.latches s → Denies s o.clause → lines ≡ map (λ (p : Obligation). p.inputs) (o ∷ os) →
+    All (IsObligation m) (o ∷ os) → ReachBad m (o ∷ os) → length s ≡ length m.latches → HasResets m.latches s → Denies s o.clause → lines ≡ map (λ (p : Obligation). p.inputs) (o ∷ os) →
     IsFound m after (Run s lines)
 run_found m order o os s lines after model one obligations leads long resets first are =
     let run = played m order (o ∷ os) s model long (λ k d k_in. (obligations k d k_in).inputs) leads first in

@@ -24,7 +24,7 @@ use Rattle.ic3.specs.declared.bad.AtBad.TheVariants.{Set, Excluded, Spent}
 use Rattle.ic3.specs.declared.blocking.Blocking.{Blocking}
 use Rattle.ic3.specs.declared.blocking.Blocking.TheVariants.{Blocked, Initial, Predecessor, Spent}
 use Rattle.ic3.specs.declared.obligation.Obligation.{Obligation}
-use Rattle.ic3.specs.Cubes.{LeadsOn, LeadToBad}
+use Rattle.ic3.specs.Cubes.{HasSuccessor, ReachBad}
 
 -- some of the clause's literals, in their order
 abbrev pub IsPicked : List StateLit → List StateLit → Type 0
@@ -65,11 +65,11 @@ pub record IsObligation (m : Parts) (o : Obligation) : Type 0 where
 -- these obligations, each of which leads to one that was found before it, or is bad
 pub record AreObligations (m : Parts) (os : List Obligation) : Type 0 where
   pub each : All (IsObligation m) os
-  pub lead : (i : ℕ) (d : Obligation) → i < length os → LeadsOn m os i (slice_index_or os i d) (slice_index_or os i d).next
+  pub successors : (i : ℕ) (d : Obligation) → i < length os → HasSuccessor m os i (slice_index_or os i d) (slice_index_or os i d).next
 
 -- the inputs of this obligation and of others, each of which leads to the next, and the last of which is bad
 abbrev pub IsWay : Parts → Obligation → List (List Bool) → Type 0
-IsWay m o lines = (os : List Obligation) × (lines ≡ map (λ p. p.inputs) (o ∷ os)) × All (IsObligation m) (o ∷ os) × LeadToBad m (o ∷ os)
+IsWay m o lines = (os : List Obligation) × (lines ≡ map (λ p. p.inputs) (o ∷ os)) × All (IsObligation m) (o ∷ os) × ReachBad m (o ∷ os)
 
 -- the states in which the clause is false are blocked, or no reset excludes all of them, or this time leads to one of them
 abbrev pub IsBlocking : Parts → List StateLit → Steps → Blocking → Type 0

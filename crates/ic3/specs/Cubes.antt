@@ -29,16 +29,16 @@ abbrev pub AreBad : Parts → List StateLit → List Bool → Type 0
 AreBad m c inputs = (x : Valuation) → Agrees m x → Denies (state_of m x) c → inputs_of m x ≡ inputs → KeepsNow m x × (value_of x (bad_literal m 0) ≡ true)
 
 -- each obligation's states are predecessors of the states of the next one, and those of the last are bad
-abbrev pub LeadToBad : Parts → List Obligation → Type 0
-LeadToBad m [] = Unit {0}
-LeadToBad m (o ∷ []) = AreBad m o.clause o.inputs
-LeadToBad m (o ∷ p ∷ os) = ArePredecessors m o.clause o.inputs p.clause × LeadToBad m (p ∷ os)
+abbrev pub ReachBad : Parts → List Obligation → Type 0
+ReachBad m [] = Unit {0}
+ReachBad m (o ∷ []) = AreBad m o.clause o.inputs
+ReachBad m (o ∷ p ∷ os) = ArePredecessors m o.clause o.inputs p.clause × ReachBad m (p ∷ os)
 
 -- the states of an obligation at this place are bad where none is next, or predecessors of the states of the next one, which has
 -- a place before
-abbrev pub LeadsOn : Parts → List Obligation → ℕ → Obligation → Option ℕ → Type 0
-LeadsOn m os i o None = AreBad m o.clause o.inputs
-LeadsOn m os i o (Some k) = (k < i) × ((d : Obligation) → ArePredecessors m o.clause o.inputs (slice_index_or os k d).clause)
+abbrev pub HasSuccessor : Parts → List Obligation → ℕ → Obligation → Option ℕ → Type 0
+HasSuccessor m os i o None = AreBad m o.clause o.inputs
+HasSuccessor m os i o (Some k) = (k < i) × ((d : Obligation) → ArePredecessors m o.clause o.inputs (slice_index_or os k d).clause)
 
 -- the clause denies the value that each marked latch has in the state
 abbrev pub HasMarked : List Latch → List Bool → List Bool → List StateLit → Type 0

@@ -1,5 +1,5 @@
 pub mod Sound
-pub mod Waiting
+pub mod Queue
 pub mod Cubes
 pub mod Answers
 pub mod Candidates

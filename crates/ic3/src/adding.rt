@@ -10,13 +10,11 @@ use graph::{Model, Seq};
 use ic3_frames::Frames;
 use ic3_step::StateLit;
 use solver::PartSat;
-use std::alloc::Global;
 
 impl<S: PartSat> FrameSolver<S> {
     /// Adds a clause that is inductive from a frame to the frames up to the next one.
     pub(crate) fn add_to_frames(
         &mut self,
-        alloc: Global,
         circuit: &Model,
         frames: &mut Frames,
         level: u32,
@@ -28,6 +26,7 @@ impl<S: PartSat> FrameSolver<S> {
         ensures top { frames.new.top ≡ frames.old.top }
         ensures sound { OnOk result (IsSound circuit.now self.new frames.new) }
     {
+        let alloc = frames.allocator();
         self.add_clause(alloc, circuit, level + 1, clause.as_slice())?;
         frames.add(clause, level + 1)?;
         Ok(())

@@ -12,7 +12,6 @@ use graph::{Budget, Model};
 use ic3_frames::Frames;
 use ic3_step::{Assignment, Reply};
 use solver::PartSat;
-use std::alloc::Global;
 
 /// What is known of the bad literal in a frame.
 #[derive(Drop)]
@@ -29,7 +28,6 @@ impl<S: PartSat> FrameSolver<S> {
     /// Asks for a time of the last frame at which the bad literal is true.
     pub(crate) fn at_bad(
         &mut self,
-        alloc: Global,
         circuit: &Model,
         frames: &Frames,
         budget: &mut Budget,
@@ -41,6 +39,7 @@ impl<S: PartSat> FrameSolver<S> {
         ensures lawful { IfOk result (IsAtBad circuit.now frames.now.entries frames.now.top budget.new) }
     {
         circuit.well_formed();
+        let alloc = frames.allocator();
         let top = frames.top();
         let guards = guards_from(alloc, top, top + 1)?;
         let bad = circuit.bad()[0];

@@ -6,7 +6,6 @@ ghost use Rattle.ic3_frames.specs.Frames.{IsStateClause};
 ghost use Rattle.ic3.specs.Sound.{IsSound};
 ghost use Rattle.ic3.specs.Answers.{IsInductiveFrom, IsBlocking};
 
-use crate::failures::Failures;
 use crate::frame_solver::FrameSolver;
 use crate::reset::reset_literal;
 use engine::EngineError;
@@ -14,7 +13,6 @@ use graph::{Budget, Model, Seq};
 use ic3_frames::Frames;
 use ic3_step::{Assignment, Consecution, StateLit};
 use solver::PartSat;
-use std::alloc::Global;
 
 /// What became of states that were to be blocked.
 #[derive(Drop)]
@@ -35,10 +33,8 @@ impl<S: PartSat> FrameSolver<S> {
     /// longest was needed there, so its latches are not left out.
     fn learn(
         &mut self,
-        alloc: Global,
         circuit: &Model,
         frames: &mut Frames,
-        failures: &mut Failures,
         level: u32,
         whole: &[StateLit],
         clause: Seq<StateLit>,
@@ -51,24 +47,22 @@ impl<S: PartSat> FrameSolver<S> {
         ensures spends { Spends budget.old budget.new }
         ensures sound { OnOk result (IsSound circuit.now self.new frames.new) }
     {
+        let alloc = frames.allocator();
         let needed = match frames.longest_part(alloc, level, whole)? {
             Some(place) => frames.entries()[place].clause.as_slice(),
             None => &[],
         };
-        let shorter = self.generalize(alloc, circuit, frames, level, clause, needed, budget)?;
-        let kept = shorter.as_slice();
-        let last = self.furthest(alloc, circuit, frames, failures, level, kept, budget)?;
-        self.add_to_frames(alloc, circuit, frames, last, shorter)
+        let shorter = self.generalize(circuit, frames, level, clause, needed, budget)?;
+        let last = self.furthest(circuit, frames, level, shorter.as_slice(), budget)?;
+        self.add_to_frames(circuit, frames, last, shorter)
     }
 
     /// Blocks the states in which the clause is false in the frame at `level`, or finds a predecessor of
     /// one of them.
     pub(crate) fn block(
         &mut self,
-        alloc: Global,
         circuit: &Model,
         frames: &mut Frames,
-        failures: &mut Failures,
         level: u32,
         clause: &[StateLit],
         budget: &mut Budget,
@@ -84,15 +78,13 @@ impl<S: PartSat> FrameSolver<S> {
         let Some(first) = reset_literal(circuit.latches(), clause) else {
             return Ok(Blocking::Initial);
         };
-        if level == 0 || frames.implies(alloc, level, clause)? {
+        if level == 0 || frames.implies(frames.allocator(), level, clause)? {
             return Ok(Blocking::Blocked);
         }
         let before = level - 1;
-        match self.inductive(alloc, circuit, frames, before, clause, first, budget)? {
+        match self.inductive(circuit, frames, before, clause, first, budget)? {
             Consecution::Held(part) => {
-                self.learn(
-                    alloc, circuit, frames, failures, before, clause, part, budget,
-                )?;
+                self.learn(circuit, frames, before, clause, part, budget)?;
                 Ok(Blocking::Blocked)
             }
             Consecution::Broken(time) => Ok(Blocking::Predecessor(time)),

@@ -105,7 +105,6 @@ impl<S: PartSat> FrameSolver<S> {
     /// holds after each step from one.
     fn try_clause(
         &mut self,
-        alloc: Global,
         circuit: &Model,
         frames: &mut Frames,
         clause: Seq<StateLit>,
@@ -121,16 +120,15 @@ impl<S: PartSat> FrameSolver<S> {
         if reset_literal(circuit.latches(), clause.as_slice()).is_none() {
             return Ok(());
         }
-        if !self.is_onward(alloc, circuit, frames, 0, clause.as_slice(), budget)? {
+        if !self.is_onward(circuit, frames, 0, clause.as_slice(), budget)? {
             return Ok(());
         }
-        self.add_to_frames(alloc, circuit, frames, 0, clause)
+        self.add_to_frames(circuit, frames, 0, clause)
     }
 
     /// Tries a candidate, where it is a clause over the latches.
     fn try_candidate(
         &mut self,
-        alloc: Global,
         circuit: &Model,
         frames: &mut Frames,
         positions: &[Option<u32>],
@@ -144,10 +142,10 @@ impl<S: PartSat> FrameSolver<S> {
         ensures spends { Spends budget.old budget.new }
         ensures sound { OnOk result (IsSound circuit.now self.new frames.new) }
     {
-        let Some(clause) = state_clause(alloc, positions, candidate)? else {
+        let Some(clause) = state_clause(frames.allocator(), positions, candidate)? else {
             return Ok(());
         };
-        self.try_clause(alloc, circuit, frames, clause, budget)
+        self.try_clause(circuit, frames, clause, budget)
     }
 
     /// Where the first frame behind the initial states is the last one, adds each candidate to it that is a clause
@@ -155,7 +153,6 @@ impl<S: PartSat> FrameSolver<S> {
     /// costs a step of the budget, and a query at most.
     pub(crate) fn try_candidates(
         &mut self,
-        alloc: Global,
         circuit: &Model,
         frames: &mut Frames,
         candidates: &[Seq<Lit>],
@@ -169,13 +166,13 @@ impl<S: PartSat> FrameSolver<S> {
         if frames.top() != 1 {
             return Ok(());
         }
-        let positions = positions_of(alloc, circuit)?;
+        let positions = positions_of(frames.allocator(), circuit)?;
         'trying: for candidate in candidates {
             if !budget.tick() {
                 return Ok(());
             }
             let lits = candidate.as_slice();
-            self.try_candidate(alloc, circuit, frames, &positions, lits, budget)?;
+            self.try_candidate(circuit, frames, &positions, lits, budget)?;
         }
         Ok(())
     }

@@ -128,7 +128,6 @@ impl<S: PartSat> FrameSolver<S> {
     /// the clauses of the frames.
     pub(crate) fn load(
         &mut self,
-        alloc: Global,
         circuit: &Model,
         frames: &Frames,
         levels: u32,
@@ -141,6 +140,7 @@ impl<S: PartSat> FrameSolver<S> {
         ensures room { OnOk result (self.new.next < self.new.room) }
         ensures sound { OnOk result (IsSound circuit.now self.new frames.now) }
     {
+        let alloc = frames.allocator();
         let room = levels + queries(circuit);
         self.transition.load(alloc, circuit, room)?;
         self.levels = levels;
@@ -150,12 +150,7 @@ impl<S: PartSat> FrameSolver<S> {
     }
 
     /// Begins anew where no guard is free.
-    pub(crate) fn make_room(
-        &mut self,
-        alloc: Global,
-        circuit: &Model,
-        frames: &Frames,
-    ) -> Result<(), EngineError>
+    pub(crate) fn make_room(&mut self, circuit: &Model, frames: &Frames) -> Result<(), EngineError>
         requires sound { IsSound circuit.now self.old frames.now }
         ensures sound { OnOk result (IsSound circuit.now self.new frames.now) }
         ensures room { OnOk result (self.new.next < self.new.room) }
@@ -163,13 +158,12 @@ impl<S: PartSat> FrameSolver<S> {
         if self.next < self.room {
             return Ok(());
         }
-        self.load(alloc, circuit, frames, self.levels)
+        self.load(circuit, frames, self.levels)
     }
 
     /// Asks whether the clause holds after each step from a state of the frame.
     pub(crate) fn after(
         &mut self,
-        alloc: Global,
         circuit: &Model,
         frames: &Frames,
         level: u32,
@@ -182,6 +176,7 @@ impl<S: PartSat> FrameSolver<S> {
         ensures sound { OnOk result (IsSound circuit.now self.new frames.now) }
         ensures lawful { IfOk result (IsAfter circuit.now frames.now.entries level clause.now budget.new) }
     {
+        let alloc = frames.allocator();
         let guards = guards_from(alloc, level, frames.top() + 1)?;
         holds_after(
             alloc,
@@ -198,7 +193,6 @@ impl<S: PartSat> FrameSolver<S> {
     /// The query's clause has a guard of its own, the free one that comes next, which is let go afterwards.
     pub(crate) fn relative(
         &mut self,
-        alloc: Global,
         circuit: &Model,
         frames: &Frames,
         level: u32,
@@ -212,6 +206,7 @@ impl<S: PartSat> FrameSolver<S> {
         ensures sound { OnOk result (IsSound circuit.now self.new frames.now) }
         ensures lawful { IfOk result (IsRelative circuit.now frames.now.entries level clause.now budget.new) }
     {
+        let alloc = frames.allocator();
         let guard = self.next;
         self.transition.add(alloc, circuit, guard, clause)?;
         self.next += 1;

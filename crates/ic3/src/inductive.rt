@@ -7,7 +7,6 @@ ghost use Rattle.ic3_frames.specs.Frames.{IsStateClause, HoldsOnward};
 ghost use Rattle.ic3.specs.Sound.{IsSound};
 ghost use Rattle.ic3.specs.Answers.{IsInductiveFrom, IsInductiveAnswer};
 
-use crate::failures::Failures;
 use crate::frame_solver::FrameSolver;
 use crate::order::rarest_first;
 use crate::picked::{with_part, without};
@@ -17,7 +16,6 @@ use graph::{Budget, Model, Seq};
 use ic3_frames::Frames;
 use ic3_step::{Consecution, StateLit};
 use solver::PartSat;
-use std::alloc::Global;
 
 impl<S: PartSat> FrameSolver<S> {
     /// Asks whether the clause, which has a literal that every initial state sets, holds after each
@@ -25,7 +23,6 @@ impl<S: PartSat> FrameSolver<S> {
     /// it is answered, with such a literal (Bradley 2011).
     pub(crate) fn inductive(
         &mut self,
-        alloc: Global,
         circuit: &Model,
         frames: &Frames,
         level: u32,
@@ -41,11 +38,11 @@ impl<S: PartSat> FrameSolver<S> {
         ensures sound { OnOk result (IsSound circuit.now self.new frames.now) }
         ensures lawful { IfOk result (IsInductiveAnswer circuit.now frames.now.entries level clause.now budget.new) }
     {
-        self.make_room(alloc, circuit, frames)?;
-        match self.relative(alloc, circuit, frames, level, clause, budget)? {
+        self.make_room(circuit, frames)?;
+        match self.relative(circuit, frames, level, clause, budget)? {
             Consecution::Held(part) => {
                 let first = reset_literal(circuit.latches(), part.as_slice()).unwrap_or(first);
-                let kept = with_part(alloc, clause, part.as_slice(), first)?;
+                let kept = with_part(frames.allocator(), clause, part.as_slice(), first)?;
                 Ok(Consecution::Held(kept))
             }
             Consecution::Broken(time) => Ok(Consecution::Broken(time)),
@@ -56,7 +53,6 @@ impl<S: PartSat> FrameSolver<S> {
     /// Asks for the clause without the literal of a latch, or for a part of that.
     fn drop_literal(
         &mut self,
-        alloc: Global,
         circuit: &Model,
         frames: &Frames,
         level: u32,
@@ -73,12 +69,12 @@ impl<S: PartSat> FrameSolver<S> {
         if !clause.iter().any(|lit| lit.latch == latch) {
             return Ok(None);
         }
-        let shorter = without(alloc, clause, latch)?;
+        let shorter = without(frames.allocator(), clause, latch)?;
         let Some(first) = reset_literal(circuit.latches(), shorter.as_slice()) else {
             return Ok(None);
         };
         let shorter = shorter.as_slice();
-        match self.inductive(alloc, circuit, frames, level, shorter, first, budget)? {
+        match self.inductive(circuit, frames, level, shorter, first, budget)? {
             Consecution::Held(part) => Ok(Some(part)),
             _ => Ok(None),
         }
@@ -89,7 +85,6 @@ impl<S: PartSat> FrameSolver<S> {
     /// needed in the frame before: none of its literals could be left out there, so most likely it is needed as a whole.
     pub(crate) fn generalize(
         &mut self,
-        alloc: Global,
         circuit: &Model,
         frames: &Frames,
         level: u32,
@@ -103,21 +98,14 @@ impl<S: PartSat> FrameSolver<S> {
         ensures sound { OnOk result (IsSound circuit.now self.new frames.now) }
         ensures inductive { IfOk result (IsInductiveFrom circuit.now frames.now.entries level) }
     {
-        let latches = rarest_first(alloc, frames.uses(), clause.as_slice(), needed)?;
+        let latches = rarest_first(frames.allocator(), frames.uses(), clause.as_slice(), needed)?;
         let mut kept = clause;
         'dropping: for latch in &latches {
             if !budget.tick() {
                 return Ok(kept);
             }
-            match self.drop_literal(
-                alloc,
-                circuit,
-                frames,
-                level,
-                kept.as_slice(),
-                *latch,
-                budget,
-            )? {
+            let whole = kept.as_slice();
+            match self.drop_literal(circuit, frames, level, whole, *latch, budget)? {
                 Some(shorter) => kept = shorter,
                 None => {}
             }
@@ -129,7 +117,6 @@ impl<S: PartSat> FrameSolver<S> {
     /// as the budget goes.
     pub(crate) fn is_onward(
         &mut self,
-        alloc: Global,
         circuit: &Model,
         frames: &Frames,
         level: u32,
@@ -142,44 +129,43 @@ impl<S: PartSat> FrameSolver<S> {
         ensures sound { OnOk result (IsSound circuit.now self.new frames.now) }
         ensures onward { IfOk result (λ b. b ≡ true → HoldsOnward circuit.now frames.now.entries level clause.now) }
     {
-        self.make_room(alloc, circuit, frames)?;
-        match self.relative(alloc, circuit, frames, level, clause, budget)? {
+        self.make_room(circuit, frames)?;
+        match self.relative(circuit, frames, level, clause, budget)? {
             Consecution::Held(_) => Ok(true),
             _ => Ok(false),
         }
     }
 
     /// The last frame below the top from which the clause is inductive, of those one after the
-    /// other. A state of the next one that shows that the clause does not hold after the step from there is noted, so that
-    /// propagation need not ask the same again.
+    /// other. Where it cannot be pushed on from the next one, that failed push is kept, so that propagation need not try it.
     pub(crate) fn furthest(
         &mut self,
-        alloc: Global,
         circuit: &Model,
-        frames: &Frames,
-        failures: &mut Failures,
+        frames: &mut Frames,
         level: u32,
         clause: &[StateLit],
         budget: &mut Budget,
     ) -> Result<u32, EngineError>
-        requires sound { IsSound circuit.now self.old frames.now }
-        requires below { level < frames.now.top }
-        requires inductive { IsInductiveFrom circuit.now frames.now.entries level clause.now }
+        requires sound { IsSound circuit.now self.old frames.old }
+        requires below { level < frames.old.top }
+        requires inductive { IsInductiveFrom circuit.now frames.old.entries level clause.now }
+        ensures frames { frames.new ≡ frames.old }
         ensures spends { Spends budget.old budget.new }
-        ensures sound { OnOk result (IsSound circuit.now self.new frames.now) }
-        ensures below { IfOk result (λ k. k < frames.now.top) }
-        ensures inductive { IfOk result (λ k. IsInductiveFrom circuit.now frames.now.entries k clause.now) }
+        ensures sound { OnOk result (IsSound circuit.now self.new frames.new) }
+        ensures below { IfOk result (λ k. k < frames.new.top) }
+        ensures inductive { IfOk result (λ k. IsInductiveFrom circuit.now frames.new.entries k clause.now) }
     {
         let mut last = level;
-        'advancing: for next in level + 1..frames.top() {
+        'pushing: for next in level + 1..frames.top() {
             if !budget.tick() {
                 return Ok(last);
             }
-            self.make_room(alloc, circuit, frames)?;
-            match self.relative(alloc, circuit, frames, next, clause, budget)? {
+            self.make_room(circuit, frames)?;
+            match self.relative(circuit, frames, next, clause, budget)? {
                 Consecution::Held(_) => last = next,
                 Consecution::Broken(time) => {
-                    failures.note(alloc, next, clause, time.state.as_slice())?;
+                    let pushed = Seq::from_slice(frames.allocator(), clause)?;
+                    frames.add_failed_push(next, pushed, time.state)?;
                     return Ok(last);
                 }
                 Consecution::Spent => return Ok(last),

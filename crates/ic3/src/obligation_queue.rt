@@ -1,86 +1,56 @@
-//! Proof obligations, blocked those of the lowest frame first.
+//! The queue of proof obligations (Een, Mishchenko, Brayton 2011).
 
-ghost use Rattle.std.specs.Prelude.{◌≡◌, ◌≤◌, ◌∷◌, [], true, IfOk, IfSome, OnOk};
-ghost use Rattle.base.specs.Budget.{Spends};
-ghost use Rattle.engine.specs.Findings.{IsForBad};
-ghost use Rattle.graph.specs.Valuation.{Valuation, value_of};
-ghost use Rattle.cnf.specs.Formulas.{bad_literal};
-ghost use Rattle.ic3_step.specs.States.{IsAt};
-ghost use Rattle.ic3.specs.Sound.{IsSound};
-ghost use Rattle.ic3.specs.Cubes.{IsReady};
-ghost use Rattle.ic3.specs.Answers.{IsFound};
+ghost use Rattle.std.specs.Prelude.{◌≡◌, ◌+◌, ◌<◌, ℕ, [], length, replicate, IfOk, IfSome, OnOk, OnErr};
+ghost use Rattle.ic3.specs.Queue.{AreQueued, queued_in, IsEnqueued, IsPopped};
 
-use crate::blocking::Blocking;
-use crate::failures::Failures;
-use crate::frame_solver::FrameSolver;
-use crate::lift::Lifting;
-use crate::obligation::{Obligation, obligation_at, obligation_before};
-use crate::run::run_of;
-use crate::waiting::Waiting;
-use base::push;
-use engine::{EngineError, Finding, Progress, Reason};
-use graph::{Budget, Model};
-use ic3_frames::Frames;
-use ic3_step::Assignment;
-use solver::PartSat;
+use base::{Refused, push};
 use std::alloc::Global;
 
-impl<S: PartSat> FrameSolver<S> {
-    /// Blocks a time of the frame at `level` at which the bad literal is true, and before it its
-    /// predecessors, or finds a run. Each time stands for all states that lead on as its own
-    /// does. Those of the lowest frame go first, and of these the one that came last. What is blocked waits in the
-    /// frame above, so that all of a long way to the bad literal is blocked at once (Een, Mishchenko, Brayton 2011). Each
-    /// obligation that is looked at costs a step of the budget.
-    pub(crate) fn block_obligations<P: Progress>(
-        &mut self,
-        alloc: Global,
-        circuit: &Model,
-        frames: &mut Frames,
-        lifting: &mut Lifting,
-        failures: &mut Failures,
-        level: u32,
-        time: Assignment,
-        progress: &mut P,
-        budget: &mut Budget,
-    ) -> Result<Option<Finding>, EngineError>
-        requires for_bad { IsForBad circuit.now }
-        requires sound { IsSound circuit.now self.old frames.old }
-        requires ready { IsReady circuit.now lifting.old }
-        requires below { level ≤ frames.old.top }
-        requires at { (w : Valuation) × IsAt circuit.now (bad_literal circuit.now 0 ∷ []) w time × (value_of w (bad_literal circuit.now 0) ≡ true) }
-        ensures spends { Spends budget.old budget.new }
-        ensures sound { OnOk result (IsSound circuit.now self.new frames.new) }
-        ensures ready { OnOk result (IsReady circuit.now lifting.new) }
-        ensures lawful { IfOk result (λ r. IfSome r (IsFound circuit.now budget.new)) }
+/// The obligations that are to be blocked in each frame, by their indices, the one that was added last at the end.
+#[derive(Drop)]
+pub(crate) struct ObligationQueue {
+    frames: Vec<Vec<usize>>,
+}
+
+impl ObligationQueue {
+    /// The empty queue of the frames up to the top.
+    pub(crate) fn new(alloc: Global, top: u32) -> Result<ObligationQueue, Refused>
+        ensures frames { IfOk result (λ w. length w.frames.items ≡ top + 1) }
+        ensures none { (count : ℕ) → IfOk result (AreQueued count) }
+        ensures empty { IfOk result (λ w. queued_in w ≡ replicate (top + 1) []) }
     {
-        let mut found: Vec<Obligation> = Vec::new(alloc);
-        let mut waiting = Waiting::new(alloc, frames.top())?;
-        let bad = obligation_at(alloc, circuit, lifting, time)?;
-        waiting.put(level, 0)?;
-        push(&mut found, bad)?;
-        'blocking: while budget.tick() {
-            let Some((level, index)) = waiting.take() else {
-                return Ok(None);
-            };
-            progress.asked(budget);
-            let clause = found[index].clause.as_slice();
-            match self.block(alloc, circuit, frames, failures, level, clause, budget)? {
-                Blocking::Initial => {
-                    let run = run_of(alloc, circuit, found.as_slice(), index)?;
-                    return Ok(Some(run));
-                }
-                Blocking::Blocked if level < frames.top() => waiting.put(level + 1, index)?,
-                Blocking::Blocked => {}
-                Blocking::Predecessor(time) => {
-                    let after = &found[index];
-                    let before = obligation_before(alloc, circuit, lifting, time, after, index)?;
-                    waiting.put(level, index)?;
-                    waiting.put(level.saturating_sub(1), found.len())?;
-                    push(&mut found, before)?;
-                }
-                Blocking::Spent => return Ok(Some(Finding::Unknown(Reason::Budget))),
+        let mut frames = Vec::new(alloc);
+        'opening: for _ in 0..top as usize + 1 {
+            push(&mut frames, Vec::new(alloc))?;
+        }
+        Ok(ObligationQueue { frames })
+    }
+
+    /// Adds the obligation with this index to a frame, where it is the first to be popped. A refusal changes nothing.
+    pub(crate) fn add(&mut self, level: u32, index: usize) -> Result<(), Refused>
+        requires { level < length self.old.frames.items }
+        ensures frames { length self.new.frames.items ≡ length self.old.frames.items }
+        ensures queued { (count : ℕ) → AreQueued count self.old → index < count → OnOk result (AreQueued count self.new) }
+        ensures added { OnOk result (IsEnqueued (queued_in self.old) (queued_in self.new) level index) }
+        ensures err { OnErr result (queued_in self.new ≡ queued_in self.old) }
+    {
+        push(&mut self.frames[level as usize], index)
+    }
+
+    /// Pops the obligation that was added last of those in the lowest frame that has one. There is none only where the queue is empty.
+    pub(crate) fn pop_min(&mut self) -> Option<(u32, usize)>
+        requires { length self.old.frames.items < 4294967296 }
+        ensures frames { length self.new.frames.items ≡ length self.old.frames.items }
+        ensures level { IfSome result (λ r. r.0 < length self.old.frames.items) }
+        ensures queued { (count : ℕ) → AreQueued count self.old → AreQueued count self.new }
+        ensures index { (count : ℕ) → AreQueued count self.old → IfSome result (λ r. r.1 < count) }
+        ensures popped { IsPopped (queued_in self.old) (queued_in self.new) result }
+    {
+        'looking: for level in 0..self.frames.len() {
+            if let Some(index) = self.frames[level].pop() {
+                return Some((level as u32, index));
             }
         }
-        Ok(Some(Finding::Unknown(Reason::Budget)))
+        None
     }
 }

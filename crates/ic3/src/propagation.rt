@@ -5,24 +5,20 @@ ghost use Rattle.base.specs.Budget.{Spends};
 ghost use Rattle.engine.specs.Findings.{IsInvariant};
 ghost use Rattle.ic3.specs.Sound.{IsSound};
 
-use crate::failures::Failures;
 use crate::frame_solver::FrameSolver;
 use engine::EngineError;
 use graph::{Budget, Lit, Model, Seq};
 use ic3_frames::Frames;
 use ic3_step::Consecution;
 use solver::PartSat;
-use std::alloc::Global;
 
 impl<S: PartSat> FrameSolver<S> {
     /// Propagates the clause at a place to the next frame, if it ends at the level and holds after
     /// each step from there; those that it subsumes there are dropped. It answers the place of the clause that comes next.
     fn propagate_clause(
         &mut self,
-        alloc: Global,
         circuit: &Model,
         frames: &mut Frames,
-        failures: &mut Failures,
         level: u32,
         place: usize,
         budget: &mut Budget,
@@ -34,15 +30,16 @@ impl<S: PartSat> FrameSolver<S> {
         ensures spends { Spends budget.old budget.new }
         ensures sound { OnOk result (IsSound circuit.now self.new frames.new) }
     {
+        let alloc = frames.allocator();
         let entry = &frames.entries()[place];
         if entry.level != level {
             return Ok(place + 1);
         }
         let clause = entry.clause.as_slice();
-        if failures.is_known(frames.entries(), level, clause) {
+        if frames.push_fails_again(level, clause) {
             return Ok(place + 1);
         }
-        match self.after(alloc, circuit, frames, level, clause, budget)? {
+        match self.after(circuit, frames, level, clause, budget)? {
             Consecution::Held(_) => {
                 self.add_clause(alloc, circuit, level + 1, clause)?;
                 self.count_propagated();
@@ -50,7 +47,8 @@ impl<S: PartSat> FrameSolver<S> {
                 Ok(kept + 1)
             }
             Consecution::Broken(time) => {
-                failures.note(alloc, level, clause, time.state.as_slice())?;
+                let pushed = Seq::from_slice(alloc, clause)?;
+                frames.add_failed_push(level, pushed, time.state)?;
                 Ok(place + 1)
             }
             Consecution::Spent => Ok(place + 1),
@@ -61,10 +59,8 @@ impl<S: PartSat> FrameSolver<S> {
     /// step from there. Each clause of the frames costs a step of the budget.
     fn propagate_level(
         &mut self,
-        alloc: Global,
         circuit: &Model,
         frames: &mut Frames,
-        failures: &mut Failures,
         level: u32,
         budget: &mut Budget,
     ) -> Result<(), EngineError>
@@ -79,8 +75,8 @@ impl<S: PartSat> FrameSolver<S> {
             if !budget.tick() {
                 return Ok(());
             }
-            self.make_room(alloc, circuit, frames)?;
-            place = self.propagate_clause(alloc, circuit, frames, failures, level, place, budget)?;
+            self.make_room(circuit, frames)?;
+            place = self.propagate_clause(circuit, frames, level, place, budget)?;
         }
         Ok(())
     }
@@ -89,10 +85,8 @@ impl<S: PartSat> FrameSolver<S> {
     /// invariant.
     pub(crate) fn propagate(
         &mut self,
-        alloc: Global,
         circuit: &Model,
         frames: &mut Frames,
-        failures: &mut Failures,
         budget: &mut Budget,
     ) -> Result<Option<Seq<Seq<Lit>>>, EngineError>
         requires sound { IsSound circuit.now self.old frames.old }
@@ -100,10 +94,9 @@ impl<S: PartSat> FrameSolver<S> {
         ensures sound { OnOk result (IsSound circuit.now self.new frames.new) }
         ensures invariant { IfOk result (λ r. IfSome r (IsInvariant circuit.now)) }
     {
-        failures.trim(frames.entries());
         'propagating: for level in 1..frames.top() {
-            self.propagate_level(alloc, circuit, frames, failures, level, budget)?;
-            match frames.invariant_at(alloc, circuit, level)? {
+            self.propagate_level(circuit, frames, level, budget)?;
+            match frames.invariant_at(frames.allocator(), circuit, level)? {
                 Some(clauses) => return Ok(Some(clauses)),
                 None => {}
             }

@@ -11,7 +11,7 @@ use solver::PartSat;
 use std::alloc::Global;
 
 impl<S: PartSat> FrameSolver<S> {
-    /// The clauses of an invariant that the proof needs, in their order. It asks a question for each of them, and one
+    /// The clauses of an invariant that the proof needs, in their order. It asks a query for each of them, and one
     /// more. Where the budget does not suffice, all clauses stay. The frames are to be loaded again after that.
     pub(crate) fn reduced(
         &mut self,

@@ -48,7 +48,7 @@ fn reset_state(alloc: Global, latches: &[Latch], state: &[bool]) -> Result<Seq<b
 /// The inputs of an obligation and of those to which it leads, one after the other.
 fn lines_of(alloc: Global, found: &[Obligation], from: usize) -> Result<Seq<Seq<bool>>, Refused>
     requires from { from < length found.now }
-    requires lead { (m : Parts) × AreObligations m found.now }
+    requires obligations { (m : Parts) × AreObligations m found.now }
     ensures { (m : Parts) (d : Obligation) → AreObligations m found.now → IfOk result (IsWay m (slice_index_or found.now from d)) }
 {
     let mut lines = Seq::new(alloc);

@@ -10,7 +10,6 @@ ghost use Rattle.ic3.specs.Cubes.{IsReady};
 ghost use Rattle.ic3.specs.Answers.{IsDeep, IsFound};
 
 use crate::bad::AtBad;
-use crate::failures::Failures;
 use crate::frame_solver::FrameSolver;
 use crate::lift::Lifting;
 use engine::{EngineError, Finding, Progress, Reason};
@@ -28,12 +27,7 @@ const MOST_DOUBLED: u32 = 1_000_000_000;
 impl<S: PartSat> FrameSolver<S> {
     /// Opens the next frame. Where it has no guard, the circuit is loaded again, for twice as many
     /// levels. With a thousand million frames there are no more: then it changes nothing and answers false.
-    fn open_next(
-        &mut self,
-        alloc: Global,
-        circuit: &Model,
-        frames: &mut Frames,
-    ) -> Result<bool, EngineError>
+    fn open_next(&mut self, circuit: &Model, frames: &mut Frames) -> Result<bool, EngineError>
         requires sound { IsSound circuit.now self.old frames.old }
         requires excluded { Excludes circuit.now (bad_literal circuit.now 0) frames.old.entries frames.old.top }
         ensures sound { OnOk result (IsSound circuit.now self.new frames.new) }
@@ -46,19 +40,17 @@ impl<S: PartSat> FrameSolver<S> {
         if self.levels > MOST_DOUBLED {
             return Ok(false);
         }
-        self.load(alloc, circuit, frames, self.levels * 2)?;
+        self.load(circuit, frames, self.levels * 2)?;
         frames.open();
         Ok(true)
     }
 
     /// Propagates clauses to the frame that was opened, the first time with the candidates, until one frame is the
     /// same as the next: that one is an invariant.
-    fn advance<P: Progress>(
+    fn propagation_phase<P: Progress>(
         &mut self,
-        alloc: Global,
         circuit: &Model,
         frames: &mut Frames,
-        failures: &mut Failures,
         candidates: &[Seq<Lit>],
         progress: &mut P,
         budget: &mut Budget,
@@ -68,20 +60,18 @@ impl<S: PartSat> FrameSolver<S> {
         ensures sound { OnOk result (IsSound circuit.now self.new frames.new) }
         ensures invariant { IfOk result (λ r. IfSome r (IsInvariant circuit.now)) }
     {
-        progress.opened(frames.top(), frames.entries().len(), budget);
-        self.try_candidates(alloc, circuit, frames, candidates, budget)?;
-        self.propagate(alloc, circuit, frames, failures, budget)
+        progress.frame_opened(frames.top(), frames.entries().len(), budget);
+        self.try_candidates(circuit, frames, candidates, budget)?;
+        self.propagate(circuit, frames, budget)
     }
 
     /// Looks for an invariant that excludes the bad literal, or for a run that sets it, from frames
     /// whose clauses the solver has.
     fn search_from<P: Progress>(
         &mut self,
-        alloc: Global,
         circuit: &Model,
         frames: &mut Frames,
         lifting: &mut Lifting,
-        failures: &mut Failures,
         candidates: &[Seq<Lit>],
         progress: &mut P,
         budget: &mut Budget,
@@ -93,26 +83,28 @@ impl<S: PartSat> FrameSolver<S> {
         ensures found { IfOk result (IsFound circuit.now budget.new) }
     {
         'searching: while budget.tick() {
-            progress.asked(budget);
-            match self.at_bad(alloc, circuit, frames, budget)? {
+            progress.query_asked(budget);
+            match self.at_bad(circuit, frames, budget)? {
                 AtBad::Set(time) => {
-                    let top = frames.top();
                     match self.block_obligations(
-                        alloc, circuit, frames, lifting, failures, top, time, progress, budget,
+                        circuit, frames, lifting, time, progress, budget,
                     )? {
                         Some(finding) => return Ok(finding),
                         None => {}
                     }
                 }
                 AtBad::Excluded => {
-                    if !self.open_next(alloc, circuit, frames)? {
+                    if !self.open_next(circuit, frames)? {
                         return Ok(Finding::Unknown(Reason::Depth(frames.top())));
                     }
-                    match self.advance(
-                        alloc, circuit, frames, failures, candidates, progress, budget,
-                    )? {
+                    match self.propagation_phase(circuit, frames, candidates, progress, budget)? {
                         Some(clauses) => {
-                            let needed = self.reduced(alloc, circuit, clauses, budget)?;
+                            let needed = self.reduced(
+                                frames.allocator(),
+                                circuit,
+                                clauses,
+                                budget,
+                            )?;
                             return Ok(Finding::Invariant(needed));
                         }
                         None => {}
@@ -139,16 +131,13 @@ impl<S: PartSat> FrameSolver<S> {
         ensures found { IfOk result (IsFound circuit.now budget.new) }
     {
         let mut frames = Frames::first(alloc, circuit)?;
-        self.load(alloc, circuit, &frames, LEVELS)?;
+        self.load(circuit, &frames, LEVELS)?;
         let mut lifting = Lifting::new(alloc, circuit)?;
-        let mut failures = Failures::new(alloc);
-        progress.opened(frames.top(), frames.entries().len(), budget);
+        progress.frame_opened(frames.top(), frames.entries().len(), budget);
         self.search_from(
-            alloc,
             circuit,
             &mut frames,
             &mut lifting,
-            &mut failures,
             candidates,
             progress,
             budget,

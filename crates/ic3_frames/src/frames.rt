@@ -11,6 +11,7 @@ ghost use Rattle.ic3_frames.specs.Frames.{InFrame, AreFrames, AreWithin, Exclude
 ghost use Rattle.ic3_frames.specs.Resets.{IsInitialState};
 
 use crate::activities::Activities;
+use crate::failed_pushes::FailedPushes;
 use crate::invariant::{clauses_above, is_left};
 use crate::marks::Marks;
 use crate::resets::reset_entries;
@@ -38,6 +39,7 @@ pub struct Frames {
     top: u32,
     activities: Activities,
     uses: Uses,
+    failed_pushes: FailedPushes,
 }
 
 impl std::marker::Model for Frames {
@@ -71,7 +73,13 @@ impl Frames {
             top: 0,
             activities,
             uses,
+            failed_pushes: FailedPushes::new(alloc),
         })
+    }
+
+    /// The allocator of the clauses.
+    pub fn allocator(&self) -> Global {
+        *self.entries.allocator()
     }
 
     /// The greatest frame, which is open.
@@ -88,7 +96,7 @@ impl Frames {
         self.entries.as_slice()
     }
 
-    /// How active each latch is, by its position: the more, the more clauses with it were added, and the later. A question
+    /// How active each latch is, by its position: the more, the more clauses with it were added, and the later. A query
     /// about a clause assumes the most active first. Nothing else rests on it.
     pub fn activities(&self) -> &[u64] {
         self.activities.values()
@@ -98,6 +106,26 @@ impl Frames {
     /// first. Nothing else rests on it.
     pub fn uses(&self) -> &[u32] {
         self.uses.values()
+    }
+
+    /// Whether the clause could not be pushed from the frame at this level, by a state that still lies in the frame, so that it
+    /// cannot be pushed now. It costs the clauses of the frames and the failed pushes. Nothing else rests on it.
+    pub fn push_fails_again(&self, level: u32, clause: &[StateLit]) -> bool {
+        let entries = self.entries.as_slice();
+        self.failed_pushes.fails_again(entries, level, clause)
+    }
+
+    /// Keeps that the clause could not be pushed from the frame at this level, by this state: a counterexample to induction. It
+    /// costs the failed pushes.
+    pub fn add_failed_push(
+        &mut self,
+        level: u32,
+        clause: Seq<StateLit>,
+        state: Seq<bool>,
+    ) -> Result<(), Refused>
+        ensures { self.new ≡ self.old }
+    {
+        self.failed_pushes.add(level, clause, state)
     }
 
     /// Whether a clause of the frame at `level` is part of this one, which then holds in each of its states. It costs a look at
@@ -187,7 +215,7 @@ impl Frames {
         ))
     }
 
-    /// Opens the next frame.
+    /// Opens the next frame, and forgets the failed pushes where they are many more than the clauses.
     pub fn open(&mut self)
         requires { self.old.top < 4294967295 }
         ensures entries { self.new.entries ≡ self.old.entries }
@@ -195,6 +223,7 @@ impl Frames {
         ensures laws { (m : Parts) (bad : Lit) → AreFrames m bad self.old → Excludes m bad self.old.entries self.old.top → AreFrames m bad self.new }
     {
         self.top += 1;
+        self.failed_pushes.trim(self.entries.as_slice());
     }
 
     /// The invariant that the frame above `level` is, where it is the same as the frame at `level`,

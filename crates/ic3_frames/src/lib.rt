@@ -5,10 +5,12 @@
 //! constraints ends in frame k. Where no clause ends at a level, the frame is the same as the next,
 //! and its clauses are an invariant.
 //!
-//! No solver is asked here: the contracts say what a solver has to have answered before.
+//! No solver is asked here: the contracts say what a solver has to have answered before. Which latches are active or often
+//! used and which pushes failed is kept beside the clauses: it steers a search, and no contract speaks of it.
 #![tactic(auto)]
 
 mod activities;
+mod failed_pushes;
 mod frames;
 mod invariant;
 mod marks;

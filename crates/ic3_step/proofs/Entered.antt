@@ -13,7 +13,7 @@ use Rattle.cones.specs.Reach.{IsGateTable, gate_at, gates_in}
 use Rattle.cones.proofs.Tabled.{blank}
 use Rattle.solver.specs.declared.part.AndGate.{AndGate}
 use Rattle.solver.specs.Parts.{IsAnd}
-use Rattle.ic3_step.specs.Questions.{and_gate, IsSameAnd, and_at, ands_in, HasAnd, ArePartGates}
+use Rattle.ic3_step.specs.Queries.{and_gate, IsSameAnd, and_at, ands_in, HasAnd, ArePartGates}
 
 -- the first k gates are in the table
 pub record AreEntered (gates : List Gate) (n : ℕ) (table : List (Option AndGate)) (k : ℕ) : Type 0 where

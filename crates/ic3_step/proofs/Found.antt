@@ -20,7 +20,7 @@ use Rattle.cones.proofs.Lifted.{same_at_cone, agrees_on}
 use Rattle.solver.specs.Answers.{values}
 use Rattle.ic3_step.specs.declared.reply.Reply.TheVariants.{Found}
 use Rattle.ic3_step.specs.States.{Guarded}
-use Rattle.ic3_step.specs.Questions.{IsPartFor}
+use Rattle.ic3_step.specs.Queries.{IsPartFor}
 use Rattle.solver.specs.declared.part.Part.{Part}
 use Rattle.solver.specs.Parts.{IsPartModel}
 use Rattle.ic3_step.proofs.Parted.{part_clauses, part_satisfied, part_gates, part_constraints}

@@ -24,7 +24,7 @@ use Rattle.cones.proofs.Assigned.{contains_flat}
 use Rattle.ic3_step.specs.declared.state.StateLit.{StateLit}
 use Rattle.ic3_step.specs.declared.cone.Cone.{Cone}
 use Rattle.ic3_step.specs.States.{Guarded}
-use Rattle.ic3_step.specs.Questions.{IsUnasked, ArePartGates}
+use Rattle.ic3_step.specs.Queries.{IsUnasked, ArePartGates}
 use Rattle.ic3_step.specs.Contents.{Contents, guard_literal, latch_literal, state_literal, guarded_clause, IsGrown, IsMoreOf, IsLoaded, HasGuards}
 use Rattle.ic3_step.specs.Readings.{assumptions_of}
 use Rattle.ic3_step.proofs.Valued.{known_in_range}

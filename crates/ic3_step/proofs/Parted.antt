@@ -25,7 +25,7 @@ use Rattle.solver.specs.Answers.{values, AreTrue}
 use Rattle.solver.specs.declared.part.AndGate.{AndGate}
 use Rattle.solver.specs.declared.part.Part.{Part}
 use Rattle.solver.specs.Parts.{IsAnd, IsPartModel}
-use Rattle.ic3_step.specs.Questions.{and_gate, ands_in, ArePartGates, IsPartFor}
+use Rattle.ic3_step.specs.Queries.{and_gate, ands_in, ArePartGates, IsPartFor}
 use Rattle.ic3_step.proofs.Entered.{ands_to, ands_from}
 use Rattle.ic3_step.proofs.Latched.{to_map}
 

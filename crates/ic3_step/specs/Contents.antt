@@ -10,7 +10,7 @@ use Rattle.cones.specs.Reach.{IsGateTable}
 use Rattle.cones.specs.Partial.{HasGates, HasConstraints}
 use Rattle.ic3_step.specs.declared.cone.Cone.{Cone}
 use Rattle.ic3_step.specs.declared.state.StateLit.{StateLit}
-use Rattle.ic3_step.specs.Questions.{IsUnasked, ArePartGates}
+use Rattle.ic3_step.specs.Queries.{IsUnasked, ArePartGates}
 use Rattle.ic3_step.specs.States.{Guarded}
 
 -- a solver's greatest variable, its clauses, and the cone that it was asked about

@@ -1,6 +1,6 @@
 pub mod States
 pub mod Replies
-pub mod Questions
+pub mod Queries
 pub mod Contents
 pub mod Readings
 pub mod Steps

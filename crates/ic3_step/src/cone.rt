@@ -9,10 +9,10 @@ ghost use Rattle.cones.specs.Marks.{IsMarked};
 ghost use Rattle.cones.specs.Reach.{IsGateTable};
 ghost use Rattle.ic3_step.specs.Replies.{IsUsable};
 ghost use Rattle.ic3_step.specs.Contents.{IsGrown, IsMoreOf};
-ghost use Rattle.ic3_step.specs.Questions.{IsUnasked, ArePartGates, IsPartFor};
+ghost use Rattle.ic3_step.specs.Queries.{IsUnasked, ArePartGates, IsPartFor};
 
 use crate::part_gates::PartGates;
-use crate::question::part_of;
+use crate::query::part_of;
 use base::{Refused, filled};
 use cnf::TimeFrame;
 use cones::{GateTable, grow_cone};
@@ -26,7 +26,7 @@ use std::alloc::Global;
 pub(crate) struct Cone {
     pub table: GateTable,
     pub marks: Vec<bool>,
-    /// a mark for each variable, of which none is set between two questions
+    /// a mark for each variable, of which none is set between two queries
     pub asked: Vec<bool>,
     /// the gates as a part has them
     pub part_gates: PartGates,

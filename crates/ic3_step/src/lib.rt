@@ -21,7 +21,7 @@ mod encoding;
 mod lookup;
 mod order;
 mod part_gates;
-mod question;
+mod query;
 mod reading;
 mod reply;
 mod state;

@@ -1,4 +1,4 @@
-//! The order in which a question's literals are assumed.
+//! The order in which a query's literals are assumed.
 
 ghost use Rattle.std.specs.Prelude.{IfOk};
 ghost use Rattle.std.specs.List.Sorted.{IsPermutation};

@@ -2,7 +2,7 @@
 
 ghost use Rattle.std.specs.Prelude.{◌≡◌, ◌+◌, ◌<◌, ◌^◌, IfOk};
 ghost use Rattle.cnf.specs.Formulas.{IsGateIn};
-ghost use Rattle.ic3_step.specs.Questions.{IsSameAnd, ArePartGates, and_gate, and_at, ands_in};
+ghost use Rattle.ic3_step.specs.Queries.{IsSameAnd, ArePartGates, and_gate, and_at, ands_in};
 
 use crate::costs::{cheaper_first, costs_of};
 use base::{Refused, filled, push};

@@ -15,7 +15,7 @@ use Rattle.cnf.specs.Invariants.{AreContradictory, IsInductive}
 use Rattle.cnf.proofs.Listed.{satisfied-units}
 use Rattle.inductive_subset.specs.declared.needed.Needed.{Needed}
 use Rattle.inductive_subset.specs.Guards.{IsMarked, IsFor}
-use Rattle.inductive_subset.specs.Subsets.{IsExcluded, IsHeld, AreMarked}
+use Rattle.inductive_subset.specs.Subsets.{IsExcluded, IsHeld, AreMarked, HoldAtFirst}
 
 -- a marked place has a clause
 marked_inside : (marks : List Bool) (n i : ℕ) → length marks ≡ n → IsMarked marks i → i < n
@@ -46,11 +46,11 @@ marked_among inv marks cs are k d k_in =
     let one = are.only k d k_in in
     subst (Contains inv) one.3 (Contains-get_or inv one.0 [] one.1)
 
--- and inductive, as far as the invariant is
+-- and inductive, as far as the invariant holds at first
 pub marked_inductive : (m : Parts) (inv : List (List Lit)) (bad : Lit) (n : Needed) (cs : List (List Lit)) → IsFor (length inv) n → IsExcluded m inv n.marks.items (bad_units m bad) →
-    All (IsHeld m inv n.marks.items) n.order.items → AreMarked inv n.marks.items cs → IsInductive m inv bad → IsInductive m cs bad
-marked_inductive m inv bad n cs for excluded held are inductive = record {
-  begins = λ k d k_in. All-contains (λ c. AreContradictory (init_clauses m c)) inv (get_or cs k d) inductive.begins (marked_among inv n.marks.items cs are k d k_in);
+    All (IsHeld m inv n.marks.items) n.order.items → AreMarked inv n.marks.items cs → HoldAtFirst m inv → IsInductive m cs bad
+marked_inductive m inv bad n cs for excluded held are begins = record {
+  begins = λ k d k_in. All-contains (λ c. AreContradictory (init_clauses m c)) inv (get_or cs k d) begins (marked_among inv n.marks.items cs are k d k_in);
   goes_on = λ k d k_in.
       let one = are.only k d k_in in
       let i : ℕ = one.0 in

@@ -4,8 +4,9 @@ use Rattle.graph.specs.declared.circuit.Lit.{Lit}
 use Rattle.graph.specs.declared.parts.Parts.{Parts}
 use Rattle.lrat.specs.Literals.{IsSatisfied}
 use Rattle.solver.specs.Answers.{AreTrue}
-use Rattle.cnf.specs.Clauses.{literal, time_clauses, step_units}
+use Rattle.cnf.specs.Clauses.{literal, time_clauses, init_clauses, step_units}
 use Rattle.cnf.specs.Formulas.{clause_at}
+use Rattle.cnf.specs.Invariants.{AreContradictory}
 use Rattle.cnf.specs.Meaning.{AreSatisfied}
 use Rattle.inductive_subset.specs.Guards.{IsMarked}
 
@@ -22,3 +23,7 @@ IsHeld m inv marks i = IsExcluded m inv marks (step_units m (clause_at inv i))
 pub record AreMarked (inv : List (List Lit)) (marks : List Bool) (cs : List (List Lit)) : Type 0 where
   pub each : (i : ℕ) → i < length inv → IsMarked marks i → Contains cs (clause_at inv i)
   pub only : All (λ c. (i : ℕ) × (i < length inv) × IsMarked marks i × (clause_at inv i ≡ c)) cs
+
+-- each of the clauses holds in every first state
+abbrev pub HoldAtFirst : Parts → List (List Lit) → Type 0
+HoldAtFirst m inv = All (λ c. AreContradictory (init_clauses m c)) inv

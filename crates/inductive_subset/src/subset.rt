@@ -6,7 +6,7 @@ ghost use Rattle.graph.specs.WellFormed.{used};
 ghost use Rattle.cnf.specs.Formulas.{IsOverLatches};
 ghost use Rattle.cnf.specs.Invariants.{IsInductive};
 ghost use Rattle.inductive_subset.specs.Guards.{IsLoaded, IsMarked, IsFor};
-ghost use Rattle.inductive_subset.specs.Subsets.{IsHeld, AreMarked};
+ghost use Rattle.inductive_subset.specs.Subsets.{IsHeld, AreMarked, HoldAtFirst};
 
 use crate::asking::ask;
 use crate::loading::load;
@@ -69,9 +69,9 @@ fn close<S: Sat>(
     Ok(false)
 }
 
-/// Clauses of the invariant, in their order, that are inductive and exclude the bad literal by themselves. None where
-/// the clauses are found to be no such invariant, where the budget is exhausted, or where the solver has not as many
-/// variables as they need.
+/// Clauses of the invariant, in their order, that are inductive and exclude the bad literal by themselves, where each
+/// clause of the invariant holds in every first state, which is not asked here. None where the clauses are found to be no
+/// such invariant, where the budget is exhausted, or where the solver has not as many variables as they need.
 pub fn safe_inductive_subset<S: Sat>(
     solver: &mut S,
     alloc: Global,
@@ -84,6 +84,7 @@ pub fn safe_inductive_subset<S: Sat>(
     requires bad { Contains (used circuit.now) bad }
     ensures spends { Spends budget.old budget.new }
     ensures among { IfOk result (λ r. IfSome r (λ cs. All (Contains invariant.now) cs)) }
+    ensures shown { IfOk result (λ r. IfSome r (λ cs. HoldAtFirst circuit.now invariant.now → IsInductive circuit.now cs bad)) }
     ensures inductive { IfOk result (λ r. IfSome r (λ cs. IsInductive circuit.now invariant.now bad → IsInductive circuit.now cs bad)) }
 {
     circuit.well_formed();

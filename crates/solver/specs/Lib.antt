@@ -3,3 +3,4 @@ pub mod Branches
 pub mod Full
 pub mod Numbers
 pub mod Parts
+pub mod Values

@@ -22,6 +22,7 @@ mod plain;
 mod sat;
 mod sat_error;
 mod search;
+mod values;
 
 pub use answer::Answer;
 pub use full::{Full, Taken};
@@ -30,3 +31,4 @@ pub use part_sat::PartSat;
 pub use plain::Plain;
 pub use sat::Sat;
 pub use sat_error::SatError;
+pub use values::{are_true, fits_gates, is_true};

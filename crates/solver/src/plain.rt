@@ -1,18 +1,22 @@
 //! A solver by backtracking.
 
-ghost use Rattle.std.specs.Prelude.{◌≡◌, ◌≤◌, ◌++◌, ◌∷◌, [], length, All, IfOk, IfErr, OnOk, OnErr};
+ghost use Rattle.std.specs.Prelude.{◌≡◌, ◌≤◌, ◌++◌, ◌∷◌, [], ℕ, ℤ, List, length, All, IfOk, IfErr, OnOk, OnErr};
 ghost use Rattle.base.specs.Budget.{Spends};
 ghost use Rattle.base.specs.Witness.{witness};
 ghost use Rattle.lrat.specs.Literals.{IsLiteral};
 ghost use Rattle.solver.specs.Answers.{IsLawful};
+ghost use Rattle.solver.specs.Parts.{IsLawfulPart};
 ghost use Rattle.solver.specs.declared.sat_error.SatError.TheVariants.{Limit, OutOfMemory};
 ghost use Rattle.solver.specs.Full.{full};
 
 use crate::answer::Answer;
 use crate::full::Taken;
+use crate::part::Part;
+use crate::part_sat::PartSat;
 use crate::sat::Sat;
 use crate::sat_error::SatError;
 use crate::search::search;
+use crate::values::{are_true, fits_gates};
 use base::{Budget, Seq};
 use lrat::{Clause, Formula};
 use std::alloc::Global;
@@ -49,6 +53,30 @@ impl Plain {
             },
         }
     }
+}
+
+/// Spends all steps that are left.
+fn exhaust(budget: &mut Budget)
+    ensures spends { Spends budget.old budget.new }
+    ensures none { budget.new.left ≡ 0 }
+{
+    'exhausting: while budget.tick() {}
+}
+
+/// What an answer by all clauses says of a part: a model that doesn't fit it is none, and the budget is exhausted.
+fn answer_of(answer: Answer, part: &Part, budget: &mut Budget) -> Answer
+    ensures spends { Spends budget.old budget.new }
+    ensures lawful { (n : ℕ) (cs : List (List ℤ)) (assume : List ℤ) → IsLawful n cs assume budget.old answer → IsLawfulPart n cs part.now assume budget.new result }
+{
+    let Answer::Model(values) = answer else {
+        return answer;
+    };
+    let fits = fits_gates(values.as_slice(), part.gates.as_slice());
+    if fits && are_true(values.as_slice(), part.literals.as_slice()) {
+        return Answer::Model(values);
+    }
+    exhaust(budget);
+    Answer::Spent
 }
 
 impl Sat for Plain {
@@ -107,5 +135,26 @@ impl Sat for Plain {
             assume,
             budget,
         )
+    }
+}
+
+impl PartSat for Plain {
+    /// By all clauses. Where the values that satisfy them don't fit the part, the budget is exhausted.
+    fn solve_part(
+        &mut self,
+        alloc: Global,
+        part: &Part,
+        assume: &[i32],
+        budget: &mut Budget,
+    ) -> Result<Answer, SatError>
+        requires { All (IsLiteral self.old.vars) assume.now }
+        ensures vars { self.new.vars ≡ self.old.vars }
+        ensures clauses { self.new.clauses ≡ self.old.clauses }
+        ensures spends { Spends budget.old budget.new }
+        ensures lawful { IfOk result (IsLawfulPart self.old.vars self.old.clauses part.now assume.now budget.new) }
+        ensures refused { IfErr result (λ e. e ≡ OutOfMemory witness) }
+    {
+        let answer = self.solve(alloc, assume, budget)?;
+        Ok(answer_of(answer, part, budget))
     }
 }

@@ -23,7 +23,7 @@ use Rattle.engine.specs.declared.finding.Finding.{Finding}
 use Rattle.engine.specs.declared.finding.Finding.TheVariants as finding
 use Rattle.engine.specs.declared.finding.Reason.{Reason}
 use Rattle.engine.specs.declared.finding.Reason.TheVariants.{NoEvidence}
-use Rattle.verdict.specs.Asked.{AskedInOrder, HaveTold, IsHeard, IsOfClauses, IsOfReplay, IsOfRun, Stops}
+use Rattle.verdict.specs.Asked.{AskedInOrder, HaveTold, IsVerdictOf, IsOfClauses, IsOfReplay, IsOfRun, Stops}
 use Rattle.verdict.specs.Causes.{of_certify}
 use Rattle.verdict.specs.Reasons.{reason_in, reason_of, weightier_of}
 use Rattle.verdict.specs.Verdicts.{IsBacked, IsMeant, IsUnsafe, IsViolation, IsWhy}
@@ -34,9 +34,9 @@ use Rattle.verdict.specs.declared.verdict.Verdict.TheVariants.{Safe, Unsafe, Unk
 
 -- ---- what comes of one answer
 
-pub heard_unknown : (answers : Steps → Result Finding EngineError → Steps → Type 0) (m : Parts) (p : Property) (before left : Steps) (f : Finding) (reason : Reason) → answers before (Ok f) left →
-    f ≡ finding.Unknown reason → IsHeard answers m p before (Ok (Unknown reason)) left
-heard_unknown answers m p before left f reason answered is =
+pub answered_unknown : (answers : Steps → Result Finding EngineError → Steps → Type 0) (m : Parts) (p : Property) (before left : Steps) (f : Finding) (reason : Reason) → answers before (Ok f) left →
+    f ≡ finding.Unknown reason → IsVerdictOf answers m p before (Ok (Unknown reason)) left
+answered_unknown answers m p before left f reason answered is =
     record { answer = Ok (finding.Unknown reason); left = left; answered = subst (λ (g : Finding). answers before (Ok g) left) is answered; comes = (refl, refl) }
 
 no_violation : (reason : Reason) (s : Stimulus) → Unknown reason ≡ Unsafe s → ⊥
@@ -54,19 +54,19 @@ comes_of_run : (m : Parts) (p : Property) (initial : List Bool) (inputs : List (
 comes_of_run m p initial inputs (Ok v) backed only shown = of_run m p initial inputs v backed only shown
 comes_of_run m p initial inputs (Err e) backed only shown = tt
 
-pub heard_run : (answers : Steps → Result Finding EngineError → Steps → Type 0) (m : Parts) (p : Property) (before left : Steps) (f : Finding) (initial : List Bool) (inputs : List (List Bool)) (r : Result Verdict DecideError) →
+pub answered_run : (answers : Steps → Result Finding EngineError → Steps → Type 0) (m : Parts) (p : Property) (before left : Steps) (f : Finding) (initial : List Bool) (inputs : List (List Bool)) (r : Result Verdict DecideError) →
     answers before (Ok f) left → f ≡ finding.Run initial inputs → IfOk r (IsBacked m p) → IfOk r IsOfReplay → (IsViolation m p initial inputs → IfOk r IsUnsafe) →
-    IfErr r (λ e. e ≡ OutOfMemory witness) → IsHeard answers m p before r left
-heard_run answers m p before left f initial inputs r answered is backed only shown memory = record {
+    IfErr r (λ e. e ≡ OutOfMemory witness) → IsVerdictOf answers m p before r left
+answered_run answers m p before left f initial inputs r answered is backed only shown memory = record {
   answer = Ok (finding.Run initial inputs);
   left = left;
   answered = subst (λ (g : Finding). answers before (Ok g) left) is answered;
   comes = (comes_of_run m p initial inputs r backed only shown, memory, refl);
 }
 
-pub heard_clauses : (answers : Steps → Result Finding EngineError → Steps → Type 0) (m : Parts) (p : Property) (before left after : Steps) (f : Finding) (inv given : List (List Lit)) (r : Result Verdict DecideError) →
-    answers before (Ok f) left → f ≡ finding.Invariant inv → given ≡ inv → IfOk r (IsOfClauses m p given after) → IfErr r (Stops m p given) → Spends left after → IsHeard answers m p before r after
-heard_clauses answers m p before left after f inv given r answered is same comes stopped spends = record {
+pub answered_clauses : (answers : Steps → Result Finding EngineError → Steps → Type 0) (m : Parts) (p : Property) (before left after : Steps) (f : Finding) (inv given : List (List Lit)) (r : Result Verdict DecideError) →
+    answers before (Ok f) left → f ≡ finding.Invariant inv → given ≡ inv → IfOk r (IsOfClauses m p given after) → IfErr r (Stops m p given) → Spends left after → IsVerdictOf answers m p before r after
+answered_clauses answers m p before left after f inv given r answered is same comes stopped spends = record {
   answer = Ok (finding.Invariant inv);
   left = left;
   answered = subst (λ (g : Finding). answers before (Ok g) left) is answered;
@@ -122,11 +122,11 @@ why_unknown m p after r found unknown meant = subst (λ (q : Result Verdict Deci
 -- ---- one engine after the other
 
 told_push : {E : Type 0} (answers : E → Steps → Result Finding EngineError → Steps → Type 0) (m : Parts) (p : Property) (es : List E) (e : E) (start told found : Reason) (before left after : Steps) →
-    HaveTold answers m p es start before told left → IsHeard (answers e) m p left (Ok (Unknown found)) after → HaveTold answers m p (es ++ e ∷ []) start before (weightier_of told found) after
-told_push answers m p [] e start told found before left after h heard =
-    (found, after, subst (λ (b : Steps). IsHeard (answers e) m p b (Ok (Unknown found)) after) h.1 heard, (ap (λ (r : Reason). weightier_of r found) h.0, refl))
-told_push answers m p (f ∷ es) e start told found before left after h heard =
-    (h.0, h.1, h.2, told_push answers m p es e (weightier_of start h.0) told found h.1 left after h.3 heard)
+    HaveTold answers m p es start before told left → IsVerdictOf (answers e) m p left (Ok (Unknown found)) after → HaveTold answers m p (es ++ e ∷ []) start before (weightier_of told found) after
+told_push answers m p [] e start told found before left after h answered =
+    (found, after, subst (λ (b : Steps). IsVerdictOf (answers e) m p b (Ok (Unknown found)) after) h.1 answered, (ap (λ (r : Reason). weightier_of r found) h.0, refl))
+told_push answers m p (f ∷ es) e start told found before left after h answered =
+    (h.0, h.1, h.2, told_push answers m p es e (weightier_of start h.0) told found h.1 left after h.3 answered)
 
 -- lists that go on alike from i are as long
 inside_now : {E : Type 0} (old now : List E) (i : ℕ) → drop i now ≡ drop i old → i < length old → i < length now
@@ -157,20 +157,20 @@ rest_more {E} old now i f same =
 
 -- one more engine has told why it knows nothing
 pub told_more : {E : Type 0} (answers : E → Steps → Result Finding EngineError → Steps → Type 0) (m : Parts) (p : Property) (old now : List E) (i : ℕ) (d : E) (start told found new : Reason) (r : Result Verdict DecideError) (before left after : Steps) →
-    drop i now ≡ drop i old → i < length old → HaveTold answers m p (take i old) start before told left → IsHeard (answers (get_or now i d)) m p left r after →
+    drop i now ≡ drop i old → i < length old → HaveTold answers m p (take i old) start before told left → IsVerdictOf (answers (get_or now i d)) m p left r after →
     reason_of r ≡ Some found → new ≡ weightier_of told found → HaveTold answers m p (take (i + 1) old) start before new after
-told_more {E} answers m p old now i d start told found new r before left after same inside h heard unknown is =
+told_more {E} answers m p old now i d start told found new r before left after same inside h answered unknown is =
     let e : E = get_or now i d in
-    let said : IsHeard (answers e) m p left (Ok (Unknown found)) after = subst (λ (q : Result Verdict DecideError). IsHeard (answers e) m p left q after) (unknown_of r found unknown) heard in
+    let said : IsVerdictOf (answers e) m p left (Ok (Unknown found)) after = subst (λ (q : Result Verdict DecideError). IsVerdictOf (answers e) m p left q after) (unknown_of r found unknown) answered in
     let joined : HaveTold answers m p (take i old ++ e ∷ []) start before (weightier_of told found) after = told_push answers m p (take i old) e start told found before left after h said in
     let as_told : HaveTold answers m p (take i old ++ e ∷ []) start before new after = subst (λ (q : Reason). HaveTold answers m p (take i old ++ e ∷ []) start before q after) (sym is) joined in
     subst (λ (es : List E). HaveTold answers m p es start before new after) (sym (front_more old now i d same inside)) as_told
 
 -- the engine here has evidence or refuses
 pub ends_here : {E : Type 0} (answers : E → Steps → Result Finding EngineError → Steps → Type 0) (m : Parts) (p : Property) (old now : List E) (i : ℕ) (d f : E) (told : Reason) (r : Result Verdict DecideError) (before left after : Steps) →
-    drop i now ≡ drop i old → i < length old → HaveTold answers m p (take i old) NoEvidence before told left → IsHeard (answers (get_or now i d)) m p left r after →
+    drop i now ≡ drop i old → i < length old → HaveTold answers m p (take i old) NoEvidence before told left → IsVerdictOf (answers (get_or now i d)) m p left r after →
     reason_of r ≡ None → AskedInOrder answers m p old (set now i f) before r after
-ends_here answers m p old now i d f told r before left after same inside h heard ends =
+ends_here answers m p old now i d f told r before left after same inside h answered ends =
     let below : i < i + 1 = omega arith in
     inr (record {
       earlier = take i old;
@@ -180,7 +180,7 @@ ends_here answers m p old now i d f told r before left after same inside h heard
       reason = told;
       left = left;
       told = h;
-      heard = heard;
+      answered = answered;
       ends = ends;
       unasked = ap (λ (n : ℕ). drop (n + 1) (set now i f)) (front_length old i inside) ∙ drop-set-lt (i + 1) now i f below;
     })

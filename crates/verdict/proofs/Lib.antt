@@ -1,3 +1,3 @@
 mod Asked
-mod Heard
+mod Answered
 mod OnlyBad

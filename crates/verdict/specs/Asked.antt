@@ -70,7 +70,7 @@ ComesOf m p (Ok f) left r after = ComesOfFinding m p f left r after
 ComesOf m p (Err e) left r after = (r ≡ Err (of_engine e)) × (after ≡ left)
 
 -- an engine that may answer so was asked once, and this came of its answer
-pub record IsHeard (answers : Steps → Result Finding EngineError → Steps → Type 0) (m : Parts) (p : Property) (before : Steps) (r : Result Verdict DecideError) (after : Steps) : Type 0 where
+pub record IsVerdictOf (answers : Steps → Result Finding EngineError → Steps → Type 0) (m : Parts) (p : Property) (before : Steps) (r : Result Verdict DecideError) (after : Steps) : Type 0 where
   pub answer : Result Finding EngineError
   pub left : Steps
   pub answered : answers before answer left
@@ -83,7 +83,7 @@ pub record IsHeard (answers : Steps → Result Finding EngineError → Steps →
 abbrev pub HaveTold : {E : Type 0} → (E → Steps → Result Finding EngineError → Steps → Type 0) → Parts → Property → List E → Reason → Steps → Reason → Steps → Type 0
 HaveTold answers m p [] told before last after = (last ≡ told) × (after ≡ before)
 HaveTold answers m p (e ∷ es) told before last after =
-    (found : Reason) × (left : Steps) × IsHeard (answers e) m p before (Ok (Unknown found)) left × HaveTold answers m p es (weightier_of told found) left last after
+    (found : Reason) × (left : Steps) × IsVerdictOf (answers e) m p before (Ok (Unknown found)) left × HaveTold answers m p es (weightier_of told found) left last after
 
 -- all engines were asked, and nothing is known
 pub record AllTold {E : Type 0} (answers : E → Steps → Result Finding EngineError → Steps → Type 0) (m : Parts) (p : Property) (engines : List E) (before : Steps) (r : Result Verdict DecideError) (after : Steps) : Type 0 where
@@ -100,7 +100,7 @@ pub record EndsAt {E : Type 0} (answers : E → Steps → Result Finding EngineE
   pub reason : Reason
   pub left : Steps
   pub told : HaveTold answers m p earlier NoEvidence before reason left
-  pub heard : IsHeard (answers engine) m p left r after
+  pub answered : IsVerdictOf (answers engine) m p left r after
   pub ends : reason_of r ≡ None
   pub unasked : drop (length earlier + 1) new ≡ later
 

@@ -14,7 +14,7 @@ ghost use Rattle.certify.specs.Causes.{HasCause as HasCertifyCause};
 ghost use Rattle.certify.specs.Outcomes.{IsCertified};
 ghost use Rattle.certify.specs.declared.certified.Certified.TheVariants.{NotInvariant};
 ghost use Rattle.certify.specs.declared.counterexample.Counterexample.{Counterexample as ACounterexample};
-ghost use Rattle.verdict.specs.Asked.{IsHeard, IsOfClauses, IsOfReplay, Stops};
+ghost use Rattle.verdict.specs.Asked.{IsVerdictOf, IsOfClauses, IsOfReplay, Stops};
 ghost use Rattle.verdict.specs.Causes.{HasCause, of_certify};
 ghost use Rattle.verdict.specs.Verdicts.{IsAsked, IsBacked, IsMeant, IsUnsafe, IsViolation};
 ghost use Rattle.verdict.specs.declared.decide_error.DecideError.TheVariants.{OutOfMemory};
@@ -68,7 +68,7 @@ fn judged(
 
 /// What comes of a run of the circuit that was asked about: a stimulus, which is judged. That of a
 /// shadow circuit tells of a lasso, where its lengths are right.
-fn ran(
+fn of_run(
     alloc: Global,
     circuit: &Model,
     property: Property,
@@ -127,7 +127,7 @@ fn certificate_of(
 
 /// What comes of clauses that are said to be an invariant which upholds the property: a certificate,
 /// where each of their cases is refuted.
-fn certified(
+fn of_clauses(
     alloc: Global,
     circuit: &Model,
     property: Property,
@@ -148,13 +148,13 @@ fn certified(
         Ok(Certified::Certificate(certificate)) => Ok(Verdict::Safe(certificate)),
         Ok(Certified::NotInvariant(_)) => Ok(Verdict::Unknown(Reason::NoEvidence)),
         Ok(Certified::Spent) => Ok(Verdict::Unknown(Reason::Budget)),
-        Err(error) => uncertified(error),
+        Err(error) => of_refusal(error),
     }
 }
 
 /// What comes of clauses of which no certificate is made. A fault of theirs only makes them no
 /// evidence.
-fn uncertified(error: CertifyError) -> Result<Verdict, DecideError>
+fn of_refusal(error: CertifyError) -> Result<Verdict, DecideError>
     ensures { result ≡ of_certify error }
 {
     match error {
@@ -168,7 +168,7 @@ fn uncertified(error: CertifyError) -> Result<Verdict, DecideError>
 }
 
 /// What one engine's answer says of the property, when it is asked about `circuit`.
-pub fn hear(
+pub fn verdict_of(
     engine: &mut Box<dyn Engine>,
     alloc: Global,
     circuit: &Model,
@@ -181,13 +181,13 @@ pub fn hear(
     ensures stays { honest engine.old → honest engine.new }
     ensures backed { IfOk result (IsBacked circuit.now property) }
     ensures meant { honest engine.old → IfOk result (IsMeant circuit.now property budget.new) }
-    ensures heard { IsHeard (answers engine.old asked.now) circuit.now property budget.old result budget.new }
+    ensures answered { IsVerdictOf (answers engine.old asked.now) circuit.now property budget.old result budget.new }
     ensures refused { IfErr result (HasCause circuit.now property) }
 {
     circuit.well_formed();
     match ask(engine, alloc, asked, budget)? {
-        Finding::Run { initial, inputs } => ran(alloc, circuit, property, initial, inputs),
-        Finding::Invariant(clauses) => certified(
+        Finding::Run { initial, inputs } => of_run(alloc, circuit, property, initial, inputs),
+        Finding::Invariant(clauses) => of_clauses(
             alloc,
             circuit,
             property,

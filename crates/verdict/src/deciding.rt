@@ -13,7 +13,7 @@ ghost use Rattle.verdict.specs.declared.decide_error.DecideError.TheVariants.{Li
 ghost use Rattle.solver.specs.Full.{full};
 ghost use Rattle.verdict.specs.declared.verdict.Verdict.TheVariants.{Unknown};
 
-use crate::asking::hear;
+use crate::asking::verdict_of;
 use crate::decide_error::DecideError;
 use crate::reasons::{reason, weightier};
 use crate::verdict::Verdict;
@@ -64,7 +64,7 @@ fn circuit_for(alloc: Global, circuit: &Model, property: Property) -> Result<Mod
 }
 
 /// Asks each engine about the property, by `circuit`, up to the first whose evidence stands.
-fn hear_each(
+fn verdict_of_each(
     alloc: Global,
     circuit: &Model,
     property: Property,
@@ -82,7 +82,7 @@ fn hear_each(
 {
     let mut told = Reason::NoEvidence;
     for engine in engines.iter_mut() {
-        let answer = hear(engine, alloc, circuit, property, asked, budget);
+        let answer = verdict_of(engine, alloc, circuit, property, asked, budget);
         match reason(&answer) {
             Some(found) => told = weightier(told, found),
             None => return answer,
@@ -126,5 +126,5 @@ pub fn decide(
     ensures none { length engines.old ≡ 0 → (budget.new ≡ budget.old) × MatchResult result (λ v. v ≡ Unknown NoEvidence) (λ e. (e ≡ Limit → 4194303 < (circuit_of circuit.now property).max_var) × (e ≢ IdsTaken full)) }
 {
     let asked = circuit_for(alloc, circuit, property)?;
-    hear_each(alloc, circuit, property, &asked, engines, budget)
+    verdict_of_each(alloc, circuit, property, &asked, engines, budget)
 }

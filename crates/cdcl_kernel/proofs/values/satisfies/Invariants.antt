@@ -1,5 +1,5 @@
 use Rattle.std.proofs.Common.{◌≡◌, true, take, All}
-use Rattle.cdcl_kernel.specs.Verdicts.{true_by}
+use Rattle.solver.specs.Values.{true_by}
 use Rattle.cdcl_kernel.proofs.values.satisfies.Given as goal
 
 abbrev pub invariant-loop-literal : goal.invariant-loop-literal

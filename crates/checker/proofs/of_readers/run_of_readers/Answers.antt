@@ -1,5 +1,10 @@
-use Rattle.std.proofs.Common.{◌≡◌, IfSome, refl, subst, sym}
-use Rattle.checker.proofs.ReaderLaws.{both_given}
+use Rattle.std.proofs.Common.{◌≡◌, ℕ, false, IfOk, IfSome, IsTrue, OnErr, refl, subst, sym, ◌+◌}
+use Rattle.std.specs.Io.KnownBytes.{Appends}
+use Rattle.graph.specs.declared.circuit.Property.{Property}
+use Rattle.checker.specs.Lines.{no_line}
+use Rattle.checker.specs.Readers.{BeginsRunLineOf, IsRunRefusalOf}
+use Rattle.checker.specs.Replayed.{Confirms}
+use Rattle.checker.proofs.ReaderLaws.{both_given, wanted_so}
 use Rattle.checker.proofs.Said.{ok_then}
 use Rattle.checker.proofs.of_readers.run_of_readers.Goals as goal
 
@@ -9,9 +14,25 @@ returns-in-None g c = record {
       ok_then _ _ c.run_stimulus.result
       (λ said says holds.
       let (xs, ys, first, second, more) = says holds in
-      let (p, confirmed, line) = more in
-      (xs, ys, p, first, second, subst (λ w. IfSome w (λ q. q ≡ p)) (sym c.in-None.is) tt, confirmed, line))
+      let (p, it, line) = more in
+      (xs, ys, p, first, second, subst (λ w. IfSome w (λ q. q ≡ p)) (sym c.in-None.is) tt, it, line))
       (both_given c.args.circuit.now.given c.run_stimulus.new.circuit.given c.args.stimulus.now.given c.run_stimulus.new.stimulus.given _ _ _ _ _ _ _ _ _ c.run_stimulus.result c.run_stimulus.ensures.ended c.run_stimulus.ensures.yes);
+  no =
+      wanted_so _ _ c.in-None.is _ _ _ _ _ _ _ _ _ _ _ _
+      (λ w xs ys. IfOk c.run_stimulus.result (λ said. said ≡ false → (n : ℕ) × IsRunRefusalOf w xs ys n × Appends (g.W.Sink.contents c.args.out.now) (g.W.Sink.contents c.run_stimulus.new.out) (no_line n)))
+      c.run_stimulus.ensures.no;
+  exact =
+      wanted_so _ _ c.in-None.is _ _ _ _ _ _ _ _ _ _ _ _
+      (λ w xs ys. (p : Property) → IfSome w (λ q. q ≡ p) → Confirms xs ys p → IfOk c.run_stimulus.result (λ said. IsTrue said))
+      (λ text later left. let (xs, first, both) = c.run_stimulus.ensures.exact text later left in (xs, first, λ other rest end. let (ys, second, says) = both other rest end in (ys, second, λ p _ it. says p it)));
+  ended = c.run_stimulus.ensures.ended;
+  unread = c.run_stimulus.ensures.unread;
+  fails = c.run_stimulus.ensures.fails;
+  nothing = c.run_stimulus.ensures.nothing;
+  beginning =
+      wanted_so _ _ c.in-None.is _ _ _ _ _ _ _ _ _ _ _ _
+      (λ w xs ys. OnErr c.run_stimulus.result (g.W.Sink.failed c.run_stimulus.new.out ≡ g.W.Sink.failed c.args.out.now + 1 → BeginsRunLineOf w xs ys (g.W.Sink.contents c.args.out.now) (g.W.Sink.contents c.run_stimulus.new.out)))
+      c.run_stimulus.ensures.beginning;
 }
 
 pub returns-in-Some : goal.returns-in-Some
@@ -20,7 +41,23 @@ returns-in-Some g c = record {
       ok_then _ _ c.run_stimulus_for.result
       (λ said says holds.
       let (xs, ys, first, second, more) = says holds in
-      let (confirmed, line) = more in
-      (xs, ys, c.in-Some.property, first, second, subst (λ w. IfSome w (λ q. q ≡ c.in-Some.property)) (sym c.in-Some.is) refl, confirmed, line))
+      let (it, line) = more in
+      (xs, ys, c.in-Some.property, first, second, subst (λ w. IfSome w (λ q. q ≡ c.in-Some.property)) (sym c.in-Some.is) refl, it, line))
       (both_given c.args.circuit.now.given c.run_stimulus_for.new.circuit.given c.args.stimulus.now.given c.run_stimulus_for.new.stimulus.given _ _ _ _ _ _ _ _ _ c.run_stimulus_for.result c.run_stimulus_for.ensures.ended c.run_stimulus_for.ensures.yes);
+  no =
+      wanted_so _ _ c.in-Some.is _ _ _ _ _ _ _ _ _ _ _ _
+      (λ w xs ys. IfOk c.run_stimulus_for.result (λ said. said ≡ false → (n : ℕ) × IsRunRefusalOf w xs ys n × Appends (g.W.Sink.contents c.args.out.now) (g.W.Sink.contents c.run_stimulus_for.new.out) (no_line n)))
+      c.run_stimulus_for.ensures.no;
+  exact =
+      wanted_so _ _ c.in-Some.is _ _ _ _ _ _ _ _ _ _ _ _
+      (λ w xs ys. (p : Property) → IfSome w (λ q. q ≡ p) → Confirms xs ys p → IfOk c.run_stimulus_for.result (λ said. IsTrue said))
+      (λ text later left. let (xs, first, both) = c.run_stimulus_for.ensures.exact text later left in (xs, first, λ other rest end. let (ys, second, says) = both other rest end in (ys, second, λ p same it. says (subst (λ q. Confirms xs ys q) (sym same) it))));
+  ended = c.run_stimulus_for.ensures.ended;
+  unread = c.run_stimulus_for.ensures.unread;
+  fails = c.run_stimulus_for.ensures.fails;
+  nothing = c.run_stimulus_for.ensures.nothing;
+  beginning =
+      wanted_so _ _ c.in-Some.is _ _ _ _ _ _ _ _ _ _ _ _
+      (λ w xs ys. OnErr c.run_stimulus_for.result (g.W.Sink.failed c.run_stimulus_for.new.out ≡ g.W.Sink.failed c.args.out.now + 1 → BeginsRunLineOf w xs ys (g.W.Sink.contents c.args.out.now) (g.W.Sink.contents c.run_stimulus_for.new.out)))
+      c.run_stimulus_for.ensures.beginning;
 }

@@ -10,8 +10,8 @@ use Rattle.inductive_subset.proofs.subset.safe_inductive_subset.Goals as goal
 pub returns-clause-among : goal.returns-clause-among
 returns-clause-among g c = marked_among c.args.invariant.now c.as_slice.result.now c.in_ok-marked.field-0 c.in_ok-marked.ensures
 
-pub returns-clause-inductive : goal.returns-clause-inductive
-returns-clause-inductive g c =
+pub returns-clause-shown : goal.returns-clause-shown
+returns-clause-shown g c =
     let m = c.args.circuit.now in
     let inv = c.args.invariant.now in
     let needed : Needed = c.close.new.needed in
@@ -24,3 +24,6 @@ returns-clause-inductive g c =
     subst (IsExcluded m inv c.ask.new.needed.marks.items) units (c.in_ok-ask.ensures.excluded inv c.requires.over c.in_ok-load.ensures asked) in
     marked_inductive m inv c.args.bad needed c.in_ok-marked.field-0 c.in_ok-close.ensures.well
     (excluded_more m inv c.ask.new.needed.marks.items needed.marks.items (bad_units m c.args.bad) (λ i p. c.in_ok-close.ensures.kept i p) excluded) (c.in_ok-close.ensures.held closed) are
+
+pub returns-clause-inductive : goal.returns-clause-inductive
+returns-clause-inductive g c = λ inductive. returns-clause-shown g c inductive.begins

@@ -2,7 +2,8 @@ use Rattle.std.proofs.Common.{◌≡◌, ◌∙◌, List, Bool, ℕ, ap, sym, su
 use Rattle.lrat.proofs.Fit.{not_true}
 use Rattle.cdcl_kernel.specs.Kept.{added}
 use Rattle.cdcl_kernel.specs.Valued.{valued}
-use Rattle.cdcl_kernel.specs.Verdicts.{AreTrueBy, IsSatisfiedBy}
+use Rattle.solver.specs.Values.{AreTrueBy}
+use Rattle.cdcl_kernel.specs.Verdicts.{IsSatisfiedBy}
 use Rattle.cdcl_kernel.proofs.Judged.{unsatisfied_open}
 use Rattle.cdcl_kernel.proofs.Valued.{model_from}
 use Rattle.cdcl_kernel.proofs.kernel.Kernel.model_of.Goals as goal

@@ -1,7 +1,7 @@
 use Rattle.std.proofs.Common.{◌≡◌, ◌∙◌, List, Bool, ℕ, ap, sym, subst, All, rules}
 use Rattle.lrat.proofs.Fit.{not_true}
 use Rattle.cdcl_kernel.specs.Valued.{valued}
-use Rattle.cdcl_kernel.specs.Verdicts.{AreTrueBy, IsAndBy}
+use Rattle.solver.specs.Values.{AreTrueBy, IsAndBy}
 use Rattle.cdcl_kernel.proofs.Valued.{part_model_from}
 use Rattle.cdcl_kernel.proofs.kernel.Kernel.part_model.Goals as goal
 

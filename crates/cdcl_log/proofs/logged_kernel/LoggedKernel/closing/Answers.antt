@@ -8,8 +8,8 @@ use Rattle.cdcl_log.proofs.Closings.{closing_all, closing_shown, closing_stays, 
 use Rattle.cdcl_log.proofs.Ended.{denied_of, ends_of}
 use Rattle.cdcl_log.proofs.logged_kernel.LoggedKernel.closing.Goals as goal
 
-pub denied_places-requires-clause-denied : goal.denied_places-requires-clause-denied
-denied_places-requires-clause-denied c =
+pub denied_indices-requires-clause-denied : goal.denied_indices-requires-clause-denied
+denied_indices-requires-clause-denied c =
     let is : c.self.inside.end ≡ Some (Add c.in-Some-Add.field-0-0 c.in-Some-Add.clause c.in-Some-Add.hints) = search rules in
     rw c.as_slice.ensures
     (denied_of c.self.inside.end c.requires.denies.0 c.in-Some-Add.clause c.args.units.now c.in-Some-Add.field-0-0 c.in-Some-Add.hints (ap (λ (k : Logged). k.end) c.self.view_is ∙ c.requires.denies.1) is c.requires.denies.2)

@@ -2,7 +2,7 @@ use Rattle.std.proofs.Common.{◌≡◌, ◌+◌, length}
 use Rattle.base.specs.Budget.{Spends}
 use Rattle.ic3.specs.Sound.{IsSound}
 use Rattle.ic3.specs.Cubes.{IsReady}
-use Rattle.ic3.specs.Waiting.{AreWaiting}
+use Rattle.ic3.specs.Queue.{AreQueued}
 use Rattle.ic3.specs.Answers.{AreObligations}
 use Rattle.ic3.proofs.frame_solver.FrameSolver.block_obligations.Given as goal
 
@@ -13,8 +13,8 @@ invariant-blocking g l = record {
   sound : IsSound l.circuit l.self l.frames;
   ready : IsReady l.circuit l.lifting;
   obligations : AreObligations l.circuit l.found.items;
-  frames : length l.waiting.frames.items ≡ l.frames.top + 1;
-  waiting : AreWaiting (length l.found.items) l.waiting;
+  frames : length l.queue.frames.items ≡ l.frames.top + 1;
+  queued : AreQueued (length l.found.items) l.queue;
 }
 
 abbrev pub decreases-blocking : goal.decreases-blocking

@@ -1,11 +1,12 @@
-use Rattle.std.proofs.Common.{◌<◌}
+use Rattle.std.proofs.Common.{◌<◌, ◌≡◌}
 use Rattle.base.specs.Budget.{Spends}
 use Rattle.ic3.specs.Sound.{IsSound}
 use Rattle.ic3.specs.Answers.{IsInductiveFrom}
 use Rattle.ic3.proofs.frame_solver.FrameSolver.furthest.Given as goal
 
-abbrev pub invariant-advancing : goal.invariant-advancing
-invariant-advancing g l = record {
+abbrev pub invariant-pushing : goal.invariant-pushing
+invariant-pushing g l = record {
+  frames : l.frames ≡ l.initial.frames;
   spends : Spends l.initial.budget l.budget;
   sound : IsSound l.circuit l.self l.frames;
   below : l.last < l.frames.top;

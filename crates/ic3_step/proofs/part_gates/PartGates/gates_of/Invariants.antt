@@ -1,5 +1,5 @@
 use Rattle.std.proofs.Common.{◌≡◌, take}
-use Rattle.ic3_step.specs.Questions.{ands_in}
+use Rattle.ic3_step.specs.Queries.{ands_in}
 use Rattle.ic3_step.proofs.part_gates.PartGates.gates_of.Given as goal
 
 abbrev pub invariant-loop-variable : goal.invariant-loop-variable

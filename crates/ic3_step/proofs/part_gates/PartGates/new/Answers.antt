@@ -6,7 +6,7 @@ use Rattle.graph.proofs.Gates.{left}
 use Rattle.cnf.specs.Formulas.{IsGateIn}
 use Rattle.cnf.proofs.Frames.{gates_in_range}
 use Rattle.cones.proofs.Tabled.{blank}
-use Rattle.ic3_step.specs.Questions.{IsSameAnd, and_gate}
+use Rattle.ic3_step.specs.Queries.{IsSameAnd, and_gate}
 use Rattle.ic3_step.proofs.Entered.{AreEntered, entered_more, entered_all}
 use Rattle.ic3_step.proofs.part_gates.PartGates.new.Goals as goal
 

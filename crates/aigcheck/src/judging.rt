@@ -1,0 +1,160 @@
+//! The commands `safe` and `run`.
+
+ghost use Rattle.std.specs.Prelude.{◌-◌, ◌<◌, ◌^◌};
+
+use crate::detail::{put_line, tell_circuit, tell_unnamed};
+use crate::no_answer::{NoAnswer, Role, opened};
+use checker::{
+    RunError, run_of_readers, run_safe, run_safe_for, run_stimulus, run_stimulus_for,
+    safe_of_readers,
+};
+use graph::{
+    AigerFile, FromBytes, FromRead, Property, ReadError, ReadToEndError, Sink, Source, ToVec,
+    ToWrite, read_to_end,
+};
+use inputs::{Input, open};
+use properties::Evidence;
+use property_names::{Asked, property_called};
+use std::alloc::Global;
+use std::io;
+use std::io::Read;
+
+/// One byte more than the text of a circuit may have: a longer one is refused as too long by that.
+const MOST: u64 = 67_108_865;
+
+/// What the two files of a command are called, of which the second may be a folder.
+#[derive(Clone, Copy)]
+pub struct Names<'a> {
+    /// the circuit's
+    pub circuit: &'a str,
+    /// the evidence's
+    pub evidence: &'a str,
+}
+
+/// What is asked.
+#[derive(Clone, Copy)]
+pub struct Question<'a> {
+    /// the files
+    pub names: Names<'a>,
+    /// what the second file has
+    pub evidence: Evidence,
+    /// the property that is asked about alone, where one is named
+    pub asked: Option<Asked<'a>>,
+    /// whether standard error says why
+    pub verbose: bool,
+}
+
+/// The bytes of a circuit's file.
+// Its buffer is off the stack before anything is judged.
+#[inline(never)]
+pub fn text_of(rt: &HostRuntime, file: Input) -> Result<Vec<u8>, NoAnswer> {
+    match read_to_end(rt.alloc(), &mut FromRead::new(file.take(MOST))) {
+        Ok(text) => Ok(text),
+        Err(ReadToEndError::OutOfMemory(refused)) => Err(NoAnswer::from(refused)),
+        Err(ReadToEndError::Device) => Err(NoAnswer::Call(RunError::Device)),
+    }
+}
+
+/// Whether evidence of this kind is accepted, for the property alone where one is named. It puts the line.
+pub fn judge<M: Source, C: Source, W: Sink>(
+    alloc: Global,
+    evidence: Evidence,
+    property: Option<Property>,
+    circuit: &mut M,
+    file: &mut C,
+    out: &mut W,
+) -> Result<bool, RunError>
+    requires circuit { M.failed circuit.old < 2 ^ 64 - 1 }
+    requires evidence { C.failed file.old < 2 ^ 64 - 1 }
+    requires out { W.failed out.old < 2 ^ 64 - 1 }
+{
+    match (evidence, property) {
+        (Evidence::Certificate, None) => run_safe(alloc, circuit, file, out),
+        (Evidence::Certificate, Some(property)) => run_safe_for(
+            alloc, property, circuit, file, out,
+        ),
+        (Evidence::Stimulus, None) => run_stimulus(alloc, circuit, file, out),
+        (Evidence::Stimulus, Some(property)) => run_stimulus_for(
+            alloc, property, circuit, file, out,
+        ),
+    }
+}
+
+/// The answer of a judge that puts its line into memory: where that fails, there is none left.
+pub fn answer_in_memory(answer: Result<bool, RunError>, out: &ToVec) -> Result<bool, NoAnswer> {
+    match answer {
+        Err(RunError::Device) if out.failures() > 0 => Err(NoAnswer::Memory),
+        answer => Ok(answer?),
+    }
+}
+
+impl Question<'_> {
+    /// Whether the evidence is accepted: both files are opened first.
+    pub fn answer(self, rt: &HostRuntime) -> Result<bool, NoAnswer> {
+        let circuit = opened(Role::Circuit, open(rt, self.names.circuit))?;
+        let file = opened(Role::Evidence, open(rt, self.names.evidence))?;
+        let property = match self.asked {
+            _ if self.verbose => return self.of_text(rt, circuit, file),
+            Some(Asked::Symbol(_)) => return self.of_text(rt, circuit, file),
+            Some(Asked::Property(property)) => Some(property),
+            None => None,
+        };
+        let circuit = &mut FromRead::new(circuit);
+        let file = &mut FromRead::new(file);
+        let out = &mut ToWrite::new(io::writer(rt));
+        let yes = match self.evidence {
+            Evidence::Certificate => safe_of_readers(rt.alloc(), property, circuit, file, out)?,
+            Evidence::Stimulus => run_of_readers(rt.alloc(), property, circuit, file, out)?,
+        };
+        Ok(yes)
+    }
+
+    /// The same, once the circuit was read for its symbol table, or for the place of its fault.
+    fn of_text(self, rt: &HostRuntime, circuit: Input, file: Input) -> Result<bool, NoAnswer> {
+        let text = text_of(rt, circuit)?;
+        let (property, fault) = match aiger::read(rt.alloc(), text.as_slice()) {
+            Ok(circuit) => (self.property_in(rt, &circuit)?, None),
+            Err(ReadError::OutOfMemory(refused)) => return Err(NoAnswer::from(refused)),
+            Err(error) => (None, Some(error)),
+        };
+        let circuit = &mut FromBytes::new(text.as_slice());
+        let file = &mut FromRead::new(file);
+        let out = &mut ToVec::new(rt.alloc());
+        let answer = judge(rt.alloc(), self.evidence, property, circuit, file, out);
+        let yes = answer_in_memory(answer, out)?;
+        put_line(
+            rt,
+            out.as_slice(),
+            self.names.evidence,
+            self.verbose && fault.is_none(),
+        )?;
+        if let Some(error) = fault
+            && self.verbose
+        {
+            tell_circuit(rt, self.names.circuit, text.as_slice(), error);
+        }
+        Ok(yes)
+    }
+
+    /// The property that is asked about alone, where one is named.
+    fn property_in(
+        self,
+        rt: &HostRuntime,
+        circuit: &AigerFile,
+    ) -> Result<Option<Property>, NoAnswer> {
+        match self.asked {
+            None => Ok(None),
+            Some(Asked::Property(property)) => Ok(Some(property)),
+            Some(Asked::Symbol(word)) => match property_called(circuit, word) {
+                Ok(property) => Ok(Some(property)),
+                Err(why) => {
+                    let _ = eprintln!(rt; "aigcheck: bad argument");
+                    if self.verbose {
+                        tell_unnamed(rt, self.names.circuit, circuit, word, why)?;
+                    }
+                    Err(NoAnswer::Told)
+                }
+            },
+        }
+    }
+}

@@ -1,0 +1,55 @@
+//! Whether a run keeps the constraints at all.
+
+use aigmc_files::Stop;
+use base::{boxed, push};
+use cdcl::Cdcl;
+use cli::{CliError, Verdict, decide};
+use engine::Engine;
+use graph::{Budget, Lit, Model, Parts, Property, ReadError, Seq};
+use ic3::Ic3;
+use std::alloc::Global;
+
+/// How many steps of a budget of its own the question may cost.
+const STEPS: u64 = 100_000_000;
+
+/// The literal that is always true.
+const TRUE: Lit = Lit(1);
+
+/// The circuit with the constant true as its one bad literal: it is violated by each run that keeps the constraints.
+fn covered(alloc: Global, circuit: &Model) -> Result<Model, ReadError> {
+    let mut parts: Parts = circuit.parts().copy(alloc)?;
+    let mut bad = Seq::new(alloc);
+    bad.push(TRUE)?;
+    parts.bad = bad;
+    parts.outputs = Seq::new(alloc);
+    parts.justice = Seq::new(alloc);
+    parts.fairness = Seq::new(alloc);
+    Model::from_parts(alloc, parts)
+}
+
+/// Whether a certificate shows that no run keeps the circuit's constraints.
+fn is_vacuous(alloc: Global, circuit: &Model) -> Result<bool, Stop> {
+    let covered = covered(alloc, circuit)?;
+    let mut engines: Vec<Box<dyn Engine>> = Vec::new(alloc);
+    let engine: Box<dyn Engine> = boxed(alloc, Ic3::new(Cdcl::new(alloc)))?;
+    push(&mut engines, engine)?;
+    let mut budget = Budget::new(STEPS);
+    let decided = decide(
+        alloc,
+        &covered,
+        Property::Bad(0),
+        engines.as_mut_slice(),
+        &mut budget,
+    );
+    let verdict = decided.map_err(CliError::from)?;
+    Ok(matches!(verdict, Verdict::Safe(_)))
+}
+
+/// Says on standard error where it is shown that no run keeps the circuit's constraints: then every property holds, whatever
+/// the circuit does.
+pub fn warn_of_vacuity(rt: &HostRuntime, circuit: &Model) -> Result<(), Stop> {
+    if !circuit.constraints().is_empty() && is_vacuous(rt.alloc(), circuit)? {
+        let _ = eprintln!(rt; "aigmc: no run keeps the constraints, so every property holds");
+    }
+    Ok(())
+}

@@ -1,5 +1,0 @@
-use Rattle.cdcl_kernel.proofs.Closing.{IsClosing}
-use Rattle.cdcl_kernel.proofs.place.close_up.Given as goal
-
-abbrev pub invariant-loop-index : goal.invariant-loop-index
-invariant-loop-index l = IsClosing l.initial.literals l.literals l.initial.places l.places l.index l.end

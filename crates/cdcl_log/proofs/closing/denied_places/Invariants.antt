@@ -1,9 +1,0 @@
-use Rattle.std.proofs.Common.{◌≤◌, length, take}
-use Rattle.cdcl_log.specs.Units.{AreDeniedAt}
-use Rattle.cdcl_log.proofs.closing.denied_places.Given as goal
-
-abbrev pub invariant-loop-literal : goal.invariant-loop-literal
-invariant-loop-literal l = record {
-  inside : l.place ≤ length l.units;
-  are : AreDeniedAt l.units (take l.literal-index l.clause) l.places.items;
-}

@@ -1,0 +1,15 @@
+//! What the programs say of a fault beside its line.
+//!
+//! - `explained` is what a number means and what to do, and `meaning` its first part. `is_at_byte` says whether its
+//!   place is a byte of the text, and `position_behind` which line and column that is.
+//! - `word_of` is the word for what the system refused, and `other_format` that for a text of another format.
+//! - `Printable` shows a name of the symbol table.
+#![tactic(auto)]
+
+mod numbers;
+mod system;
+mod texts;
+
+pub use numbers::{Explanation, explained, is_at_byte, meaning};
+pub use system::word_of;
+pub use texts::{Position, Printable, other_format, position_behind};

@@ -1,0 +1,96 @@
+//! Clauses that could not be pushed to the next frame, each with a counterexample to induction: a state of the frame from which
+//! a step leads to one where the clause is false. Nothing here can make an answer wrong.
+//!
+//! As long as such a state lies in the frame, the push fails again, so it need not be tried.
+
+use crate::frames::Entry;
+use base::{Refused, push};
+use graph::Seq;
+use ic3_step::StateLit;
+use std::alloc::Global;
+
+/// A clause that could not be pushed from the frame at a level, by this state.
+#[derive(Drop)]
+struct FailedPush {
+    clause: Seq<StateLit>,
+    level: u32,
+    state: Seq<bool>,
+}
+
+/// The last failed push of each clause. They only save queries.
+#[derive(Drop)]
+pub(crate) struct FailedPushes {
+    items: Vec<FailedPush>,
+}
+
+/// Whether each literal of the clause is unset in the state.
+fn is_false(clause: &[StateLit], state: &[bool]) -> bool {
+    clause
+        .iter()
+        .all(|lit| state.get(lit.latch as usize) != Some(&lit.value))
+}
+
+/// Whether a clause of the frame at `level` is false in the state. It costs the clauses of the frames.
+fn is_excluded(entries: &[Entry], level: u32, state: &[bool]) -> bool {
+    for entry in entries {
+        if level <= entry.level && is_false(entry.clause.as_slice(), state) {
+            return true;
+        }
+    }
+    false
+}
+
+impl FailedPushes {
+    /// No push has failed.
+    pub(crate) fn new(alloc: Global) -> FailedPushes {
+        FailedPushes {
+            items: Vec::new(alloc),
+        }
+    }
+
+    /// The place of the clause's failed push.
+    fn find(&self, clause: &[StateLit]) -> Option<usize> {
+        self.items
+            .iter()
+            .position(|failed| failed.clause.as_slice() == clause)
+    }
+
+    /// Whether the clause could not be pushed from this level, by a state that still lies in the frame. It costs the clauses
+    /// of the frames and the failed pushes.
+    pub(crate) fn fails_again(&self, entries: &[Entry], level: u32, clause: &[StateLit]) -> bool {
+        let Some(place) = self.find(clause) else {
+            return false;
+        };
+        let Some(failed) = self.items.get(place) else {
+            return false;
+        };
+        failed.level == level && !is_excluded(entries, level, failed.state.as_slice())
+    }
+
+    /// The clause could not be pushed from this level, by this state. Its earlier failed push is forgotten.
+    pub(crate) fn add(
+        &mut self,
+        level: u32,
+        clause: Seq<StateLit>,
+        state: Seq<bool>,
+    ) -> Result<(), Refused> {
+        let place = self.find(clause.as_slice());
+        let failed = FailedPush {
+            clause,
+            level,
+            state,
+        };
+        match place {
+            Some(place) if place < self.items.len() => self.items[place] = failed,
+            _ => push(&mut self.items, failed)?,
+        }
+        Ok(())
+    }
+
+    /// Forgets all of them where they are many more than the clauses of the frames.
+    pub(crate) fn trim(&mut self, entries: &[Entry]) {
+        if self.items.len() / 2 > entries.len() {
+            self.items.clear();
+        }
+    }
+}
