@@ -5,13 +5,9 @@ use crate::no_answer::{NoAnswer, Role, given};
 use checker::RunError;
 use explanations::{Printable, is_at_byte, meaning, other_format, position_behind};
 use graph::{AigerFile, Property, ReadError};
-use properties::{all_properties, property_name};
-use property_names::{Unnamed, symbol_of};
+use property_names::{Called, Names, Unnamed, symbol_of};
 use std::io::Write;
 use std::{fs, io};
-
-/// How many names are listed.
-const MOST_NAMES: usize = 10;
 
 /// How much of a text is looked at to know its format.
 const BEGINNING: usize = 4096;
@@ -72,66 +68,17 @@ fn tell_place(rt: &HostRuntime, text: &[u8], place: u64) {
     };
 }
 
-/// Says a property and its name, behind this.
-fn tell_name(
-    rt: &HostRuntime,
-    before: &str,
-    property: Property,
-    symbol: &[u8],
-) -> Result<(), NoAnswer> {
-    let Ok(name) = property_name(rt.alloc(), property) else {
-        return Err(NoAnswer::Memory);
-    };
-    let _ = eprint!(rt; "{before} {} ({name})", Printable(symbol));
-    Ok(())
-}
-
 /// Says why a name is of no property, and which names there are.
-pub fn tell_unnamed(
-    rt: &HostRuntime,
-    circuit: &str,
-    file: &AigerFile,
-    word: &str,
-    why: Unnamed,
-) -> Result<(), NoAnswer> {
+pub fn tell_unnamed(rt: &HostRuntime, circuit: &str, file: &AigerFile, word: &str, why: Unnamed) {
     let called = Printable(word.as_bytes());
-    let _ = match why {
-        Unnamed::Unknown => eprint!(rt; "  {circuit}: no property is called {called}"),
-        Unnamed::Several => eprint!(rt; "  {circuit}: more than one property is called {called}"),
-    };
-    tell_names(rt, file)
-}
-
-/// Says which names the properties of the circuit have, the first ones where there are many.
-fn tell_names(rt: &HostRuntime, file: &AigerFile) -> Result<(), NoAnswer> {
-    let mut told = 0usize;
-    for property in all_properties(rt.alloc(), file.model())? {
-        let Some(symbol) = symbol_of(file, property) else {
-            continue;
-        };
-        if told == MOST_NAMES {
-            let _ = eprint!(rt; " and more");
-            break;
-        }
-        tell_name(
-            rt,
-            if told == 0 { "; names are" } else { "," },
-            property,
-            symbol,
-        )?;
-        told = told.saturating_add(1);
-    }
-    let _ = eprintln!(rt);
-    Ok(())
+    let _ = eprintln!(rt; "  {circuit}: {why} {called}{}", Names(file));
 }
 
 /// Says what a property is called, where the circuit has a name for it.
-pub fn tell_symbol(rt: &HostRuntime, file: &AigerFile, property: Property) -> Result<(), NoAnswer> {
+pub fn tell_symbol(rt: &HostRuntime, file: &AigerFile, property: Property) {
     if let Some(symbol) = symbol_of(file, property) {
-        tell_name(rt, " ", property, symbol)?;
-        let _ = eprintln!(rt);
+        let _ = eprintln!(rt; "  {}", Called { symbol, property });
     }
-    Ok(())
 }
 
 /// Whether the name is of a folder.

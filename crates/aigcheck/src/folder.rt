@@ -109,7 +109,7 @@ impl Folder<'_> {
         for property in all_properties(rt.alloc(), file.model())? {
             counts = counts.with(self.shown(rt, property)?);
             if self.verbose {
-                tell_symbol(rt, file, property)?;
+                tell_symbol(rt, file, property);
             }
         }
         let Counts {

@@ -150,7 +150,7 @@ impl Question<'_> {
                 Err(why) => {
                     let _ = eprintln!(rt; "aigcheck: bad argument");
                     if self.verbose {
-                        tell_unnamed(rt, self.names.circuit, circuit, word, why)?;
+                        tell_unnamed(rt, self.names.circuit, circuit, word, why);
                     }
                     Err(NoAnswer::Told)
                 }

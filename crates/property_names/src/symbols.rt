@@ -44,7 +44,7 @@ pub fn asked_by(word: &str) -> Option<Asked<'_>> {
 }
 
 /// The property that the symbol names, where it may be one.
-fn property_of(symbol: &Symbol, are_outputs_bad: bool) -> Option<Property>
+pub fn property_of(symbol: &Symbol, are_outputs_bad: bool) -> Option<Property>
     ensures { IfSome result (IsOf symbol.now) }
 {
     match symbol.kind {
