@@ -5,7 +5,7 @@ use crate::no_answer::{NoAnswer, Role, given};
 use checker::RunError;
 use explanations::{Printable, is_at_byte, meaning, other_format, position_behind};
 use graph::{AigerFile, Property, ReadError};
-use property_names::{Called, Names, Unnamed, symbol_of};
+use property_names::{Called, Listing, Unnamed, symbol_of};
 use std::io::Write;
 use std::{fs, io};
 
@@ -71,7 +71,7 @@ fn tell_place(rt: &HostRuntime, text: &[u8], place: u64) {
 /// Says why a name is of no property, and which names there are.
 pub fn tell_unnamed(rt: &HostRuntime, circuit: &str, file: &AigerFile, word: &str, why: Unnamed) {
     let called = Printable(word.as_bytes());
-    let _ = eprintln!(rt; "  {circuit}: {why} {called}{}", Names(file));
+    let _ = eprintln!(rt; "  {circuit}: {why} {called}{}", Listing(file));
 }
 
 /// Says what a property is called, where the circuit has a name for it.

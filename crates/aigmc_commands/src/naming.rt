@@ -4,7 +4,7 @@ use crate::progress::is_terminal;
 use aigmc_files::Stop;
 use explanations::Printable;
 use graph::{AigerFile, Property};
-use property_names::{Asked, Names, asked_by, property_called};
+use property_names::{Asked, Listing, asked_by, property_called};
 
 /// What the word asks for.
 pub fn asked_for(word: &str) -> Result<Asked<'_>, Stop> {
@@ -30,7 +30,7 @@ pub fn property_in(
             let called = Printable(word.as_bytes());
             let _ = eprintln!(rt;
                 "aigmc: bad argument\n  {circuit}: {why} {called}{}",
-                Names(file)
+                Listing(file)
             );
             Err(Stop::Told)
         }

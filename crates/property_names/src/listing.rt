@@ -37,9 +37,9 @@ impl fmt::Display for Called<'_> {
 
 /// The names that the symbol table of a circuit gives properties, each behind a sign: the first ones, where there are
 /// many.
-pub struct Names<'a>(pub &'a AigerFile);
+pub struct Listing<'a>(pub &'a AigerFile);
 
-impl fmt::Display for Names<'_> {
+impl fmt::Display for Listing<'_> {
     fn fmt<W: fmt::Write>(&self, f: &mut fmt::Formatter<W>) -> fmt::Result {
         let are_outputs_bad = self.0.model().parts().are_outputs_bad();
         let mut told = 0usize;
