@@ -9,6 +9,7 @@ use std::fmt;
 const MOST_NAMES: usize = 10;
 
 /// The name of a property: `b` for a bad literal, `j` for a justice property or `o` for an output, and its position.
+#[derive(Clone, Copy)]
 struct Name(Property);
 
 impl fmt::Display for Name {
@@ -22,6 +23,7 @@ impl fmt::Display for Name {
 }
 
 /// A property behind the name that the symbol table gives it: `no_overflow (b0)`.
+#[derive(Clone, Copy)]
 pub struct Called<'a> {
     /// the name in the symbol table
     pub symbol: &'a [u8],
@@ -37,6 +39,7 @@ impl fmt::Display for Called<'_> {
 
 /// The names that the symbol table of a circuit gives properties, each behind a sign: the first ones, where there are
 /// many.
+#[derive(Clone, Copy)]
 pub struct Listing<'a>(pub &'a AigerFile);
 
 impl fmt::Display for Listing<'_> {
