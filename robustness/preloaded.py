@@ -5,6 +5,7 @@ import importlib.machinery
 import importlib.util
 import os
 import pathlib
+import re
 import subprocess
 
 TOP = pathlib.Path(__file__).resolve().parent.parent
@@ -33,6 +34,19 @@ def built(folder, source):
     command = ["cc", "-O2", "-fno-builtin", "-shared", "-fPIC", "-o", path, TOP / "robustness" / "hostile" / f"{source}.c"]
     subprocess.run(command, check=True)
     return path
+
+
+def is_told(told, line, words, whole, behind=b""):
+    """Whether standard error tells by this line that a command failed; `whole` is the command's status and standard error where
+    nothing fails. With -v the line may come behind what the search said before, and before what matches `behind`; and a fault
+    that is told stays told, though its second line can't be had."""
+    if not {"-v", "--verbose"}.intersection(map(str, words)):
+        return told == line
+    said, found, more = told.rpartition(line)
+    status, error = whole
+    if found:
+        return error.startswith(said) and re.fullmatch(behind, more) is not None
+    return status == 3 and told.split(b"\n")[0] == error.split(b"\n")[0]
 
 
 def run(command, library, teller, settings, **how):
