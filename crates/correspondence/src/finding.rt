@@ -33,6 +33,49 @@ fn subset<S: Sat>(
     safe_inductive_subset(solver, alloc, circuit, clauses, bad, budget)
 }
 
+/// Whether rounds of induction end in classes that exclude the bad literal and stay equal. False where the budget is
+/// exhausted before.
+fn induce<S: Sat>(
+    solver: &mut S,
+    alloc: Global,
+    circuit: &Model,
+    search: &mut Search,
+    budget: &mut Budget,
+) -> Result<bool, SatError>
+    requires { IsForBad circuit.now }
+    ensures { Spends budget.old budget.new }
+{
+    let bad = circuit.bad()[0];
+    'inducing: while budget.tick() {
+        match search.round(solver, alloc, circuit, bad, budget)? {
+            Outcome::Over => return Ok(false),
+            Outcome::Split => search.shake(alloc, budget)?,
+            Outcome::Fixed => return Ok(true),
+        }
+    }
+    Ok(false)
+}
+
+/// The classes that simulation and induction leave. None where they don't exclude the bad literal.
+fn classes_of<S: Sat>(
+    solver: &mut S,
+    alloc: Global,
+    circuit: &Model,
+    opened: &Model,
+    budget: &mut Budget,
+) -> Result<Option<Classes>, SatError>
+    requires { IsForBad circuit.now }
+    ensures { Spends budget.old budget.new }
+{
+    let mut search = Search::new(alloc, circuit, opened)?;
+    search.simulate(alloc, budget)?;
+    search.shake(alloc, budget)?;
+    if !induce(solver, alloc, circuit, &mut search, budget)? {
+        return Ok(None);
+    }
+    Ok(Some(search.classes))
+}
+
 /// Clauses that are inductive and exclude the bad literal. Each says that a latch keeps its first value, or that it does
 /// where another one does. None where there are no such clauses, or where the budget is exhausted before they are found.
 pub fn correspond<S: Sat>(
@@ -45,20 +88,11 @@ pub fn correspond<S: Sat>(
     ensures spends { Spends budget.old budget.new }
     ensures invariant { IfOk result (λ r. IfSome r (IsInvariant circuit.now)) }
 {
-    circuit.well_formed();
-    let bad = circuit.bad()[0];
     let Some(opened) = opened(alloc, circuit)? else {
         return Ok(None);
     };
-    let mut search = Search::new(alloc, circuit, &opened)?;
-    search.simulate(alloc, budget)?;
-    search.shake(alloc, budget)?;
-    'inducing: while budget.tick() {
-        match search.round(solver, alloc, circuit, bad, budget)? {
-            Outcome::Over => return Ok(None),
-            Outcome::Split => search.shake(alloc, budget)?,
-            Outcome::Fixed => return subset(solver, alloc, circuit, &search.classes, budget),
-        }
+    match classes_of(solver, alloc, circuit, &opened, budget)? {
+        Some(classes) => subset(solver, alloc, circuit, &classes, budget),
+        None => Ok(None),
     }
-    Ok(None)
 }

@@ -27,4 +27,4 @@ returns c =
     let made : c.in_ok-from_slice.field-0 ≡ high_of l ∷ [] = c.in_ok-from_slice.ensures ∙ ap (λ (a : Lit). a ∷ []) (c.high.ensures ∙ ap high_of same) in
     subst (All (IsEquality m)) (sym c.in_ok-push.ensures.ok)
     (All-push (IsEquality m) old c.in_ok-from_slice.field-0 c.requires.all
-        (subst (IsEquality m) (sym made) (constant_is m l c.well_formed-2.ensures (Contains-get_or m.latches c.args.place blank c.requires.place) fixed)))
+    (subst (IsEquality m) (sym made) (constant_is m l c.well_formed-2.ensures (Contains-get_or m.latches c.args.place blank c.requires.place) fixed)))

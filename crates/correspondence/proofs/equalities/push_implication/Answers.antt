@@ -47,5 +47,5 @@ returns c =
     c.in_ok-from_slice.ensures ∙ ap (λ (a : Lit). a ∷ c.low.result ∷ []) first ∙ ap (λ (a : Lit). high_of l ∷ a ∷ []) second in
     subst (All (IsEquality m)) (sym c.in_ok-push.ensures.ok)
     (All-push (IsEquality m) old c.in_ok-from_slice.field-0 c.requires.all
-        (subst (IsEquality m) (sym made)
-            (implication_is m l k c.well_formed-2.ensures (Contains-get_or m.latches c.args.place blank c.requires.place) (Contains-get_or m.latches c.args.lead blank c.requires.lead) fixed apart)))
+    (subst (IsEquality m) (sym made)
+    (implication_is m l k c.well_formed-2.ensures (Contains-get_or m.latches c.args.place blank c.requires.place) (Contains-get_or m.latches c.args.lead blank c.requires.lead) fixed apart)))

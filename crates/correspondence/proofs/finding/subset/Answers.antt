@@ -17,4 +17,4 @@ returns-clause-invariant g c =
     let m = c.args.circuit.now in
     let all : All (IsEquality m) c.as_slice-clauses.result.now = subst (All (IsEquality m)) (sym c.as_slice-clauses.ensures) c.in_ok-equalities.ensures in
     answer_is m c.as_slice-clauses.result.now (get_or c.bad.result.now 0 (record { 0 = 0 })) (ap (λ (xs : List Lit). get_or xs 0 (record { 0 = 0 })) c.bad.ensures) all
-        c.safe_inductive_subset.result c.safe_inductive_subset.ensures.among c.safe_inductive_subset.ensures.shown
+    c.safe_inductive_subset.result c.safe_inductive_subset.ensures.among c.safe_inductive_subset.ensures.shown

@@ -1,5 +1,5 @@
 use Rattle.base.specs.Budget.{Spends}
-use Rattle.correspondence.proofs.finding.correspond.Given as goal
+use Rattle.correspondence.proofs.finding.induce.Given as goal
 
 abbrev pub invariant-inducing : goal.invariant-inducing
 invariant-inducing g l = Spends l.initial.budget l.budget
