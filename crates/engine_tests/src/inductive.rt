@@ -43,7 +43,7 @@ static WORKED: [(&[u8], bool); 7] = [
 const STEPS: u64 = 100_000;
 
 /// Whether the clauses get a certificate that the checker accepts.
-fn is_certified(alloc: Global, circuit: &Model, clauses: &[Seq<Lit>]) -> Result<bool, Fail> {
+pub(crate) fn is_certified(alloc: Global, circuit: &Model, clauses: &[Seq<Lit>]) -> Result<bool, Fail> {
     let mut budget = Budget::new(STEPS);
     match certify(alloc, circuit, Property::Bad(0), clauses, &mut budget)? {
         Certified::Certificate(certificate) => Ok(check(alloc, circuit, &certificate).is_ok()),
@@ -52,7 +52,12 @@ fn is_certified(alloc: Global, circuit: &Model, clauses: &[Seq<Lit>]) -> Result<
 }
 
 /// Whether the replay of the run shows the bad literal.
-fn is_shown(alloc: Global, circuit: &Model, initial: Seq<bool>, inputs: Seq<Seq<bool>>) -> bool {
+pub(crate) fn is_shown(
+    alloc: Global,
+    circuit: &Model,
+    initial: Seq<bool>,
+    inputs: Seq<Seq<bool>>,
+) -> bool {
     let stimulus = Stimulus::Violated {
         property: Property::Bad(0),
         initial,

@@ -8,6 +8,8 @@ mod backtracking;
 #[cfg(test)]
 mod bounded;
 #[cfg(test)]
+mod equal_registers;
+#[cfg(test)]
 mod inductive;
 #[cfg(test)]
 mod literals;

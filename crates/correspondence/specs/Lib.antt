@@ -1,0 +1,3 @@
+pub mod Played
+pub mod Equal
+pub mod Answered

@@ -1,0 +1,34 @@
+//! Register correspondence (van Eijk 2000): latches that are equal, opposite or constant in every state that is
+//! reached while the constraints are kept.
+//!
+//! - `correspond` answers clauses over such latches, two for a pair and one for a constant, that are an invariant
+//!   and exclude the bad literal, where there are such clauses.
+//! - `Corresponding` is an engine that asks for them first, and another engine where there are none.
+//!
+//! Each latch that has a reset is taken as it is or negated, so that it begins with false. At first all are one
+//! class with the constant. 256 runs at once split the classes, from the first states and from random states in
+//! which the latches of each class are equal. Then come rounds of induction: a solver has the circuit at one time
+//! and the clauses of all classes, and is asked of each clause whether it holds after a step. A state in which it
+//! does not is simulated with its neighbours, and again from the state that split a class last, which splits many
+//! classes at once. A round that splits none ends this. Where the classes of a round don't exclude the bad literal,
+//! no later ones do, and none are answered.
+//!
+//! Nothing of that is trusted: that each clause holds at first is seen by the resets, and all else is asked anew by
+//! `inductive_subset`, which answers the clauses that are needed.
+//!
+//! A simulated step costs a pass over the gates and latches, and takes one step of the budget for 64 of them and one more.
+//! A round costs a pass and a query for each clause, which takes what the solver spends.
+#![tactic(auto)]
+
+mod classes;
+mod corresponding;
+mod drawing;
+mod equalities;
+mod finding;
+mod opened;
+mod rounds;
+mod runs;
+mod search;
+
+pub use corresponding::Corresponding;
+pub use finding::correspond;

@@ -1,0 +1,82 @@
+//! Circuits with registers that are equal, opposite or constant: where that is an invariant which excludes the bad
+//! literal, it is found and certified; and each circuit is decided, with another engine behind.
+
+use crate::bounded::circuit;
+use crate::inductive::{is_certified, is_shown};
+use cdcl::Cdcl;
+use correspondence::{Corresponding, correspond};
+use engine::{Engine, Finding};
+use graph::Budget;
+use ic3::Ic3;
+use std::alloc::Global;
+use std::test::Fail;
+
+/// Circuits, whether such an invariant is found, and whether they are safe.
+static WORKED: [(&[u8], bool, bool); 10] = [
+    // two latches that take an input, and bad where only the first is set
+    (b"aag 4 1 2 0 1 1\n2\n4 2\n6 2\n8\n8 4 7\n", true, true),
+    // the second takes the input's negation and begins with 1, and bad where both are set
+    (b"aag 4 1 2 0 1 1\n2\n4 2\n6 3 1\n8\n8 4 6\n", true, true),
+    // the second begins with 0: both are never set after a step, but the latches are not opposite at first
+    (b"aag 4 1 2 0 1 1\n2\n4 2\n6 3\n8\n8 4 6\n", false, true),
+    // a latch that is never set, since it would have to be set before
+    (b"aag 3 1 1 0 1 1\n2\n4 6\n4\n6 2 4\n", true, true),
+    // a latch that begins with 1 and keeps that, and bad where it is not set
+    (b"aag 3 1 1 0 1 1\n2\n4 7 1\n5\n6 2 5\n", true, true),
+    // a latch that takes an input that the constraint forbids
+    (b"aag 2 1 1 0 0 1 1\n2\n4 2\n4\n3\n", true, true),
+    // the same without the constraint
+    (b"aag 2 1 1 0 0 1\n2\n4 2\n4\n", false, false),
+    // two latches without resets that take an input
+    (b"aag 4 1 2 0 1 1\n2\n4 2 4\n6 2 6\n8\n8 4 7\n", false, false),
+    // two latches that take one without a reset
+    (b"aag 4 0 3 0 1 1\n2 2 2\n4 2\n6 2\n8\n8 4 7\n", true, true),
+    // two latches that are never 1 at once, and are not equal
+    (
+        b"aag 5 0 2 0 3 1\n2 6\n4 8\n10\n6 3 5\n8 2 5\n10 2 4\n",
+        false,
+        true,
+    ),
+];
+
+/// How many steps of the budget a search may cost.
+const STEPS: u64 = 100_000;
+
+/// Whether an invariant of equal latches is found that gets a certificate.
+fn is_found(alloc: Global, text: &[u8]) -> Result<bool, Fail> {
+    let circuit = circuit(alloc, text)?;
+    let mut solver = Cdcl::new(alloc);
+    match correspond(&mut solver, alloc, &circuit, &mut Budget::new(STEPS))? {
+        Some(clauses) => is_certified(alloc, &circuit, clauses.as_slice()),
+        None => Ok(false),
+    }
+}
+
+/// Whether the circuit is found safe or not, with evidence that stands, by equal latches or by IC3.
+fn is_decided(alloc: Global, text: &[u8], safe: bool) -> Result<bool, Fail> {
+    let circuit = circuit(alloc, text)?;
+    let mut engine = Corresponding::new(Cdcl::new(alloc), Ic3::new(Cdcl::new(alloc)));
+    match engine.find(alloc, &circuit, &mut Budget::new(STEPS))? {
+        Finding::Invariant(clauses) => Ok(
+            safe && is_certified(alloc, &circuit, clauses.as_slice())?,
+        ),
+        Finding::Run { initial, inputs } => Ok(!safe && is_shown(alloc, &circuit, initial, inputs)),
+        Finding::Unknown(_) => Ok(false),
+    }
+}
+
+#[test]
+fn finds_equal_registers(rt: HostRuntime) -> Result<(), Fail> {
+    for (text, wanted, _) in &WORKED {
+        assert!(rt; is_found(rt.alloc(), text)? == *wanted, "{text:?}");
+    }
+    Ok(())
+}
+
+#[test]
+fn decides_with_ic3_behind(rt: HostRuntime) -> Result<(), Fail> {
+    for (text, _, safe) in &WORKED {
+        assert!(rt; is_decided(rt.alloc(), text, *safe)?, "{text:?}");
+    }
+    Ok(())
+}
