@@ -1,6 +1,8 @@
 """Cases of the programs themselves: names of properties, a time, and the files that they make."""
 
+import json
 import os
+import re
 import stat
 
 from trial import BOTH, FILES, HOLDS, PROGRAMS, call, case, counter, expect, make
@@ -63,6 +65,45 @@ def quiet(scratch):
     expect((scratch / "made" / "b1.stim").read_bytes(), b"1\nb1\n00\n\n\n.\n", "the evidence")
     words = ("check", "circuit.aag", "-p", "b1", "--quiet")
     expect(program(scratch, "aigmc", *words), (b"1\nb1\n.\n", b"", 1), "what check does")
+
+
+def lines(done):
+    """The lines of JSON that a program put, where they are all that it put, without their seconds, and its status."""
+    out, told, status = done
+    expect((out[-1:], told, out.isascii()), (b"\n", b"", True), "the end of what it puts, and what it says")
+    found = [json.loads(line) for line in out.splitlines()]
+    times = [line.pop("seconds") for line in found]
+    expect([time for time in times if not 0 <= time < 60], [], "times that can't be")
+    expect(out.count(b'"seconds":'), len(re.findall(rb'"seconds":\d+\.\d{3},', out)), "seconds with three decimals")
+    return found, status
+
+
+@case("--json: a line for each property, with what was kept and what is judged")
+def told_in_json(scratch):
+    folder = "q\"\\ é"
+    make(scratch / "circuit.aag", BOTH.replace("turns", "t\t\\é"))
+    (scratch / folder).mkdir()
+    first = {"file": "circuit.aag", "property": "b0", "name": 'stays, "so"'}
+    other = {"file": "circuit.aag", "property": "b1", "name": "t\t\\é".encode().decode("latin-1")}
+    shown = folder.encode().decode("latin-1")
+    found = {"reason": None, "vacuous": False}
+    holds = first | {"verdict": "holds", "evidence": f"{shown}/b0.cert"} | found
+    violated = other | {"verdict": "violated", "evidence": f"{shown}/b1.stim"} | found
+    done = program(scratch, "aigmc", "all", "circuit.aag", "--json", "--out", folder)
+    expect(lines(done), ([holds, violated], 1), "what aigmc all does")
+    safe = first | {"verdict": "safe", "evidence": f"{shown}/b0.cert", "number": None}
+    shows = other | {"verdict": "violated", "evidence": f"{shown}/b1.stim", "number": None}
+    done = program(scratch, "aigcheck", "all", "circuit.aag", folder, "--json")
+    expect(lines(done), ([safe, shows], 1), "what aigcheck all does")
+    (scratch / folder / "b0.cert").replace(scratch / folder / "b1.cert")
+    (scratch / folder / "b1.stim").unlink()
+    none = first | {"verdict": "none", "evidence": None, "number": None}
+    refused = other | {"verdict": "refused", "evidence": f"{shown}/b1.cert", "number": 30}
+    done = program(scratch, "aigcheck", "all", "circuit.aag", folder, "--json")
+    expect(lines(done), ([none, refused], 2), "what aigcheck all says of evidence of another property")
+    done = program(scratch, "aigmc", "check", "circuit.aag", "-p", "b0", "--json", "--cert", "made")
+    expect(lines(done), ([holds | {"evidence": "made"}], 0), "what aigmc check does")
+    expect(program(scratch, "aigcheck", "safe", "circuit.aag", "made")[2], 0, "what the judge says of the certificate")
 
 
 @case("aigmc --timeout: the search ends, and what was found stays")

@@ -8,6 +8,7 @@ mod naming;
 mod progress;
 mod relevant;
 mod shadow;
+mod showing;
 mod timed;
 mod tracing;
 mod vacuity;

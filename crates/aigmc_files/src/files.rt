@@ -1,14 +1,14 @@
 //! The files that commands read and make.
 
 use crate::making::Making;
-use crate::stop::{Role, Stop, about, at, finished, read_of};
+use crate::stop::{DONE, Role, Stop, about, at, finished, read_of};
 use base::buffered;
 use cli::{
     CliError, Layout, Verdict, load, load_stimulus, put_certificate, put_file, put_table, show,
 };
 use graph::{AigerFile, FromRead, Property, ReadToEndError, ToWrite, read_to_end};
 use inputs::{is_standard, open};
-use properties::property_name;
+use property_names::Name;
 use std::fs::File;
 use std::io;
 use std::io::{BufWriter, Write};
@@ -17,6 +17,8 @@ use trace::{put_trace, put_vcd};
 
 /// The status of a violation.
 pub const VIOLATED: u8 = 1;
+/// The status where nothing is known.
+const UNKNOWN: u8 = 2;
 
 /// What the system calls the file that is read by this name.
 pub fn path_of(name: &str) -> &str {
@@ -206,22 +208,39 @@ pub fn make_waveform(
     at(Role::Made, making.end(rt, written))
 }
 
-/// Prints a verdict, and answers its status.
-pub fn print(rt: &HostRuntime, property: Property, verdict: &Verdict) -> Result<u8, Stop> {
-    let out = buffered(rt.alloc(), io::writer(rt))?;
-    let mut out = ToWrite::new(out);
-    let put = show(property, verdict, &mut out).map_err(CliError::from);
-    settled(out, put.map_err(Stop::from))
+/// The status of a verdict.
+pub fn status_of(verdict: &Verdict) -> u8 {
+    match verdict {
+        Verdict::Safe(_) => DONE,
+        Verdict::Unsafe(_) => VIOLATED,
+        Verdict::Unknown(_) => UNKNOWN,
+    }
 }
 
-/// Prints a verdict without a run, and answers its status.
+/// Prints a verdict, and answers its status. Its evidence goes to the file of that name first, where one is named. Once
+/// there is that file, nothing takes memory.
+pub fn keep_and_print(
+    rt: &HostRuntime,
+    name: Option<&str>,
+    property: Property,
+    verdict: &Verdict,
+) -> Result<u8, Stop> {
+    let out = buffered(rt.alloc(), io::writer(rt))?;
+    let mut out = ToWrite::new(out);
+    let kept = match name {
+        Some(name) => keep(rt, name, property, verdict),
+        None => Ok(()),
+    };
+    let put = match kept {
+        Ok(()) => show(property, verdict, &mut out).map_err(|_| Stop::Refused(CliError::Device)),
+        Err(stop) => Err(stop),
+    };
+    settled(out, put)
+}
+
+/// Prints a verdict without a run, and answers its status. It takes no memory.
 pub fn print_alone(rt: &HostRuntime, property: Property, verdict: &Verdict) -> Result<u8, Stop> {
-    let Verdict::Unsafe(_) = verdict else {
-        return print(rt, property, verdict);
-    };
-    let Ok(name) = property_name(rt.alloc(), property) else {
-        return Err(Stop::Memory);
-    };
-    finished(print!(rt; "1\n{name}\n.\n"))?;
-    Ok(VIOLATED)
+    let status = status_of(verdict);
+    finished(println!(rt; "{status}\n{}\n.", Name(property)))?;
+    Ok(status)
 }

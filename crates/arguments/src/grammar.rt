@@ -104,6 +104,13 @@ const QUIET: Argument = Argument {
     ..FLAG
 };
 
+/// Whether the verdicts are printed as JSON.
+const JSON: Argument = Argument {
+    name: "json",
+    help: "Prints a line of JSON for each property, in place of a stimulus",
+    ..FLAG
+};
+
 /// The commands, in the order of `--help`.
 static ROWS: [Row; 9] = [
     Row {
@@ -129,6 +136,7 @@ Examples:
             SEED,
             TIMEOUT,
             QUIET,
+            JSON,
             VERBOSE,
         ],
     },
@@ -153,6 +161,7 @@ Examples:
             SEED,
             TIMEOUT,
             QUIET,
+            JSON,
             VERBOSE,
         ],
     },

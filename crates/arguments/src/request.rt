@@ -49,6 +49,8 @@ pub struct Search {
     pub timeout: Option<u64>,
     /// whether verdicts are printed without a run, and standard error does not say how far it is
     pub quiet: bool,
+    /// whether verdicts are printed as JSON
+    pub json: bool,
     /// whether standard error says how far it is
     pub verbose: bool,
 }
@@ -138,6 +140,7 @@ fn asked_search(words: &ArgMatches<'_>) -> Search {
         seed,
         timeout: words.get_one::<u64>("timeout"),
         quiet: words.get_flag("quiet"),
+        json: words.get_flag("json"),
         verbose: words.get_flag("verbose"),
     }
 }
