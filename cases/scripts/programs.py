@@ -123,6 +123,21 @@ def timed(scratch):
     expect(judged, (b"yes safe b0\n", b"", 0), "what the judge says of it")
 
 
+@case("aigmc: a stimulus or clauses without an end")
+def endless(scratch):
+    make(scratch / "hold.aag", HOLDS)
+    first = b"aigmc: fault 1 at 1073741824\n"
+    meaning = b"the text is longer than 67,108,864 bytes, or as a stimulus or clauses than 1,073,741,824"
+    clauses = ("certify", "hold.aag", "-p", "b0", "--invariant", "/dev/zero", "--cert", "made", "-v")
+    for words in (("sim", "hold.aag", "/dev/zero"), ("witness", "hold.aag", "/dev/zero", "made"), clauses):
+        told = first + (b"  /dev/zero: " + meaning + b"\n" if "-v" in words else b"")
+        expect(program(scratch, "aigmc", *words), (b"", told, 3), f"what {words[0]} does")
+    with open(make(scratch / "long", ""), "wb") as text:
+        text.truncate(1 << 30)
+    expect(program(scratch, "aigmc", "trace", "hold.aag", "long"), (b"", b"aigmc: fault 80 at 0\n", 3), "a text as long as may be")
+    expect([path.name for path in scratch.iterdir() if path.name == "made"], [], "what is made")
+
+
 @case("aigmc: a file that is read is not written over")
 def taken(scratch):
     make(scratch / "j.aag", JUSTICE)

@@ -3,10 +3,8 @@
 use crate::making::Making;
 use crate::stop::{DONE, Role, Stop, about, at, finished, read_of};
 use base::buffered;
-use cli::{
-    CliError, Layout, Verdict, load, load_stimulus, put_certificate, put_file, put_table, show,
-};
-use graph::{AigerFile, FromRead, Property, ReadToEndError, ToWrite, read_to_end};
+use cli::{CliError, Layout, Verdict, load, put_certificate, put_file, put_table, show};
+use graph::{AigerFile, FromRead, Property, ReadAllError, ToWrite, read_all};
 use inputs::{is_standard, open};
 use property_names::Name;
 use std::fs::File;
@@ -19,6 +17,10 @@ use trace::{put_trace, put_vcd};
 pub const VIOLATED: u8 = 1;
 /// The status where nothing is known.
 const UNKNOWN: u8 = 2;
+/// How many bytes a stimulus or clauses may have.
+const MOST: usize = 1_073_741_824;
+/// The number of a text that is too long.
+const TOO_LONG: u8 = 1;
 
 /// What the system calls the file that is read by this name.
 pub fn path_of(name: &str) -> &str {
@@ -29,13 +31,17 @@ pub fn path_of(name: &str) -> &str {
     }
 }
 
-/// The text of the file of this name, read whole.
+/// The text of the file of this name, read whole: a stimulus, or clauses.
 pub fn read_text(rt: &HostRuntime, name: &str) -> Result<Vec<u8>, Stop> {
     let file = finished(open(rt, name))?;
-    match read_to_end(rt.alloc(), &mut FromRead::new(file)) {
+    match read_all(rt.alloc(), &mut FromRead::new(file), MOST) {
         Ok(text) => Ok(text),
-        Err(ReadToEndError::OutOfMemory(refused)) => Err(Stop::from(refused)),
-        Err(ReadToEndError::Device) => Err(Stop::Refused(CliError::Device)),
+        Err(ReadAllError::OutOfMemory(refused)) => Err(Stop::from(refused)),
+        Err(ReadAllError::Device) => Err(Stop::Refused(CliError::Device)),
+        Err(ReadAllError::TooLong) => Err(Stop::Fault {
+            number: TOO_LONG,
+            place: MOST as u64,
+        }),
     }
 }
 
@@ -53,8 +59,8 @@ pub fn circuit(rt: &HostRuntime, name: &str) -> Result<AigerFile, Stop> {
 
 /// The stimulus that the file of this name spells.
 fn read_stimulus(rt: &HostRuntime, name: &str) -> Result<Stimulus, Stop> {
-    let file = finished(open(rt, name))?;
-    let stimulus = load_stimulus(rt.alloc(), &mut FromRead::new(file))?;
+    let text = read_text(rt, name)?;
+    let stimulus = stimulus::read(rt.alloc(), text.as_slice()).map_err(CliError::Stimulus)?;
     Ok(stimulus)
 }
 
