@@ -123,6 +123,29 @@ def timed(scratch):
     expect(judged, (b"yes safe b0\n", b"", 0), "what the judge says of it")
 
 
+def extracted(scratch, circuit, name, verdict):
+    """Whether the circuit of this property alone has the verdict, where a violation of it is one of the whole circuit."""
+    make(scratch / "whole.aag", circuit)
+    (scratch / "part.aig").unlink(missing_ok=True)
+    expect(program(scratch, "aigmc", "extract", "whole.aag", "-p", name, "part.aig"), (b"", b"", 0), "what extract does")
+    out, _, status = program(scratch, "aigmc", "check", "part.aig", "-p", "b0")
+    if verdict == "safe":
+        return status == 0
+    make(scratch / "found", out)
+    program(scratch, "aigmc", "witness", "whole.aag", "found", "shown", "-p", name)
+    said = program(scratch, "aigcheck", "run", "whole.aag", "shown", "-p", name)
+    steps = len(out.splitlines()) - 5
+    return status == 1 and said == (f"yes run {name}\n".encode(), b"", 0) and steps == int(verdict.partition(" ")[2])
+
+
+@case("aigmc extract: what exhaustive search says of the whole circuit")
+def parts(scratch):
+    rows = [line.split("\t") for line in (FILES.parent / "verdicts.tsv").read_text().splitlines()]
+    rows = [(name, verdict, text.replace("\\n", "\n")) for name, verdict, text in rows if name.startswith("b")]
+    lost = [name + text for name, verdict, text in rows if not extracted(scratch, text, name, verdict)]
+    expect((lost, len(rows) > 100), ([], True), "the circuits of which something else is said, and whether there are many")
+
+
 @case("aigmc: a stimulus or clauses without an end")
 def endless(scratch):
     make(scratch / "hold.aag", HOLDS)

@@ -43,6 +43,10 @@
 //! `aigmc to-safety FILE -p jN OUT` writes the shadow circuit of a justice property to OUT, in the layouts of
 //! `convert`. OUT is not FILE.
 //!
+//! `aigmc extract FILE -p P OUT` writes the circuit of a bad literal, or of an output as one, to OUT, in the layouts of `convert`: all inputs and
+//! latches, each with a name, the constraints, and the gates on which they and the property rest. A latch on which they don't rest keeps
+//! its value. OUT is not FILE.
+//!
 //! `aigmc witness FILE STIM OUT` makes the strict stimulus OUT of the counterexample STIM, as another tool wrote it, of the property that
 //! `-p` or STIM names, or else of any: what doesn't matter is taken as 0 or as 1, and what follows the violation is cut
 //! (`witness::strict`). It prints `yes run P`. Where no choice shows a violation the status is 1, standard error says why, and nothing is
@@ -61,7 +65,7 @@ mod detail;
 mod explaining;
 
 use aigmc_commands::{
-    certify_clauses, check, check_all, make_fitting, make_shadow, make_witness, trace,
+    certify_clauses, check, check_all, extract, make_fitting, make_shadow, make_witness, trace,
 };
 use aigmc_files::{DONE, FAULT, Stop, circuit, finished, print_table, stimulus_of, tell};
 use arguments::{AskedLayout, Request, Wrong, parse};
@@ -115,6 +119,7 @@ fn done(rt: &HostRuntime, request: Request<'_>) -> Result<u8, Stop> {
         Request::Explain { number } => explain(rt, number),
         Request::Certify(asked) => certify_clauses(rt, asked),
         Request::ToSafety(asked) => make_shadow(rt, asked),
+        Request::Extract(asked) => extract(rt, asked),
         Request::Witness(asked) => make_witness(rt, asked),
         Request::Check {
             file,

@@ -144,7 +144,7 @@ fn properties_of(alloc: Global, circuit: &Model) -> Result<Has, Stop> {
 }
 
 /// The fault of a search, with the properties that the circuit has where there is no such one.
-fn fault_of(alloc: Global, circuit: &Model, property: Property, stop: Stop) -> Stop {
+pub fn fault_of(alloc: Global, circuit: &Model, property: Property, stop: Stop) -> Stop {
     let Stop::At { number, place, .. } = stop else {
         return stop;
     };

@@ -1,6 +1,6 @@
 //! What the words of a command line ask for.
 
-use crate::adopting::{Claim, Shadow, asked_certify, asked_to_safety};
+use crate::adopting::{Claim, Extraction, Shadow, asked_certify, asked_extract, asked_to_safety};
 use crate::grammar::command;
 use crate::layouts::{AskedLayout, asked_layout};
 use crate::witnessing::{Counterexample, asked_witness};
@@ -105,6 +105,8 @@ pub enum Request<'a> {
     Certify(Claim<'a>),
     /// Write the shadow circuit of a justice property.
     ToSafety(Shadow<'a>),
+    /// Write the circuit of a property alone.
+    Extract(Extraction<'a>),
     /// Make a strict stimulus of a counterexample.
     Witness(Counterexample<'a>),
     /// Look for evidence about all properties.
@@ -215,6 +217,7 @@ fn asked_of<'a>(name: &str, words: &ArgMatches<'a>) -> Option<Request<'a>> {
         "all" => Some(asked_all(words)),
         "certify" => Some(Request::Certify(asked_certify(words))),
         "to-safety" => Some(Request::ToSafety(asked_to_safety(words))),
+        "extract" => Some(Request::Extract(asked_extract(words))),
         "witness" => Some(Request::Witness(asked_witness(words))),
         "convert" => asked_convert(words),
         "sim" => Some(asked_sim(words)),
