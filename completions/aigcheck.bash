@@ -12,6 +12,7 @@ _aigcheck() {
     esac
     case ${COMP_WORDS[1]} in
     safe | run) options='-p --property --verbose -v --help -h' ;;
+    all) options='--json --verbose -v --help -h' ;;
     *) options='--verbose -v --help -h' ;;
     esac
     case $word in

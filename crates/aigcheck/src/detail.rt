@@ -18,7 +18,7 @@ fn beginning(text: &[u8], length: usize) -> &[u8] {
 }
 
 /// The number of a no by its line.
-fn number_of(line: &[u8]) -> Option<u8> {
+pub fn number_of(line: &[u8]) -> Option<u8> {
     match line {
         [b'n', b'o', b' ', digits @ .., b'\n'] => str::from_utf8(digits).ok()?.parse::<u8>().ok(),
         _ => None,
@@ -29,12 +29,17 @@ fn number_of(line: &[u8]) -> Option<u8> {
 /// if that is asked for.
 pub fn put_line(rt: &HostRuntime, line: &[u8], name: &str, verbose: bool) -> Result<(), NoAnswer> {
     given(io::writer(rt).write_all(line))?;
-    if let Some(number) = number_of(line)
-        && verbose
-    {
-        let _ = eprintln!(rt; "  {name}: {}", meaning(number));
+    if verbose {
+        tell_meaning(rt, line, name);
     }
     Ok(())
+}
+
+/// Says what the number of a no means of the file of this name, where the line is one.
+pub fn tell_meaning(rt: &HostRuntime, line: &[u8], name: &str) {
+    if let Some(number) = number_of(line) {
+        let _ = eprintln!(rt; "  {name}: {}", meaning(number));
+    }
 }
 
 /// Says why a text is no circuit, and where.

@@ -1,33 +1,46 @@
 //! The command `all`.
 
 use crate::counts::{Counts, Shown};
-use crate::detail::{put_line, tell_circuit, tell_symbol};
+use crate::detail::{number_of, put_line, tell_circuit, tell_meaning, tell_symbol};
 use crate::judging::{Names, answer_in_memory, judge, text_of};
 use crate::no_answer::{NoAnswer, Role, given, opened};
+use crate::reporting::{Said, put_shown};
 use crate::status::FAULT;
 use aiger::read;
 use graph::{AigerFile, FromBytes, FromRead, Property, ReadError, ToVec, ToWrite};
 use inputs::open;
-use properties::{Evidence, all_properties, evidence_name, property_name};
+use properties::{Evidence, all_properties, evidence_name};
+use property_names::Name;
 use std::fs::File;
 use std::io::ErrorKind;
+use std::time::Instant;
 use std::{fs, io};
 
 /// A circuit's text, and the folder with evidence about its properties.
 #[derive(Clone, Copy)]
 struct Folder<'a> {
     circuit: &'a [u8],
-    name: &'a str,
+    names: Names<'a>,
     /// whether standard error says why evidence is refused, and what properties are called
     verbose: bool,
+    /// whether JSON is put in place of the lines
+    json: bool,
 }
 
-/// Puts that the folder has no evidence about a property.
-fn put_no_evidence(rt: &HostRuntime, property: Property) -> Result<(), NoAnswer> {
-    let Ok(name) = property_name(rt.alloc(), property) else {
-        return Err(NoAnswer::Memory);
-    };
-    given(println!(rt; "no evidence {name}"))
+/// The file of this name, where there is one.
+fn found(rt: &HostRuntime, name: &str) -> Result<Option<File>, NoAnswer> {
+    match File::open(rt, name) {
+        Err(error) if error.kind() == ErrorKind::NotFound => Ok(None),
+        opened => Ok(Some(given(opened)?)),
+    }
+}
+
+/// Whether a file was judged and accepted.
+fn is_accepted(said: &Option<Said>) -> bool {
+    match said {
+        Some(said) => said.is_yes,
+        None => false,
+    }
 }
 
 impl Folder<'_> {
@@ -63,6 +76,19 @@ impl Folder<'_> {
         Ok(yes)
     }
 
+    /// The name of the file with evidence of this kind.
+    fn name_of(
+        &self,
+        rt: &HostRuntime,
+        property: Property,
+        evidence: Evidence,
+    ) -> Result<String, NoAnswer> {
+        match evidence_name(rt.alloc(), self.names.evidence, property, evidence) {
+            Ok(name) => Ok(name),
+            Err(_) => Err(NoAnswer::Memory),
+        }
+    }
+
     /// Whether the evidence of this kind is accepted for the property, where there is some.
     fn answer(
         &self,
@@ -70,12 +96,9 @@ impl Folder<'_> {
         property: Property,
         evidence: Evidence,
     ) -> Result<Option<bool>, NoAnswer> {
-        let Ok(name) = evidence_name(rt.alloc(), self.name, property, evidence) else {
-            return Err(NoAnswer::Memory);
-        };
-        let file = match File::open(rt, name.as_str()) {
-            Err(error) if error.kind() == ErrorKind::NotFound => return Ok(None),
-            opened => given(opened)?,
+        let name = self.name_of(rt, property, evidence)?;
+        let Some(file) = found(rt, name.as_str())? else {
+            return Ok(None);
         };
         let yes = if self.verbose {
             self.accepts_loudly(rt, property, evidence, name.as_str(), file)?
@@ -97,17 +120,95 @@ impl Folder<'_> {
             return Ok(Shown::Violated);
         }
         if safe.is_none() && run.is_none() {
-            put_no_evidence(rt, property)?;
+            given(println!(rt; "no evidence {}", Name(property)))?;
         }
         Ok(Shown::Nothing)
     }
 
+    /// What the judge says of the evidence of this kind, where there is some.
+    fn said(
+        &self,
+        rt: &HostRuntime,
+        property: Property,
+        evidence: Evidence,
+    ) -> Result<Option<Said>, NoAnswer> {
+        let name = self.name_of(rt, property, evidence)?;
+        let Some(file) = found(rt, name.as_str())? else {
+            return Ok(None);
+        };
+        let circuit = &mut FromBytes::new(self.circuit);
+        let file = &mut FromRead::new(file);
+        let out = &mut ToVec::new(rt.alloc());
+        let answer = judge(rt.alloc(), evidence, Some(property), circuit, file, out);
+        let is_yes = answer_in_memory(answer, out)?;
+        if self.verbose {
+            tell_meaning(rt, out.as_slice(), name.as_str());
+        }
+        let number = number_of(out.as_slice());
+        Ok(Some(Said {
+            name,
+            is_yes,
+            number,
+        }))
+    }
+
+    /// The same as `shown`, by a line of JSON.
+    fn shown_in_json(
+        &self,
+        rt: &HostRuntime,
+        file: &AigerFile,
+        property: Property,
+    ) -> Result<Shown, NoAnswer> {
+        let begun = Instant::now(rt).ok();
+        let circuit = self.names.circuit;
+        let certificate = self.said(rt, property, Evidence::Certificate)?;
+        if is_accepted(&certificate) {
+            put_shown(
+                rt,
+                circuit,
+                file,
+                property,
+                Shown::Safe,
+                &certificate,
+                begun,
+            )?;
+            return Ok(Shown::Safe);
+        }
+        let stimulus = self.said(rt, property, Evidence::Stimulus)?;
+        let shown = if is_accepted(&stimulus) {
+            Shown::Violated
+        } else {
+            Shown::Nothing
+        };
+        let last = if stimulus.is_some() {
+            &stimulus
+        } else {
+            &certificate
+        };
+        put_shown(rt, circuit, file, property, shown, last, begun)?;
+        Ok(shown)
+    }
+
+    /// What the evidence in the folder shows of a property. It puts a line, or several.
+    fn put(
+        &self,
+        rt: &HostRuntime,
+        file: &AigerFile,
+        property: Property,
+    ) -> Result<Shown, NoAnswer> {
+        if self.json {
+            self.shown_in_json(rt, file, property)
+        } else {
+            self.shown(rt, property)
+        }
+    }
+
     /// How many properties of the circuit the evidence shows safe, and how many violated. The last line says
-    /// so.
+    /// so, but in JSON.
     fn count(&self, rt: &HostRuntime, file: &AigerFile) -> Result<Counts, NoAnswer> {
         let mut counts = Counts::NONE;
         for property in all_properties(rt.alloc(), file.model())? {
-            counts = counts.with(self.shown(rt, property)?);
+            counts = counts.with(self.put(rt, file, property)?);
             if self.verbose {
                 tell_symbol(rt, file, property);
             }
@@ -117,16 +218,27 @@ impl Folder<'_> {
             violated,
             without,
         } = counts;
-        given(println!(rt; "{safe} safe, {violated} violated, {without} without evidence"))?;
+        if !self.json {
+            given(println!(rt; "{safe} safe, {violated} violated, {without} without evidence"))?;
+        }
         Ok(counts)
     }
+}
+
+/// Says that the text is no circuit: the no of its refusal, which in JSON would be of no property.
+fn put_no_circuit(rt: &HostRuntime, number: u8, json: bool) -> Result<(), NoAnswer> {
+    if json {
+        let _ = eprintln!(rt; "aigcheck: no {number}");
+        return Ok(());
+    }
+    given(println!(rt; "no {number}"))
 }
 
 /// The status of what the evidence in the folder shows of the circuit's properties. Of a text that is no
 /// circuit it puts the no of its refusal, and there is no answer.
 // What it needs of the stack is not added to that of the other commands.
 #[inline(never)]
-pub fn all(rt: &HostRuntime, names: Names<'_>, verbose: bool) -> Result<u8, NoAnswer> {
+pub fn all(rt: &HostRuntime, names: Names<'_>, verbose: bool, json: bool) -> Result<u8, NoAnswer> {
     let found = opened(Role::Evidence, fs::metadata(rt, names.evidence))?;
     if !found.is_dir() {
         let word = "it is no folder";
@@ -136,14 +248,15 @@ pub fn all(rt: &HostRuntime, names: Names<'_>, verbose: bool) -> Result<u8, NoAn
     let text = text_of(rt, opened(Role::Circuit, open(rt, names.circuit))?)?;
     let evidence = Folder {
         circuit: text.as_slice(),
-        name: names.evidence,
+        names,
         verbose,
+        json,
     };
     match read(rt.alloc(), text.as_slice()) {
         Ok(file) => Ok(evidence.count(rt, &file)?.status()),
         Err(ReadError::OutOfMemory(refused)) => Err(NoAnswer::from(refused)),
         Err(error) => {
-            given(println!(rt; "no {}", error.number()))?;
+            put_no_circuit(rt, error.number(), json)?;
             if verbose {
                 tell_circuit(rt, names.circuit, text.as_slice(), error);
             }

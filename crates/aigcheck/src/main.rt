@@ -14,7 +14,7 @@
 //! and where there is none that gets a yes, the stimulus. It puts the line of each that it judges, or
 //! `no evidence P` where there is neither. Last it puts how many properties are shown safe, how many
 //! violated, and how many are without accepted evidence. Of a FILE that is no circuit it puts `no` with the
-//! number alone.
+//! number alone. With `--json` it puts a line of JSON for each property instead.
 //!
 //! `aigcheck explain NUMBER` says what the number of a no means, and what to do.
 //!
@@ -35,6 +35,7 @@ mod detail;
 mod folder;
 mod judging;
 mod no_answer;
+mod reporting;
 mod status;
 mod words;
 
@@ -113,7 +114,7 @@ fn done(
     match command {
         "safe" => judged(rt, words, Evidence::Certificate, names),
         "run" => judged(rt, words, Evidence::Stimulus, names),
-        "all" => all(rt, names, words.get_flag("verbose")),
+        "all" => all(rt, names, words.get_flag("verbose"), words.get_flag("json")),
         "explain" => explain(rt, words),
         _ => Err(NoAnswer::BadArgument),
     }

@@ -67,6 +67,15 @@ fn verbose<'a>(alloc: Global) -> Arg<'a> {
         .action(ArgAction::SetTrue)
 }
 
+/// Whether JSON is put in place of the lines.
+fn json<'a>(alloc: Global) -> Arg<'a> {
+    Arg::new(alloc, "json")
+        .help("Prints a line of JSON for each property, in place of the lines")
+        .long("json")
+        .value_parser(ValueParser::Bool)
+        .action(ArgAction::SetTrue)
+}
+
 /// A command over a circuit and one more file or folder.
 fn with_files<'a>(
     alloc: Global,
@@ -101,7 +110,7 @@ fn run_command<'a>(alloc: Global) -> Result<Command<'a>, AllocError> {
 fn all_command<'a>(alloc: Global) -> Result<Command<'a>, AllocError> {
     let folder = file(alloc, "DIR", "The folder: b0.cert, b1.stim and so on");
     let about = "What the evidence in a folder shows of each property of a circuit";
-    with_files(alloc, "all", about, ALL, folder)
+    with_files(alloc, "all", about, ALL, folder)?.arg(json(alloc))
 }
 
 /// The words of `explain`.

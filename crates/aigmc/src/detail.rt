@@ -29,6 +29,8 @@ fn name_of<'a>(request: Request<'a>, role: Role) -> Option<&'a str> {
         (Request::Witness(asked), Role::Circuit) => Some(asked.file),
         (Request::Witness(asked), Role::Stimulus) => Some(asked.stimulus),
         (Request::Witness(asked), Role::Made) => Some(asked.out),
+        (Request::Extract(asked), Role::Circuit) => Some(asked.file),
+        (Request::Extract(asked), Role::Made) => Some(asked.out),
         (Request::ToSafety(asked), Role::Circuit) => Some(asked.file),
         (Request::ToSafety(asked), Role::Made) => Some(asked.out),
         _ => None,

@@ -25,7 +25,8 @@
 //! `--budget` is how many steps the search may cost. With `--cert OUT` the certificate of a property that
 //! holds is written to OUT before anything is printed; OUT may name neither the circuit's file nor the file
 //! that standard output goes to. What is said is `cli::decide`'s. `--timeout` ends bounded search and IC3 after so many seconds,
-//! of `all` for all properties together: what is left of the budget is spent then. `--quiet` leaves out a run. P may be a name of
+//! of `all` for all properties together: what is left of the budget is spent then. `--quiet` leaves out a run, and `--json` prints a line
+//! of JSON for each property instead. P may be a name of
 //! the symbol table here and in all other commands, where exactly one property has it.
 //!
 //! `aigmc all FILE` does the same for all properties of the circuit, in their order
@@ -41,6 +42,10 @@
 //!
 //! `aigmc to-safety FILE -p jN OUT` writes the shadow circuit of a justice property to OUT, in the layouts of
 //! `convert`. OUT is not FILE.
+//!
+//! `aigmc extract FILE -p P OUT` writes the circuit of a bad literal, or of an output as one, to OUT, in the layouts of `convert`: all inputs and
+//! latches, each with a name, the constraints, and the gates on which they and the property rest. A latch on which they don't rest keeps
+//! its value. OUT is not FILE.
 //!
 //! `aigmc witness FILE STIM OUT` makes the strict stimulus OUT of the counterexample STIM, as another tool wrote it, of the property that
 //! `-p` or STIM names, or else of any: what doesn't matter is taken as 0 or as 1, and what follows the violation is cut
@@ -60,7 +65,7 @@ mod detail;
 mod explaining;
 
 use aigmc_commands::{
-    certify_clauses, check, check_all, make_fitting, make_shadow, make_witness, trace,
+    certify_clauses, check, check_all, extract, make_fitting, make_shadow, make_witness, trace,
 };
 use aigmc_files::{DONE, FAULT, Stop, circuit, finished, print_table, stimulus_of, tell};
 use arguments::{AskedLayout, Request, Wrong, parse};
@@ -114,6 +119,7 @@ fn done(rt: &HostRuntime, request: Request<'_>) -> Result<u8, Stop> {
         Request::Explain { number } => explain(rt, number),
         Request::Certify(asked) => certify_clauses(rt, asked),
         Request::ToSafety(asked) => make_shadow(rt, asked),
+        Request::Extract(asked) => extract(rt, asked),
         Request::Witness(asked) => make_witness(rt, asked),
         Request::Check {
             file,

@@ -83,6 +83,7 @@ fn strengthened(
         seed: 0,
         timeout: asked.timeout,
         quiet: false,
+        json: false,
         verbose: asked.verbose,
     };
     let timing = Timing::begin(rt, search)?;

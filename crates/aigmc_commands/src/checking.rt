@@ -1,13 +1,14 @@
 //! The commands `check` and `all`.
 
 use crate::naming::{asked_for, property_in};
-use crate::progress::{Reporter, Shown, conclude};
+use crate::progress::{Reporter, Shown};
 use crate::relevant::relevant_clauses;
+use crate::showing::Found;
 use crate::timed::{Deadline, Timed};
-use crate::vacuity::warn_of_vacuity;
+use crate::vacuity::is_vacuous;
 use aigmc_files::{
     DONE, Has, NO_PROPERTY, Role, Stop, VIOLATED, about, at, circuit, expect_folder, finished,
-    is_same, keep, path_of, print, print_alone,
+    is_same, path_of,
 };
 use arguments::{EngineKind, Search};
 use base::{boxed, push};
@@ -20,8 +21,8 @@ use graph::{AigerFile, Budget, Lit, Model, Property, Seq};
 use ic3::Ic3;
 use inputs::is_standard;
 use properties::{Evidence, all_properties, evidence_name};
-use property_names::symbol_of;
 use std::alloc::Global;
+use std::time::Instant;
 
 /// A search and when its time is over.
 #[derive(Clone, Copy)]
@@ -48,12 +49,27 @@ impl Timing {
         }
     }
 
-    /// Says where no run keeps the constraints, if anything is said of the search.
-    fn warn(self, rt: &HostRuntime, circuit: &Model) -> Result<(), Stop> {
-        if self.shown(rt) == Shown::Nothing {
-            return Ok(());
+    /// Whether it is shown that no run keeps the constraints, where anything is said of the search: standard error says so
+    /// too, but where only JSON does.
+    fn is_vacuous(self, rt: &HostRuntime, circuit: &Model) -> Result<bool, Stop> {
+        let is_told = self.shown(rt) != Shown::Nothing;
+        if !is_told && !self.search.json {
+            return Ok(false);
         }
-        about(Role::Circuit, warn_of_vacuity(rt, circuit))
+        let is_vacuous = about(Role::Circuit, is_vacuous(rt.alloc(), circuit))?;
+        if is_vacuous && is_told {
+            let _ = eprintln!(rt; "aigmc: no run keeps the constraints, so every property holds");
+        }
+        Ok(is_vacuous)
+    }
+
+    /// When a search begins now, where JSON is to say how long it took and the clock says so.
+    fn now(self, rt: &HostRuntime) -> Option<Instant> {
+        if self.search.json {
+            Instant::now(rt).ok()
+        } else {
+            None
+        }
     }
 
     /// A solver that is asked until then.
@@ -128,7 +144,7 @@ fn properties_of(alloc: Global, circuit: &Model) -> Result<Has, Stop> {
 }
 
 /// The fault of a search, with the properties that the circuit has where there is no such one.
-fn fault_of(alloc: Global, circuit: &Model, property: Property, stop: Stop) -> Stop {
+pub fn fault_of(alloc: Global, circuit: &Model, property: Property, stop: Stop) -> Stop {
     let Stop::At { number, place, .. } = stop else {
         return stop;
     };
@@ -150,54 +166,64 @@ pub fn is_taken(rt: &HostRuntime, circuit: &str, out: &str) -> bool {
     is_standard(out) || is_same(rt, out, path_of(circuit)) || is_same(rt, out, "/dev/stdout")
 }
 
-/// Prints a verdict, and says on standard error what was found where that is asked for.
-fn print_verdict(
-    rt: &HostRuntime,
-    file: &AigerFile,
-    property: Property,
-    verdict: &Verdict,
+/// What commands ask about: the circuit's file and its name, the folder for the evidence, where one is named, how the
+/// search is to go, and whether it is shown that no run keeps the constraints.
+#[derive(Clone, Copy)]
+struct Whole<'a> {
+    name: &'a str,
+    file: &'a AigerFile,
+    folder: Option<&'a str>,
     timing: Timing,
-) -> Result<u8, Stop> {
-    let status = if timing.search.quiet {
-        print_alone(rt, property, verdict)?
-    } else {
-        print(rt, property, verdict)?
-    };
-    if timing.search.verbose {
-        let symbol = symbol_of(file, property);
-        conclude(rt, property, verdict, symbol, timing.deadline.is_over());
-    }
-    Ok(status)
+    is_vacuous: bool,
 }
 
-/// Prints a verdict. A certificate goes to the file of that name first, where one is named.
-fn keep_and_print(
-    rt: &HostRuntime,
-    file: &AigerFile,
-    certificate: Option<&str>,
-    property: Property,
-    verdict: &Verdict,
-    timing: Timing,
-) -> Result<u8, Stop> {
-    if let (Verdict::Safe(_), Some(out)) = (verdict, certificate) {
-        keep(rt, out, property, verdict)?;
+impl<'a> Whole<'a> {
+    /// What was found of a property by the search that began then.
+    fn found(
+        self,
+        property: Property,
+        verdict: &'a Verdict,
+        evidence: Option<&'a str>,
+        begun: Option<Instant>,
+    ) -> Found<'a> {
+        Found {
+            name: self.name,
+            file: self.file,
+            property,
+            verdict,
+            evidence,
+            search: self.timing.search,
+            begun,
+            is_over: self.timing.deadline.is_over(),
+            is_vacuous: self.is_vacuous,
+        }
     }
-    print_verdict(rt, file, property, verdict, timing)
+}
+
+/// The file to make of a certificate, where there is one and a file is named.
+fn certificate_in<'a>(verdict: &Verdict, certificate: Option<&'a str>) -> Option<&'a str> {
+    match verdict {
+        Verdict::Safe(_) => certificate,
+        _ => None,
+    }
 }
 
 /// Looks for evidence about the property of the circuit, and prints the verdict. A certificate goes to the
 /// file of that name first, where one is named.
 fn check_in(
     rt: &HostRuntime,
-    file: &AigerFile,
+    whole: Whole<'_>,
     property: Property,
     certificate: Option<&str>,
-    timing: Timing,
 ) -> Result<u8, Stop> {
-    timing.warn(rt, file.model())?;
+    let (file, timing) = (whole.file, whole.timing);
+    let begun = timing.now(rt);
     let candidates = Seq::new(rt.alloc());
     match about(Role::Circuit, ask(rt, file, property, timing, candidates)) {
-        Ok(verdict) => keep_and_print(rt, file, certificate, property, &verdict, timing),
+        Ok(verdict) => {
+            let evidence = certificate_in(&verdict, certificate);
+            whole.found(property, &verdict, evidence, begun).show(rt)
+        }
         Err(stop) => Err(fault_of(rt.alloc(), file.model(), property, stop)),
     }
 }
@@ -218,52 +244,54 @@ pub fn check(
     }
     let file = circuit(rt, name)?;
     let property = property_in(rt, name, &file, asked, search.verbose)?;
-    check_in(rt, &file, property, certificate, timing)
+    let whole = Whole {
+        name,
+        file: &file,
+        folder: None,
+        timing,
+        is_vacuous: timing.is_vacuous(rt, file.model())?,
+    };
+    check_in(rt, whole, property, certificate)
 }
 
-/// Makes the folder's file with the verdict's evidence, where it has some.
-fn keep_in(
+/// The file of the folder to make of the verdict's evidence, where it has some and a folder is named.
+fn evidence_in(
     rt: &HostRuntime,
-    circuit: &str,
-    folder: &str,
+    whole: Whole<'_>,
     property: Property,
     verdict: &Verdict,
-) -> Result<(), Stop> {
+) -> Result<Option<String>, Stop> {
+    let Some(folder) = whole.folder else {
+        return Ok(None);
+    };
     let evidence = match verdict {
         Verdict::Safe(_) => Evidence::Certificate,
         Verdict::Unsafe(_) => Evidence::Stimulus,
-        Verdict::Unknown(_) => return Ok(()),
+        Verdict::Unknown(_) => return Ok(None),
     };
     let Ok(out) = evidence_name(rt.alloc(), folder, property, evidence) else {
         return Err(Stop::Memory);
     };
-    if is_taken(rt, circuit, out.as_str()) {
+    if is_taken(rt, whole.name, out.as_str()) {
         return Err(Stop::Taken);
     }
-    keep(rt, out.as_str(), property, verdict)
+    Ok(Some(out))
 }
 
-/// What `all` asks about: the circuit's file and its name, the folder for the evidence, where one is named, and how the
-/// search is to go.
-#[derive(Clone, Copy)]
-struct Whole<'a> {
-    name: &'a str,
-    file: &'a AigerFile,
-    folder: Option<&'a str>,
-    timing: Timing,
-}
-
-/// Prints a verdict. Its evidence goes to the folder of that name first, where one is named.
+/// Prints a verdict. Its evidence goes to the folder first, where one is named.
 fn keep_in_and_print(
     rt: &HostRuntime,
     whole: Whole<'_>,
     property: Property,
     verdict: &Verdict,
+    begun: Option<Instant>,
 ) -> Result<u8, Stop> {
-    if let Some(folder) = whole.folder {
-        keep_in(rt, whole.name, folder, property, verdict)?;
+    match evidence_in(rt, whole, property, verdict)? {
+        Some(out) => whole
+            .found(property, verdict, Some(out.as_str()), begun)
+            .show(rt),
+        None => whole.found(property, verdict, None, begun).show(rt),
     }
-    print_verdict(rt, whole.file, property, verdict, whole.timing)
 }
 
 /// The status of two verdicts: that of a violation, else that of an unknown.
@@ -294,12 +322,13 @@ fn check_next(
     clauses: &mut Seq<Seq<Lit>>,
 ) -> Result<u8, Stop> {
     let file = whole.file;
+    let begun = whole.timing.now(rt);
     let candidates = relevant_clauses(rt.alloc(), file.model(), property, clauses.as_slice())?;
     let verdict = about(
         Role::Circuit,
         ask(rt, file, property, whole.timing, candidates),
     )?;
-    let status = keep_in_and_print(rt, whole, property, &verdict)?;
+    let status = keep_in_and_print(rt, whole, property, &verdict, begun)?;
     if let Some(found) = clauses_of(property, verdict) {
         *clauses = found;
     }
@@ -326,8 +355,8 @@ pub fn check_all(
         file: &file,
         folder,
         timing,
+        is_vacuous: timing.is_vacuous(rt, file.model())?,
     };
-    timing.warn(rt, file.model())?;
     let properties = all_properties(rt.alloc(), file.model()).map_err(CliError::from)?;
     let mut clauses = Seq::new(rt.alloc());
     let mut status = DONE;

@@ -4,10 +4,12 @@
 mod adopting;
 mod checking;
 mod counterexample;
+mod extracting;
 mod naming;
 mod progress;
 mod relevant;
 mod shadow;
+mod showing;
 mod timed;
 mod tracing;
 mod vacuity;
@@ -15,6 +17,7 @@ mod witnessing;
 
 pub use adopting::{certify_clauses, make_fitting, make_shadow};
 pub use checking::{check, check_all};
+pub use extracting::extract;
 pub use progress::is_terminal;
 pub use tracing::trace;
 pub use witnessing::make_witness;

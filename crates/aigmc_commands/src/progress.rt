@@ -4,9 +4,10 @@ use cli::Verdict;
 use engine::{Progress, Reason};
 use explanations::Printable;
 use graph::{Budget, Property};
-use std::fs;
+use property_names::Name;
 use std::os::unix::fs::{FileTypeExt, MetadataExt};
 use std::time::Instant;
+use std::{fmt, fs};
 use stimulus::Stimulus;
 
 /// How long the one line stays as it is.
@@ -152,38 +153,51 @@ impl Progress for Reporter {
     }
 }
 
+/// Why nothing is known of a property, in words.
+#[derive(Clone, Copy)]
+pub struct Why {
+    /// why the search ended
+    pub reason: Reason,
+    /// whether the time is over
+    pub is_over: bool,
+}
+
+impl fmt::Display for Why {
+    fn fmt<W: fmt::Write>(&self, f: &mut fmt::Formatter<W>) -> fmt::Result {
+        match self.reason {
+            Reason::Depth(depth) => {
+                let times = depth.saturating_add(1);
+                write!(
+                    f,
+                    "no run of at most {times} times; a greater --depth looks further"
+                )
+            }
+            Reason::Budget if self.is_over => f.write_str(
+                "the time is over; a greater --timeout looks further",
+            ),
+            Reason::Budget => f.write_str("the budget is spent; a greater --budget looks further"),
+            Reason::NoEvidence => f.write_str("no engine had evidence"),
+        }
+    }
+}
+
 /// Says what was found of the property, and why nothing is known of it.
 fn tell_found(rt: &HostRuntime, property: Property, verdict: &Verdict, is_over: bool) {
-    let (letter, number) = match property {
-        Property::Bad(number) => ('b', number),
-        Property::Justice(number) => ('j', number),
-        Property::Output(number) => ('o', number),
-    };
+    let name = Name(property);
     let _ = match verdict {
         Verdict::Safe(certificate) => {
             let clauses = certificate.invariant.as_slice().len();
-            eprint!(rt; "{letter}{number}: holds, by an invariant of {clauses} clauses")
+            eprint!(rt; "{name}: holds, by an invariant of {clauses} clauses")
         }
         Verdict::Unsafe(Stimulus::Violated { inputs, .. }) => {
             let times = inputs.as_slice().len();
-            eprint!(rt; "{letter}{number}: violated, by a run of {times} times")
+            eprint!(rt; "{name}: violated, by a run of {times} times")
         }
-        Verdict::Unsafe(_) => eprint!(rt; "{letter}{number}: violated"),
-        Verdict::Unknown(Reason::Depth(depth)) => {
-            let times = depth.saturating_add(1);
-            eprint!(rt;
-                "{letter}{number}: no run of at most {times} times; a greater --depth looks further"
-            )
+        Verdict::Unsafe(_) => eprint!(rt; "{name}: violated"),
+        Verdict::Unknown(reason) => {
+            let reason = *reason;
+            eprint!(rt; "{name}: {}", Why { reason, is_over })
         }
-        Verdict::Unknown(Reason::Budget) if is_over => {
-            eprint!(rt; "{letter}{number}: the time is over; a greater --timeout looks further")
-        }
-        Verdict::Unknown(Reason::Budget) => {
-            eprint!(rt; "{letter}{number}: the budget is spent; a greater --budget looks further")
-        }
-        Verdict::Unknown(Reason::NoEvidence) => eprint!(rt;
-            "{letter}{number}: no engine had evidence"
-        ),
     };
 }
 

@@ -7,7 +7,7 @@ use std::alloc::Global;
 /// The variables on which a property and the constraints rest, at any time (the sequential cone of
 /// influence). What is marked only says which clauses are tried.
 #[derive(Drop)]
-struct Cone {
+pub struct Cone {
     /// for each variable two on which its value rests: those of a gate's right sides, or of a latch's
     /// next literal; else 0
     below: Vec<[u32; 2]>,
@@ -18,7 +18,7 @@ struct Cone {
 
 impl Cone {
     /// Nothing yet. It costs the circuit.
-    fn new(alloc: Global, circuit: &Model) -> Result<Cone, Refused> {
+    pub fn new(alloc: Global, circuit: &Model) -> Result<Cone, Refused> {
         circuit.well_formed();
         let places = circuit.max_var() as usize + 1;
         let mut below = filled(alloc, [0, 0], places)?;
@@ -38,7 +38,7 @@ impl Cone {
     }
 
     /// Marks a variable.
-    fn mark(&mut self, variable: u32) -> Result<(), Refused> {
+    pub fn mark(&mut self, variable: u32) -> Result<(), Refused> {
         if let Some(mark) = self.marks.get_mut(variable as usize)
             && !*mark
         {
@@ -49,7 +49,7 @@ impl Cone {
     }
 
     /// Marks the variables of all of the literals.
-    fn mark_all(&mut self, lits: &[Lit]) -> Result<(), Refused> {
+    pub fn mark_all(&mut self, lits: &[Lit]) -> Result<(), Refused> {
         for lit in lits {
             self.mark(lit.variable())?;
         }
@@ -57,7 +57,7 @@ impl Cone {
     }
 
     /// Marks all on which what is marked rests. Each variable is opened once.
-    fn close(&mut self) -> Result<(), Refused> {
+    pub fn close(&mut self) -> Result<(), Refused> {
         for _ in 0..self.below.len() {
             let Some(variable) = self.open.pop() else {
                 return Ok(());
@@ -73,7 +73,7 @@ impl Cone {
     }
 
     /// Whether each literal's variable is marked.
-    fn has_all(&self, lits: &[Lit]) -> bool {
+    pub fn has_all(&self, lits: &[Lit]) -> bool {
         lits.iter().all(|lit| self.marks.get(lit.variable() as usize) == Some(&true))
     }
 }

@@ -14,7 +14,7 @@ const SAVED: &[u8] = b"saved";
 const COPY: &[u8] = b"copy.";
 
 /// Adds a name.
-fn add(
+pub fn add(
     alloc: Global,
     symbols: &mut Vec<Symbol>,
     kind: SymbolKind,

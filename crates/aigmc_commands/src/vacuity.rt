@@ -27,8 +27,12 @@ fn covered(alloc: Global, circuit: &Model) -> Result<Model, ReadError> {
     Model::from_parts(alloc, parts)
 }
 
-/// Whether a certificate shows that no run keeps the circuit's constraints.
-fn is_vacuous(alloc: Global, circuit: &Model) -> Result<bool, Stop> {
+/// Whether a certificate shows that no run keeps the circuit's constraints: then every property holds, whatever the
+/// circuit does.
+pub fn is_vacuous(alloc: Global, circuit: &Model) -> Result<bool, Stop> {
+    if circuit.constraints().is_empty() {
+        return Ok(false);
+    }
     let covered = covered(alloc, circuit)?;
     let mut engines: Vec<Box<dyn Engine>> = Vec::new(alloc);
     let engine: Box<dyn Engine> = boxed(alloc, Ic3::new(Cdcl::new(alloc)))?;
@@ -43,13 +47,4 @@ fn is_vacuous(alloc: Global, circuit: &Model) -> Result<bool, Stop> {
     );
     let verdict = decided.map_err(CliError::from)?;
     Ok(matches!(verdict, Verdict::Safe(_)))
-}
-
-/// Says on standard error where it is shown that no run keeps the circuit's constraints: then every property holds, whatever
-/// the circuit does.
-pub fn warn_of_vacuity(rt: &HostRuntime, circuit: &Model) -> Result<(), Stop> {
-    if !circuit.constraints().is_empty() && is_vacuous(rt.alloc(), circuit)? {
-        let _ = eprintln!(rt; "aigmc: no run keeps the constraints, so every property holds");
-    }
-    Ok(())
 }

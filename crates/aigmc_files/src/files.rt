@@ -1,14 +1,12 @@
 //! The files that commands read and make.
 
 use crate::making::Making;
-use crate::stop::{Role, Stop, about, at, finished, read_of};
+use crate::stop::{DONE, Role, Stop, about, at, finished, read_of};
 use base::buffered;
-use cli::{
-    CliError, Layout, Verdict, load, load_stimulus, put_certificate, put_file, put_table, show,
-};
-use graph::{AigerFile, FromRead, Property, ReadToEndError, ToWrite, read_to_end};
+use cli::{CliError, Layout, Verdict, load, put_certificate, put_file, put_table, show};
+use graph::{AigerFile, FromRead, Property, ReadAllError, ToWrite, read_all};
 use inputs::{is_standard, open};
-use properties::property_name;
+use property_names::Name;
 use std::fs::File;
 use std::io;
 use std::io::{BufWriter, Write};
@@ -17,6 +15,12 @@ use trace::{put_trace, put_vcd};
 
 /// The status of a violation.
 pub const VIOLATED: u8 = 1;
+/// The status where nothing is known.
+const UNKNOWN: u8 = 2;
+/// How many bytes a stimulus or clauses may have.
+const MOST: usize = 1_073_741_824;
+/// The number of a text that is too long.
+const TOO_LONG: u8 = 1;
 
 /// What the system calls the file that is read by this name.
 pub fn path_of(name: &str) -> &str {
@@ -27,13 +31,17 @@ pub fn path_of(name: &str) -> &str {
     }
 }
 
-/// The text of the file of this name, read whole.
+/// The text of the file of this name, read whole: a stimulus, or clauses.
 pub fn read_text(rt: &HostRuntime, name: &str) -> Result<Vec<u8>, Stop> {
     let file = finished(open(rt, name))?;
-    match read_to_end(rt.alloc(), &mut FromRead::new(file)) {
+    match read_all(rt.alloc(), &mut FromRead::new(file), MOST) {
         Ok(text) => Ok(text),
-        Err(ReadToEndError::OutOfMemory(refused)) => Err(Stop::from(refused)),
-        Err(ReadToEndError::Device) => Err(Stop::Refused(CliError::Device)),
+        Err(ReadAllError::OutOfMemory(refused)) => Err(Stop::from(refused)),
+        Err(ReadAllError::Device) => Err(Stop::Refused(CliError::Device)),
+        Err(ReadAllError::TooLong) => Err(Stop::Fault {
+            number: TOO_LONG,
+            place: MOST as u64,
+        }),
     }
 }
 
@@ -51,8 +59,8 @@ pub fn circuit(rt: &HostRuntime, name: &str) -> Result<AigerFile, Stop> {
 
 /// The stimulus that the file of this name spells.
 fn read_stimulus(rt: &HostRuntime, name: &str) -> Result<Stimulus, Stop> {
-    let file = finished(open(rt, name))?;
-    let stimulus = load_stimulus(rt.alloc(), &mut FromRead::new(file))?;
+    let text = read_text(rt, name)?;
+    let stimulus = stimulus::read(rt.alloc(), text.as_slice()).map_err(CliError::Stimulus)?;
     Ok(stimulus)
 }
 
@@ -206,22 +214,39 @@ pub fn make_waveform(
     at(Role::Made, making.end(rt, written))
 }
 
-/// Prints a verdict, and answers its status.
-pub fn print(rt: &HostRuntime, property: Property, verdict: &Verdict) -> Result<u8, Stop> {
-    let out = buffered(rt.alloc(), io::writer(rt))?;
-    let mut out = ToWrite::new(out);
-    let put = show(property, verdict, &mut out).map_err(CliError::from);
-    settled(out, put.map_err(Stop::from))
+/// The status of a verdict.
+pub fn status_of(verdict: &Verdict) -> u8 {
+    match verdict {
+        Verdict::Safe(_) => DONE,
+        Verdict::Unsafe(_) => VIOLATED,
+        Verdict::Unknown(_) => UNKNOWN,
+    }
 }
 
-/// Prints a verdict without a run, and answers its status.
+/// Prints a verdict, and answers its status. Its evidence goes to the file of that name first, where one is named. Once
+/// there is that file, nothing takes memory.
+pub fn keep_and_print(
+    rt: &HostRuntime,
+    name: Option<&str>,
+    property: Property,
+    verdict: &Verdict,
+) -> Result<u8, Stop> {
+    let out = buffered(rt.alloc(), io::writer(rt))?;
+    let mut out = ToWrite::new(out);
+    let kept = match name {
+        Some(name) => keep(rt, name, property, verdict),
+        None => Ok(()),
+    };
+    let put = match kept {
+        Ok(()) => show(property, verdict, &mut out).map_err(|_| Stop::Refused(CliError::Device)),
+        Err(stop) => Err(stop),
+    };
+    settled(out, put)
+}
+
+/// Prints a verdict without a run, and answers its status. It takes no memory.
 pub fn print_alone(rt: &HostRuntime, property: Property, verdict: &Verdict) -> Result<u8, Stop> {
-    let Verdict::Unsafe(_) = verdict else {
-        return print(rt, property, verdict);
-    };
-    let Ok(name) = property_name(rt.alloc(), property) else {
-        return Err(Stop::Memory);
-    };
-    finished(print!(rt; "1\n{name}\n.\n"))?;
-    Ok(VIOLATED)
+    let status = status_of(verdict);
+    finished(println!(rt; "{status}\n{}\n.", Name(property)))?;
+    Ok(status)
 }

@@ -1,4 +1,4 @@
-//! The commands for what other engines found, and what they ask for.
+//! The commands for other engines and what they found, and what they ask for.
 
 use crate::words::word;
 use clap::ArgMatches;
@@ -35,6 +35,29 @@ pub struct Shadow<'a> {
     pub out: &'a str,
     /// whether a fault says more than its line
     pub verbose: bool,
+}
+
+/// A property, and the file to make of its circuit alone.
+#[derive(Clone, Copy)]
+pub struct Extraction<'a> {
+    /// the circuit's file
+    pub file: &'a str,
+    /// the property's name
+    pub property: &'a str,
+    /// the file to make
+    pub out: &'a str,
+    /// whether a fault says more than its line
+    pub verbose: bool,
+}
+
+/// What `extract` asks for.
+pub fn asked_extract<'a>(words: &ArgMatches<'a>) -> Extraction<'a> {
+    Extraction {
+        file: word(words, "FILE"),
+        property: word(words, "property"),
+        out: word(words, "OUT"),
+        verbose: words.get_flag("verbose"),
+    }
 }
 
 /// What `certify` asks for.

@@ -104,8 +104,15 @@ const QUIET: Argument = Argument {
     ..FLAG
 };
 
+/// Whether the verdicts are printed as JSON.
+const JSON: Argument = Argument {
+    name: "json",
+    help: "Prints a line of JSON for each property, in place of a stimulus",
+    ..FLAG
+};
+
 /// The commands, in the order of `--help`.
-static ROWS: [Row; 9] = [
+static ROWS: [Row; 10] = [
     Row {
         name: "check",
         about: "Looks for a violation of a property, or for a certificate that there is none",
@@ -129,6 +136,7 @@ Examples:
             SEED,
             TIMEOUT,
             QUIET,
+            JSON,
             VERBOSE,
         ],
     },
@@ -153,6 +161,7 @@ Examples:
             SEED,
             TIMEOUT,
             QUIET,
+            JSON,
             VERBOSE,
         ],
     },
@@ -237,6 +246,18 @@ Examples:
             OUT,
             REASONS,
         ],
+    },
+    Row {
+        name: "extract",
+        about: "Writes the circuit of a bad literal, or of an output as one, for other engines",
+        behind: "OUT has all inputs and latches, each with a name (i0, l0 where FILE has none), so that a stimulus of OUT fits
+FILE, and the constraints. It has the gates on which the property and the constraints rest; a latch on which they
+don't rest keeps its value. The property is b0 of OUT, or o0 where FILE has its outputs as properties.
+Status: 0 done, 3 failed.
+Examples:
+  aigmc extract design.aig -p b3 b3.aig
+  aigmc check b3.aig -p b0 > found; aigmc witness design.aig found b3.stim -p b3",
+        words: &[FILE, PROPERTY, OUT, REASONS],
     },
     Row {
         name: "witness",

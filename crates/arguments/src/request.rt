@@ -1,6 +1,6 @@
 //! What the words of a command line ask for.
 
-use crate::adopting::{Claim, Shadow, asked_certify, asked_to_safety};
+use crate::adopting::{Claim, Extraction, Shadow, asked_certify, asked_extract, asked_to_safety};
 use crate::grammar::command;
 use crate::layouts::{AskedLayout, asked_layout};
 use crate::witnessing::{Counterexample, asked_witness};
@@ -49,6 +49,8 @@ pub struct Search {
     pub timeout: Option<u64>,
     /// whether verdicts are printed without a run, and standard error does not say how far it is
     pub quiet: bool,
+    /// whether verdicts are printed as JSON
+    pub json: bool,
     /// whether standard error says how far it is
     pub verbose: bool,
 }
@@ -103,6 +105,8 @@ pub enum Request<'a> {
     Certify(Claim<'a>),
     /// Write the shadow circuit of a justice property.
     ToSafety(Shadow<'a>),
+    /// Write the circuit of a property alone.
+    Extract(Extraction<'a>),
     /// Make a strict stimulus of a counterexample.
     Witness(Counterexample<'a>),
     /// Look for evidence about all properties.
@@ -138,6 +142,7 @@ fn asked_search(words: &ArgMatches<'_>) -> Search {
         seed,
         timeout: words.get_one::<u64>("timeout"),
         quiet: words.get_flag("quiet"),
+        json: words.get_flag("json"),
         verbose: words.get_flag("verbose"),
     }
 }
@@ -212,6 +217,7 @@ fn asked_of<'a>(name: &str, words: &ArgMatches<'a>) -> Option<Request<'a>> {
         "all" => Some(asked_all(words)),
         "certify" => Some(Request::Certify(asked_certify(words))),
         "to-safety" => Some(Request::ToSafety(asked_to_safety(words))),
+        "extract" => Some(Request::Extract(asked_extract(words))),
         "witness" => Some(Request::Witness(asked_witness(words))),
         "convert" => asked_convert(words),
         "sim" => Some(asked_sim(words)),

@@ -15,7 +15,7 @@ pub struct Explanation {
 static ROWS: [Explanation; 51] = [
     Explanation {
         number: 1,
-        meaning: "the text is longer than 67,108,864 bytes",
+        meaning: "the text is longer than 67,108,864 bytes, or as a stimulus or clauses than 1,073,741,824",
         remedy: "check a smaller part of the design, or the cone of one property",
     },
     Explanation {

@@ -61,3 +61,23 @@ impl fmt::Display for Printable<'_> {
         Ok(())
     }
 }
+
+/// Bytes as a text of JSON, in quotes: each that is no printable character of ASCII, each quote and each backslash is
+/// escaped by its number.
+#[derive(Clone, Copy)]
+pub struct Quoted<'a>(pub &'a [u8]);
+
+impl fmt::Display for Quoted<'_> {
+    fn fmt<W: fmt::Write>(&self, f: &mut fmt::Formatter<W>) -> fmt::Result {
+        f.write_char('"')?;
+        for byte in self.0 {
+            let byte = *byte;
+            if matches!(byte, b' '..=b'~') && byte != b'"' && byte != b'\\' {
+                f.write_char(char::from(byte))?;
+            } else {
+                write!(f, "\\u00{byte:02x}")?;
+            }
+        }
+        f.write_char('"')
+    }
+}

@@ -10,7 +10,7 @@ const MOST_NAMES: usize = 10;
 
 /// The name of a property: `b` for a bad literal, `j` for a justice property or `o` for an output, and its position.
 #[derive(Clone, Copy)]
-struct Name(Property);
+pub struct Name(pub Property);
 
 impl fmt::Display for Name {
     fn fmt<W: fmt::Write>(&self, f: &mut fmt::Formatter<W>) -> fmt::Result {

@@ -1,0 +1,105 @@
+//! How a verdict is kept and printed.
+
+use crate::progress::{Why, conclude};
+use aigmc_files::{Stop, finished, keep, keep_and_print, print_alone, status_of};
+use arguments::Search;
+use cli::Verdict;
+use graph::{AigerFile, Property};
+use property_names::{Line, symbol_of};
+use std::time::{Duration, Instant};
+
+/// A verdict, and what it is of.
+#[derive(Clone, Copy)]
+pub struct Found<'a> {
+    /// the circuit's file, as it was named
+    pub name: &'a str,
+    /// the circuit's file
+    pub file: &'a AigerFile,
+    /// the property
+    pub property: Property,
+    /// what was found of it
+    pub verdict: &'a Verdict,
+    /// the file to make of the evidence, where one is named
+    pub evidence: Option<&'a str>,
+    /// how the search was to go
+    pub search: Search,
+    /// when it began, where the clock said so
+    pub begun: Option<Instant>,
+    /// whether its time is over
+    pub is_over: bool,
+    /// whether it is shown that no run keeps the constraints
+    pub is_vacuous: bool,
+}
+
+/// The word for what was found.
+fn word_of(verdict: &Verdict) -> &'static str {
+    match verdict {
+        Verdict::Safe(_) => "holds",
+        Verdict::Unsafe(_) => "violated",
+        Verdict::Unknown(_) => "unknown",
+    }
+}
+
+impl Found<'_> {
+    /// How long it took, where the clock says so.
+    fn time(self, rt: &HostRuntime) -> Option<Duration> {
+        let begun = self.begun?;
+        match Instant::now(rt) {
+            Ok(now) => Some(now.duration_since(begun)),
+            Err(_) => None,
+        }
+    }
+
+    /// Prints what JSON says of it, and answers its status. It takes no memory.
+    fn print_line(self, rt: &HostRuntime) -> Result<u8, Stop> {
+        let line = Line {
+            file: self.name,
+            property: self.property,
+            symbol: symbol_of(self.file, self.property),
+            verdict: word_of(self.verdict),
+            evidence: self.evidence,
+            time: self.time(rt),
+        };
+        let is_vacuous = self.is_vacuous;
+        let printed = match self.verdict {
+            Verdict::Unknown(reason) => {
+                let why = Why {
+                    reason: *reason,
+                    is_over: self.is_over,
+                };
+                println!(rt; "{line},\"reason\":\"{why}\",\"vacuous\":{is_vacuous}}}")
+            }
+            _ => println!(rt; "{line},\"reason\":null,\"vacuous\":{is_vacuous}}}"),
+        };
+        finished(printed)?;
+        Ok(status_of(self.verdict))
+    }
+
+    /// Makes the file of the evidence, where one is named, and prints the verdict alone or as JSON. Once there is that
+    /// file, nothing takes memory.
+    fn keep_and_print_short(self, rt: &HostRuntime) -> Result<u8, Stop> {
+        if let Some(out) = self.evidence {
+            keep(rt, out, self.property, self.verdict)?;
+        }
+        if self.search.json {
+            self.print_line(rt)
+        } else {
+            print_alone(rt, self.property, self.verdict)
+        }
+    }
+
+    /// Makes the file of the evidence, where one is named, prints the verdict, and answers its status. Standard error says what
+    /// was found where that is asked for.
+    pub fn show(self, rt: &HostRuntime) -> Result<u8, Stop> {
+        let status = if self.search.json || self.search.quiet {
+            self.keep_and_print_short(rt)?
+        } else {
+            keep_and_print(rt, self.evidence, self.property, self.verdict)?
+        };
+        if self.search.verbose {
+            let symbol = symbol_of(self.file, self.property);
+            conclude(rt, self.property, self.verdict, symbol, self.is_over);
+        }
+        Ok(status)
+    }
+}
