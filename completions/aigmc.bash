@@ -9,7 +9,7 @@ _aigmc() {
     fi
     case $before in
     --engine)
-        mapfile -t COMPREPLY < <(compgen -W 'all bmc ic3 random' -- "$word")
+        mapfile -t COMPREPLY < <(compgen -W 'all bmc ic3 corr random' -- "$word")
         return
         ;;
     -p | --depth | --budget | --seed | --timeout) return ;;

@@ -1,6 +1,7 @@
 //! The commands `certify` and `to-safety`: what other engines found becomes evidence.
 
-use crate::checking::{Timing, ask, is_taken};
+use crate::asking::Question;
+use crate::checking::{Timing, is_taken};
 use crate::counterexample::tell_counterexample;
 use crate::naming::{asked_for, property_in};
 use crate::progress::conclude;
@@ -87,7 +88,12 @@ fn strengthened(
         verbose: asked.verbose,
     };
     let timing = Timing::begin(rt, search)?;
-    let verdict = ask(rt, file, property, timing, clauses)?;
+    let question = Question {
+        file,
+        property,
+        timing,
+    };
+    let verdict = question.ask(rt, clauses)?;
     if asked.verbose {
         let symbol = symbol_of(file, property);
         conclude(rt, property, &verdict, symbol, timing.deadline.is_over());

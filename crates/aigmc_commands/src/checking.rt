@@ -1,7 +1,8 @@
 //! The commands `check` and `all`.
 
+use crate::asking::Question;
 use crate::naming::{asked_for, property_in};
-use crate::progress::{Reporter, Shown};
+use crate::progress::Shown;
 use crate::relevant::relevant_clauses;
 use crate::showing::Found;
 use crate::timed::{Deadline, Timed};
@@ -10,15 +11,10 @@ use aigmc_files::{
     DONE, Has, NO_PROPERTY, Role, Stop, VIOLATED, about, at, circuit, expect_folder, finished,
     is_same, path_of,
 };
-use arguments::{EngineKind, Search};
-use base::{boxed, push};
-use bmc::Bmc;
+use arguments::Search;
 use cdcl::Cdcl;
-use cli::{CliError, Verdict, decide};
-use engine::Engine;
-use engine_random::Random;
+use cli::{CliError, Verdict};
 use graph::{AigerFile, Budget, Lit, Model, Property, Seq};
-use ic3::Ic3;
 use inputs::is_standard;
 use properties::{Evidence, all_properties, evidence_name};
 use std::alloc::Global;
@@ -41,7 +37,7 @@ impl Timing {
     }
 
     /// How the search is shown on standard error.
-    fn shown(self, rt: &HostRuntime) -> Shown {
+    pub fn shown(self, rt: &HostRuntime) -> Shown {
         if self.search.quiet && !self.search.verbose {
             Shown::Nothing
         } else {
@@ -73,56 +69,14 @@ impl Timing {
     }
 
     /// A solver that is asked until then.
-    fn solver(self, alloc: Global) -> Timed<Cdcl> {
+    pub fn solver(self, alloc: Global) -> Timed<Cdcl> {
         Timed::new(Cdcl::new(alloc), self.deadline)
     }
 
-    /// How many steps the search may cost: none where the time is over.
-    fn budget(self) -> Budget {
-        if self.deadline.is_over() {
-            Budget::new(0)
-        } else {
-            Budget::new(self.search.budget)
-        }
+    /// So many steps: none where the time is over.
+    pub fn budget(self, steps: u64) -> Budget {
+        Budget::new(if self.deadline.is_over() { 0 } else { steps })
     }
-}
-
-/// Asks the engines for evidence about the property. IC3 tries these clauses first. Where it is asked for, or standard error is a
-/// terminal, that says how far they are.
-pub fn ask(
-    rt: &HostRuntime,
-    file: &AigerFile,
-    property: Property,
-    timing: Timing,
-    candidates: Seq<Seq<Lit>>,
-) -> Result<Verdict, Stop> {
-    let alloc = rt.alloc();
-    let search = timing.search;
-    let shown = timing.shown(rt);
-    let depth = u32::from(search.depth);
-    let mut engines: Vec<Box<dyn Engine>> = Vec::new(alloc);
-    if search.engine.has_bounded() {
-        let bounded = Bmc::new(timing.solver(alloc), depth).with_progress(Reporter::new(rt, shown));
-        let engine: Box<dyn Engine> = boxed(alloc, bounded)?;
-        push(&mut engines, engine)?;
-    }
-    if search.engine.has_inductive() {
-        let inductive = Ic3::with_candidates(timing.solver(alloc), candidates);
-        let inductive = inductive.with_progress(Reporter::new(rt, shown));
-        let engine: Box<dyn Engine> = boxed(alloc, inductive)?;
-        push(&mut engines, engine)?;
-    }
-    if search.engine == EngineKind::Random {
-        let random = Random::new(search.seed, depth);
-        let engine: Box<dyn Engine> = boxed(alloc, random)?;
-        push(&mut engines, engine)?;
-    }
-    let mut budget = timing.budget();
-    let engines = engines.as_mut_slice();
-    let decided = decide(alloc, file.model(), property, engines, &mut budget);
-    shown.wipe(rt);
-    let verdict = decided.map_err(CliError::from)?;
-    Ok(verdict)
 }
 
 /// The properties that a circuit has.
@@ -219,7 +173,12 @@ fn check_in(
     let (file, timing) = (whole.file, whole.timing);
     let begun = timing.now(rt);
     let candidates = Seq::new(rt.alloc());
-    match about(Role::Circuit, ask(rt, file, property, timing, candidates)) {
+    let question = Question {
+        file,
+        property,
+        timing,
+    };
+    match about(Role::Circuit, question.ask(rt, candidates)) {
         Ok(verdict) => {
             let evidence = certificate_in(&verdict, certificate);
             whole.found(property, &verdict, evidence, begun).show(rt)
@@ -324,10 +283,12 @@ fn check_next(
     let file = whole.file;
     let begun = whole.timing.now(rt);
     let candidates = relevant_clauses(rt.alloc(), file.model(), property, clauses.as_slice())?;
-    let verdict = about(
-        Role::Circuit,
-        ask(rt, file, property, whole.timing, candidates),
-    )?;
+    let question = Question {
+        file,
+        property,
+        timing: whole.timing,
+    };
+    let verdict = about(Role::Circuit, question.ask(rt, candidates))?;
     let status = keep_in_and_print(rt, whole, property, &verdict, begun)?;
     if let Some(found) = clauses_of(property, verdict) {
         *clauses = found;

@@ -2,6 +2,7 @@
 #![tactic(auto)]
 
 mod adopting;
+mod asking;
 mod checking;
 mod counterexample;
 mod extracting;

@@ -12,12 +12,14 @@ use std::alloc::Global;
 /// What looks for evidence.
 #[derive(Clone, Copy, PartialEq, Eq)]
 pub enum EngineKind {
-    /// Bounded search, and then IC3.
+    /// Bounded search and IC3, each with few steps, then register correspondence, and then the two again.
     All,
     /// Bounded search.
     Bounded,
     /// IC3.
     Inductive,
+    /// Register correspondence, and then bounded search.
+    Corresponding,
     /// Random simulation.
     Random,
 }
@@ -125,6 +127,7 @@ fn engine_kind(words: &ArgMatches<'_>) -> EngineKind {
     match words.get_str("engine") {
         Some("bmc") => EngineKind::Bounded,
         Some("ic3") => EngineKind::Inductive,
+        Some("corr") => EngineKind::Corresponding,
         Some("random") => EngineKind::Random,
         _ => EngineKind::All,
     }

@@ -20,7 +20,7 @@ pub enum Takes {
 }
 
 /// The engines that may be asked for.
-static ENGINES: [&str; 4] = ["all", "bmc", "ic3", "random"];
+static ENGINES: [&str; 5] = ["all", "bmc", "ic3", "corr", "random"];
 
 /// An argument of a command.
 #[derive(Clone, Copy)]
