@@ -35,6 +35,7 @@ static ALL: &str = "Status: 0 each property is safe, and the circuit has one; 1 
 else 2 one is without accepted evidence, or the circuit has none; 3 no answer.
 Examples:
   aigcheck all design.aig evidence
+  aigcheck all design.aig evidence --json
   aigmc all design.aig --out evidence; aigcheck all design.aig evidence";
 
 /// A file that has to be named.

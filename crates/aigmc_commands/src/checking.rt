@@ -52,7 +52,8 @@ impl Timing {
         if !is_told && !self.search.json {
             return Ok(false);
         }
-        let is_vacuous = about(Role::Circuit, is_vacuous(rt.alloc(), circuit))?;
+        let is_vacuous = is_vacuous(rt.alloc(), circuit, self.deadline);
+        let is_vacuous = about(Role::Circuit, is_vacuous)?;
         if is_vacuous && is_told {
             let _ = eprintln!(rt; "aigmc: no run keeps the constraints, so every property holds");
         }

@@ -75,6 +75,13 @@ fn part_of(
     Ok(part)
 }
 
+/// Notes that what is at the position has a name.
+fn note(named: &mut [bool], position: u32) {
+    if let Some(named) = named.get_mut(position as usize) {
+        *named = true;
+    }
+}
+
 /// Adds a name for each that has none: the letter and its position.
 fn add_unnamed(
     alloc: Global,
@@ -102,14 +109,11 @@ fn names(alloc: Global, file: &AigerFile, property: Property) -> Result<Vec<Symb
     let mut inputs = filled_like(alloc, false, file.model().inputs())?;
     let mut latches = filled_like(alloc, false, file.model().latches())?;
     for symbol in file.symbols() {
-        let named = match symbol.kind {
-            SymbolKind::Input => inputs.get_mut(symbol.position as usize),
-            SymbolKind::Latch => latches.get_mut(symbol.position as usize),
-            SymbolKind::Constraint => None,
+        match symbol.kind {
+            SymbolKind::Input => note(inputs.as_mut_slice(), symbol.position),
+            SymbolKind::Latch => note(latches.as_mut_slice(), symbol.position),
+            SymbolKind::Constraint => {}
             _ => continue,
-        };
-        if let Some(named) = named {
-            *named = true;
         }
         let name = symbol.name.as_slice();
         add(alloc, &mut symbols, symbol.kind, symbol.position, name)?;

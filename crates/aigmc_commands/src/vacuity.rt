@@ -1,5 +1,6 @@
 //! Whether a run keeps the constraints at all.
 
+use crate::timed::{Deadline, Timed};
 use aigmc_files::Stop;
 use base::{boxed, push};
 use cdcl::Cdcl;
@@ -27,15 +28,16 @@ fn covered(alloc: Global, circuit: &Model) -> Result<Model, ReadError> {
     Model::from_parts(alloc, parts)
 }
 
-/// Whether a certificate shows that no run keeps the circuit's constraints: then every property holds, whatever the
-/// circuit does.
-pub fn is_vacuous(alloc: Global, circuit: &Model) -> Result<bool, Stop> {
+/// Whether a certificate that is found in time shows that no run keeps the circuit's constraints: then every property holds,
+/// whatever the circuit does.
+pub fn is_vacuous(alloc: Global, circuit: &Model, deadline: Deadline) -> Result<bool, Stop> {
     if circuit.constraints().is_empty() {
         return Ok(false);
     }
     let covered = covered(alloc, circuit)?;
     let mut engines: Vec<Box<dyn Engine>> = Vec::new(alloc);
-    let engine: Box<dyn Engine> = boxed(alloc, Ic3::new(Cdcl::new(alloc)))?;
+    let solver = Timed::new(Cdcl::new(alloc), deadline);
+    let engine: Box<dyn Engine> = boxed(alloc, Ic3::new(solver))?;
     push(&mut engines, engine)?;
     let mut budget = Budget::new(STEPS);
     let decided = decide(

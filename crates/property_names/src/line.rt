@@ -59,7 +59,10 @@ impl fmt::Display for Line<'_> {
             "{{\"file\":{file},\"property\":\"{property}\",\"name\":{symbol}"
         )?;
         let verdict = self.verdict;
-        let evidence = Given(self.evidence.map(|name| name.as_bytes()));
+        let evidence = Given(match self.evidence {
+            Some(name) => Some(name.as_bytes()),
+            None => None,
+        });
         let seconds = Seconds(self.time);
         write!(
             f,
