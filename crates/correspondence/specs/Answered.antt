@@ -1,5 +1,5 @@
 -- What is answered by an engine that looks for equal latches first.
-use Rattle.std.specs.Prelude.{◌≡◌, ◌⊎◌, ◌×◌, Result, Ok, Err}
+use Rattle.std.specs.Prelude.{◌≡◌, ◌⊎◌, Result, Ok, Err}
 use Rattle.base.specs.Budget.{Spends, Steps}
 use Rattle.graph.specs.declared.parts.Parts.{Parts}
 use Rattle.engine.specs.declared.engine_error.EngineError.{EngineError}
