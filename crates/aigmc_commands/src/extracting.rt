@@ -82,18 +82,18 @@ fn note(named: &mut [bool], position: u32) {
     }
 }
 
-/// Adds a name for each that has none: the letter and its position.
+/// Adds a name for each that has none: the letters and its position.
 fn add_unnamed(
     alloc: Global,
     symbols: &mut Vec<Symbol>,
     kind: SymbolKind,
-    letter: char,
+    letters: &str,
     named: &[bool],
 ) -> Result<(), Stop> {
     let mut position = 0u32;
     for is_named in named {
         if !*is_named {
-            let Ok(name) = format!(in alloc; "{letter}{position}") else {
+            let Ok(name) = format!(in alloc; "{letters}{position}") else {
                 return Err(Stop::Memory);
             };
             add(alloc, symbols, kind, position, name.as_bytes())?;
@@ -122,14 +122,14 @@ fn names(alloc: Global, file: &AigerFile, property: Property) -> Result<Vec<Symb
         alloc,
         &mut symbols,
         SymbolKind::Input,
-        'i',
+        "i",
         inputs.as_slice(),
     )?;
     add_unnamed(
         alloc,
         &mut symbols,
         SymbolKind::Latch,
-        'l',
+        "lo",
         latches.as_slice(),
     )?;
     let kind = match property {
