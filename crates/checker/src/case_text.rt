@@ -15,18 +15,33 @@ ghost use Rattle.checker.specs.Streamed.{AreOfCases};
 
 use crate::section_text::check_section;
 use base::Lists;
-use certificate::{Reader, ReaderError, SectionKind, skip_section, skip_sections};
+use certificate::{Reader, ReaderError, SectionKind, Version, skip_section, skip_sections};
 use cnf::{NextTable, bad_unit, init_units_into, step_units_into};
 use graph::{Lit, Model, Source};
 use lrat::{Fault, LineBuffer, Refuter};
 use std::alloc::Global;
 
+/// What is checked while the sections are read: the cases of an invariant of a circuit, for one of
+/// its literals.
+#[derive(Clone, Copy)]
+pub struct Check<'a> {
+    /// the circuit
+    pub circuit: &'a Model,
+    /// the latches by their variables
+    pub table: &'a NextTable,
+    /// the clauses of the invariant
+    pub invariant: &'a Lists<Lit>,
+    /// the literal that they exclude
+    pub bad: Lit,
+    /// the certificate's version
+    pub version: Version,
+}
+
 /// Reads the sections of the initial cases, line by line into the buffer, and checks them. After the
 /// first fault they are only read.
 pub fn check_initial<S: Source>(
     alloc: Global,
-    circuit: &Model,
-    invariant: &Lists<Lit>,
+    check: Check,
     refuter: &mut Refuter,
     line: &mut LineBuffer,
     reader: &mut Reader,
@@ -34,17 +49,17 @@ pub fn check_initial<S: Source>(
 ) -> Result<Option<Fault>, ReaderError>
     requires source { S.failed from.old < 2 ^ 64 - 1 }
     requires fresh { refuter.old.refusal ≡ None }
-    requires base { refuter.old.base ≡ base_of (start_formula circuit.now) }
-    requires invariant { IsInvariant circuit.now invariant.now }
-    ensures says { Reads (S.leaves from.old) (S.leaves from.new) (λ ys zs. FindsWith (AreOfCases (map (init_case circuit.now) invariant.now)) (many_at (section_at 105) (length invariant.now) (reader.old ++ ys)) result reader.new zs) }
+    requires base { refuter.old.base ≡ base_of (start_formula check.circuit.now) }
+    requires invariant { IsInvariant check.circuit.now check.invariant.now }
+    ensures says { Reads (S.leaves from.old) (S.leaves from.new) (λ ys zs. FindsWith (AreOfCases (map (init_case check.entry.circuit.now) check.entry.invariant.now)) (many_at (section_at 105) (length check.entry.invariant.now) (reader.old ++ ys)) result reader.new zs) }
     ensures device { IsErrOf result Device ↔ (S.failed from.new ≡ S.failed from.old + 1) }
     ensures others { (IsErrOf result Device → ⊥) → S.failed from.new ≡ S.failed from.old }
 {
-    circuit.well_formed();
+    check.circuit.well_formed();
     let mut units = Vec::new(alloc);
-    for k in 0..invariant.len() {
-        let clause = invariant.list(k);
-        init_units_into(&mut units, circuit, clause)?;
+    for k in 0..check.invariant.len() {
+        let clause = check.invariant.list(k);
+        init_units_into(&mut units, check.circuit, clause)?;
         let found = check_section(
             alloc,
             SectionKind::Initial,
@@ -55,7 +70,7 @@ pub fn check_initial<S: Source>(
             from,
         )?;
         if let Some(fault) = found {
-            let left = invariant.len() - (k + 1);
+            let left = check.invariant.len() - (k + 1);
             skip_sections(alloc, SectionKind::Initial, left as u32, reader, from)?;
             return Ok(Some(fault));
         }
@@ -67,9 +82,7 @@ pub fn check_initial<S: Source>(
 /// first fault they are only read.
 pub fn check_steps<S: Source>(
     alloc: Global,
-    circuit: &Model,
-    table: &NextTable,
-    invariant: &Lists<Lit>,
+    check: Check,
     refuter: &mut Refuter,
     line: &mut LineBuffer,
     reader: &mut Reader,
@@ -77,20 +90,20 @@ pub fn check_steps<S: Source>(
 ) -> Result<Option<Fault>, ReaderError>
     requires source { S.failed from.old < 2 ^ 64 - 1 }
     requires fresh { refuter.old.refusal ≡ None }
-    requires vars { refuter.old.base.vars ≡ circuit.now.max_var + 1 }
-    requires invariant { IsInvariant circuit.now invariant.now }
-    requires table { IsTableOf circuit.now.latches table.now }
+    requires vars { refuter.old.base.vars ≡ check.circuit.now.max_var + 1 }
+    requires invariant { IsInvariant check.circuit.now check.invariant.now }
+    requires table { IsTableOf check.circuit.now.latches check.table.now }
     ensures base { refuter.new.base ≡ refuter.old.base }
     ensures fresh { IfOk result (λ found. IfNone found (refuter.new.refusal ≡ None)) }
-    ensures says { Reads (S.leaves from.old) (S.leaves from.new) (λ ys zs. FindsWith (AreOfCases (map (step_case circuit.now refuter.old.base) invariant.now)) (many_at (section_at 115) (length invariant.now) (reader.old ++ ys)) result reader.new zs) }
+    ensures says { Reads (S.leaves from.old) (S.leaves from.new) (λ ys zs. FindsWith (AreOfCases (map (step_case check.entry.circuit.now refuter.old.base) check.entry.invariant.now)) (many_at (section_at 115) (length check.entry.invariant.now) (reader.old ++ ys)) result reader.new zs) }
     ensures device { IsErrOf result Device ↔ (S.failed from.new ≡ S.failed from.old + 1) }
     ensures others { (IsErrOf result Device → ⊥) → S.failed from.new ≡ S.failed from.old }
 {
-    circuit.well_formed();
+    check.circuit.well_formed();
     let mut units = Vec::new(alloc);
-    for k in 0..invariant.len() {
-        let clause = invariant.list(k);
-        step_units_into(&mut units, circuit, table, clause)?;
+    for k in 0..check.invariant.len() {
+        let clause = check.invariant.list(k);
+        step_units_into(&mut units, check.circuit, check.table, clause)?;
         let found = check_section(
             alloc,
             SectionKind::Step,
@@ -101,7 +114,7 @@ pub fn check_steps<S: Source>(
             from,
         )?;
         if let Some(fault) = found {
-            let left = invariant.len() - (k + 1);
+            let left = check.invariant.len() - (k + 1);
             skip_sections(alloc, SectionKind::Step, left as u32, reader, from)?;
             return Ok(Some(fault));
         }
@@ -114,43 +127,38 @@ pub fn check_steps<S: Source>(
 /// after the other.
 pub fn check_cases<S: Source>(
     alloc: Global,
-    circuit: &Model,
-    table: &NextTable,
-    invariant: &Lists<Lit>,
-    bad: Lit,
+    check: Check,
     start: &mut Refuter,
     shared: &mut Refuter,
     reader: &mut Reader,
     from: &mut S,
 ) -> Result<Option<Fault>, ReaderError>
     requires source { S.failed from.old < 2 ^ 64 - 1 }
-    requires invariant { IsInvariant circuit.now invariant.now }
-    requires table { IsTableOf circuit.now.latches table.now }
-    requires bad { Contains (used circuit.now) bad }
+    requires invariant { IsInvariant check.circuit.now check.invariant.now }
+    requires table { IsTableOf check.circuit.now.latches check.table.now }
+    requires bad { Contains (used check.circuit.now) check.bad }
     requires start { start.old.refusal ≡ None }
-    requires start_base { start.old.base ≡ base_of (start_formula circuit.now) }
+    requires start_base { start.old.base ≡ base_of (start_formula check.circuit.now) }
     requires shared { shared.old.refusal ≡ None }
-    requires vars { shared.old.base.vars ≡ circuit.now.max_var + 1 }
-    ensures says { Reads (S.leaves from.old) (S.leaves from.new) (λ ys zs. FindsWith (AreOfCases (cases circuit.now shared.old.base invariant.now bad)) (sections_at (length invariant.now) (reader.old ++ ys)) result reader.new zs) }
+    requires vars { shared.old.base.vars ≡ check.circuit.now.max_var + 1 }
+    ensures says { Reads (S.leaves from.old) (S.leaves from.new) (λ ys zs. FindsWith (AreOfCases (cases check.entry.circuit.now shared.old.base check.entry.invariant.now check.entry.bad)) (sections_at (length check.entry.invariant.now) (reader.old ++ ys)) result reader.new zs) }
     ensures device { IsErrOf result Device ↔ (S.failed from.new ≡ S.failed from.old + 1) }
     ensures others { (IsErrOf result Device → ⊥) → S.failed from.new ≡ S.failed from.old }
 {
-    let count = invariant.len() as u32;
+    let count = check.invariant.len() as u32;
     let mut line = LineBuffer::new(alloc);
-    let initial = check_initial(alloc, circuit, invariant, start, &mut line, reader, from)?;
+    let initial = check_initial(alloc, check, start, &mut line, reader, from)?;
     if let Some(fault) = initial {
         skip_sections(alloc, SectionKind::Step, count, reader, from)?;
         skip_section(alloc, SectionKind::Bad, reader, from)?;
         return Ok(Some(fault));
     }
-    let steps = check_steps(
-        alloc, circuit, table, invariant, shared, &mut line, reader, from,
-    )?;
+    let steps = check_steps(alloc, check, shared, &mut line, reader, from)?;
     if let Some(fault) = steps {
         skip_section(alloc, SectionKind::Bad, reader, from)?;
         return Ok(Some(fault));
     }
-    let unit = bad_unit(circuit, bad);
+    let unit = bad_unit(check.circuit, check.bad);
     check_section(
         alloc,
         SectionKind::Bad,

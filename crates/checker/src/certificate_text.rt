@@ -23,7 +23,7 @@ ghost use Rattle.checker.specs.Streamed.{AreTaken, HasSections, IsFound, IsFound
 ghost use Rattle.checker.specs.declared.check_error.CheckError.TheVariants.{OutOfMemory};
 
 use crate::acceptance::no_property;
-use crate::case_text::check_cases;
+use crate::case_text::{Check, check_cases};
 use crate::check_error::CheckError;
 use crate::invariant::check_lists;
 use crate::section_text::take_lemmas;
@@ -138,70 +138,49 @@ fn invariant_refuter(
 /// one of the others, which has taken no lemmas yet. After the first fault they are only read.
 fn check_lemmas_and_cases<S: Source>(
     alloc: Global,
-    circuit: &Model,
-    table: &NextTable,
-    invariant: &Lists<Lit>,
-    bad: Lit,
-    version: Version,
+    check: Check,
     start: &mut Refuter,
     shared: &mut Refuter,
     reader: &mut Reader,
     from: &mut S,
 ) -> Result<Option<Fault>, ReaderError>
     requires source { S.failed from.old < 2 ^ 64 - 1 }
-    requires invariant { IsInvariant circuit.now invariant.now }
-    requires table { IsTableOf circuit.now.latches table.now }
-    requires bad { Contains (used circuit.now) bad }
-    requires start { start.old ≡ at_formula (start_formula circuit.now) }
-    requires shared { shared.old ≡ at_formula (shared_formula circuit.now invariant.now) }
-    ensures says { Reads (S.leaves from.old) (S.leaves from.new) (λ ys zs. (p : AProperty) → FindsWith (HasSections circuit.now bad) (parts_at version p (length invariant.now) invariant.now (reader.old ++ ys)) result reader.new zs) }
+    requires invariant { IsInvariant check.circuit.now check.invariant.now }
+    requires table { IsTableOf check.circuit.now.latches check.table.now }
+    requires bad { Contains (used check.circuit.now) check.bad }
+    requires start { start.old ≡ at_formula (start_formula check.circuit.now) }
+    requires shared { shared.old ≡ at_formula (shared_formula check.circuit.now check.invariant.now) }
+    ensures says { Reads (S.leaves from.old) (S.leaves from.new) (λ ys zs. (p : AProperty) → FindsWith (HasSections check.entry.circuit.now check.entry.bad) (parts_at check.entry.version p (length check.entry.invariant.now) check.entry.invariant.now (reader.old ++ ys)) result reader.new zs) }
     ensures device { IsErrOf result Device ↔ (S.failed from.new ≡ S.failed from.old + 1) }
     ensures others { (IsErrOf result Device → ⊥) → S.failed from.new ≡ S.failed from.old }
 {
-    let found = share_lemmas(alloc, version, shared, reader, from)?;
+    let found = share_lemmas(alloc, check.version, shared, reader, from)?;
     if let Some(fault) = found {
-        skip_cases(alloc, invariant.len() as u32, reader, from)?;
+        skip_cases(alloc, check.invariant.len() as u32, reader, from)?;
         return Ok(Some(fault));
     }
-    check_cases(
-        alloc, circuit, table, invariant, bad, start, shared, reader, from,
-    )
+    check_cases(alloc, check, start, shared, reader, from)
 }
 
 /// Reads the lemmas and all sections, and checks them. After the first fault they are only read. It
 /// holds the clauses that the cases share, those of one section, and one line.
 fn check_parts<S: Source>(
     alloc: Global,
-    circuit: &Model,
-    table: &NextTable,
-    invariant: &Lists<Lit>,
-    bad: Lit,
-    version: Version,
+    check: Check,
     reader: &mut Reader,
     from: &mut S,
 ) -> Result<Option<Fault>, ReaderError>
     requires source { S.failed from.old < 2 ^ 64 - 1 }
-    requires invariant { IsInvariant circuit.now invariant.now }
-    requires table { IsTableOf circuit.now.latches table.now }
-    requires bad { Contains (used circuit.now) bad }
-    ensures says { Reads (S.leaves from.old) (S.leaves from.new) (λ ys zs. (p : AProperty) → FindsWith (HasSections circuit.now bad) (parts_at version p (length invariant.now) invariant.now (reader.old ++ ys)) result reader.new zs) }
+    requires invariant { IsInvariant check.circuit.now check.invariant.now }
+    requires table { IsTableOf check.circuit.now.latches check.table.now }
+    requires bad { Contains (used check.circuit.now) check.bad }
+    ensures says { Reads (S.leaves from.old) (S.leaves from.new) (λ ys zs. (p : AProperty) → FindsWith (HasSections check.entry.circuit.now check.entry.bad) (parts_at check.entry.version p (length check.entry.invariant.now) check.entry.invariant.now (reader.old ++ ys)) result reader.new zs) }
     ensures device { IsErrOf result Device ↔ (S.failed from.new ≡ S.failed from.old + 1) }
     ensures others { (IsErrOf result Device → ⊥) → S.failed from.new ≡ S.failed from.old }
 {
-    let mut start = start_refuter(alloc, circuit)?;
-    let mut shared = invariant_refuter(alloc, circuit, invariant)?;
-    check_lemmas_and_cases(
-        alloc,
-        circuit,
-        table,
-        invariant,
-        bad,
-        version,
-        &mut start,
-        &mut shared,
-        reader,
-        from,
-    )
+    let mut start = start_refuter(alloc, check.circuit)?;
+    let mut shared = invariant_refuter(alloc, check.circuit, check.invariant)?;
+    check_lemmas_and_cases(alloc, check, &mut start, &mut shared, reader, from)
 }
 
 /// Looks for the first fault before the sections, for a literal of this circuit.
@@ -237,9 +216,14 @@ fn check_for<S: Source>(
     circuit.well_formed();
     match prepare(alloc, circuit, invariant) {
         Ok(table) => {
-            let found = check_parts(
-                alloc, circuit, &table, invariant, bad, version, reader, from,
-            )?;
+            let check = Check {
+                circuit,
+                table: &table,
+                invariant,
+                bad,
+                version,
+            };
+            let found = check_parts(alloc, check, reader, from)?;
             match found {
                 None => Ok(None),
                 Some(fault) => Ok(Some(fault.number())),

@@ -14,11 +14,11 @@ use Rattle.checker.proofs.case_text.check_cases.Goals as goal
 pub returns-in_err-initial-clause-says : goal.returns-in_err-initial-clause-says
 returns-in_err-initial-clause-says g c text later left =
     let (ys, before, refused) = c.in_err-initial.ensures.says text later left in
-    let n = length c.args.invariant.now in
+    let n = length c.args.check.invariant.now in
     let bytes : List ℕ = c.args.reader.now ++ ys in (
       ys,
       before,
-      err_finds (AreOfCases (cases c.args.circuit.now c.args.shared.now.base c.args.invariant.now c.args.bad)) (sections_at n bytes) _ c.in_err-initial.field-0.0 c.check_initial.new.reader later c.from_residual.ensures.1
+      err_finds (AreOfCases (cases c.args.check.circuit.now c.args.shared.now.base c.args.check.invariant.now c.args.check.bad)) (sections_at n bytes) _ c.in_err-initial.field-0.0 c.check_initial.new.reader later c.from_residual.ensures.1
           (initial_refused n bytes c.in_err-initial.field-0.0 refused),
     )
 
@@ -26,14 +26,14 @@ pub returns-in_err-steps-clause-says : goal.returns-in_err-steps-clause-says
 returns-in_err-steps-clause-says g c text later left =
     let (zs, between, refused) = c.in_err-steps.ensures.says text later left in
     let (ys, before, initial) = c.in_ok-initial.ensures.says text zs between in
-    let m = c.args.circuit.now in
-    let inv = c.args.invariant.now in
+    let m = c.args.check.circuit.now in
+    let inv = c.args.check.invariant.now in
     let b = c.args.shared.now.base in
     let n = length inv in
     let bytes : List ℕ = c.args.reader.now ++ ys in
     let inits = map (init_case m) inv in
     let steps = map (step_case m b) inv in
-    let P = AreOfCases (cases m b inv c.args.bad) in
+    let P = AreOfCases (cases m b inv c.args.check.bad) in
     let none : c.in_ok-initial.initial ≡ None = search rules in
     let first = (subst (λ o. FindsWith (AreOfCases inits) (many_at (section_at 105) n bytes) (Ok o) c.check_initial.new.reader zs) none initial) in (
       ys,
@@ -46,14 +46,14 @@ pub returns-in_err-skip_sections-clause-says : goal.returns-in_err-skip_sections
 returns-in_err-skip_sections-clause-says g c text later left =
     let (zs, between, refused) = c.in_err-skip_sections.ensures.says text later left in
     let (ys, before, initial) = c.in_ok-initial.ensures.says text zs between in
-    let m = c.args.circuit.now in
-    let inv = c.args.invariant.now in
+    let m = c.args.check.circuit.now in
+    let inv = c.args.check.invariant.now in
     let b = c.args.shared.now.base in
     let n = length inv in
     let bytes : List ℕ = c.args.reader.now ++ ys in
     let inits = map (init_case m) inv in
     let steps = map (step_case m b) inv in
-    let P = AreOfCases (cases m b inv c.args.bad) in
+    let P = AreOfCases (cases m b inv c.args.check.bad) in
     let first = (subst (λ o. FindsWith (AreOfCases inits) (many_at (section_at 105) n bytes) (Ok o) c.check_initial.new.reader zs) c.in-Some.is initial) in (
       ys,
       before,
@@ -66,14 +66,14 @@ returns-in_err-skip_section-clause-says g c text later left =
     let (us, here, refused) = c.in_err-skip_section.ensures.says text later left in
     let (zs, between, skipped) = c.in_ok-skip_sections.ensures.says text us here in
     let (ys, before, initial) = c.in_ok-initial.ensures.says text zs between in
-    let m = c.args.circuit.now in
-    let inv = c.args.invariant.now in
+    let m = c.args.check.circuit.now in
+    let inv = c.args.check.invariant.now in
     let b = c.args.shared.now.base in
     let n = length inv in
     let bytes : List ℕ = c.args.reader.now ++ ys in
     let inits = map (init_case m) inv in
     let steps = map (step_case m b) inv in
-    let P = AreOfCases (cases m b inv c.args.bad) in
+    let P = AreOfCases (cases m b inv c.args.check.bad) in
     let first = (subst (λ o. FindsWith (AreOfCases inits) (many_at (section_at 105) n bytes) (Ok o) c.check_initial.new.reader zs) c.in-Some.is initial) in (
       ys,
       before,
@@ -87,20 +87,20 @@ returns-in-Some-clause-says g c text later left =
     let (us, here, last) = c.in_ok-skip_section.ensures.says text later left in
     let (zs, between, skipped) = c.in_ok-skip_sections.ensures.says text us here in
     let (ys, before, initial) = c.in_ok-initial.ensures.says text zs between in
-    let m = c.args.circuit.now in
-    let inv = c.args.invariant.now in
+    let m = c.args.check.circuit.now in
+    let inv = c.args.check.invariant.now in
     let b = c.args.shared.now.base in
     let n = length inv in
     let bytes : List ℕ = c.args.reader.now ++ ys in
     let inits = map (init_case m) inv in
     let steps = map (step_case m b) inv in
-    let P = AreOfCases (cases m b inv c.args.bad) in
+    let P = AreOfCases (cases m b inv c.args.check.bad) in
     let first = (subst (λ o. FindsWith (AreOfCases inits) (many_at (section_at 105) n bytes) (Ok o) c.check_initial.new.reader zs) c.in-Some.is initial) in (
       ys,
       before,
       behind_initial (AreOfCases inits) P n bytes c.check_initial.new.reader c.skip_section.new.reader zs later (Some c.in-Some.fault) (Ok (Some c.in-Some.fault)) first
           (λ i are. behind_steps (λ sections x. Unit {0}) P n i (c.check_initial.new.reader ++ zs) c.skip_sections.new.reader c.skip_section.new.reader us later (tt {0}) (Ok (Some c.in-Some.fault)) (rw c.len-count.ensures at skipped)
-          (λ s any. bad_found (λ (lines : List Line) x. x ≡ Some c.in-Some.fault) P i s (c.skip_sections.new.reader ++ us) c.skip_section.new.reader later (Ok (Some c.in-Some.fault)) (λ bad x same. subst (λ o. P (i ++ s ++ bad ∷ []) o) (sym same) (initial_first inits steps (bad_case m b c.args.bad) i s bad c.in-Some.fault are))
+          (λ s any. bad_found (λ (lines : List Line) x. x ≡ Some c.in-Some.fault) P i s (c.skip_sections.new.reader ++ us) c.skip_section.new.reader later (Ok (Some c.in-Some.fault)) (λ bad x same. subst (λ o. P (i ++ s ++ bad ∷ []) o) (sym same) (initial_first inits steps (bad_case m b c.args.check.bad) i s bad c.in-Some.fault are))
           (let (bad, is, u) = last in (bad, is, refl)))),
     )
 
@@ -109,14 +109,14 @@ returns-in_err-skip_section-2-clause-says g c text later left =
     let (us, here, refused) = c.in_err-skip_section-2.ensures.says text later left in
     let (zs, between, stepped) = c.in_ok-steps.ensures.says text us here in
     let (ys, before, initial) = c.in_ok-initial.ensures.says text zs between in
-    let m = c.args.circuit.now in
-    let inv = c.args.invariant.now in
+    let m = c.args.check.circuit.now in
+    let inv = c.args.check.invariant.now in
     let b = c.args.shared.now.base in
     let n = length inv in
     let bytes : List ℕ = c.args.reader.now ++ ys in
     let inits = map (init_case m) inv in
     let steps = map (step_case m b) inv in
-    let P = AreOfCases (cases m b inv c.args.bad) in
+    let P = AreOfCases (cases m b inv c.args.check.bad) in
     let none : c.in_ok-initial.initial ≡ None = search rules in
     let first = (subst (λ o. FindsWith (AreOfCases inits) (many_at (section_at 105) n bytes) (Ok o) c.check_initial.new.reader zs) none initial) in (
       ys,
@@ -131,14 +131,14 @@ returns-in-Some-steps-clause-says g c text later left =
     let (us, here, last) = c.in_ok-skip_section-2.ensures.says text later left in
     let (zs, between, stepped) = c.in_ok-steps.ensures.says text us here in
     let (ys, before, initial) = c.in_ok-initial.ensures.says text zs between in
-    let m = c.args.circuit.now in
-    let inv = c.args.invariant.now in
+    let m = c.args.check.circuit.now in
+    let inv = c.args.check.invariant.now in
     let b = c.args.shared.now.base in
     let n = length inv in
     let bytes : List ℕ = c.args.reader.now ++ ys in
     let inits = map (init_case m) inv in
     let steps = map (step_case m b) inv in
-    let P = AreOfCases (cases m b inv c.args.bad) in
+    let P = AreOfCases (cases m b inv c.args.check.bad) in
     let none : c.in_ok-initial.initial ≡ None = search rules in
     let first = (subst (λ o. FindsWith (AreOfCases inits) (many_at (section_at 105) n bytes) (Ok o) c.check_initial.new.reader zs) none initial) in (
       ys,
@@ -146,7 +146,7 @@ returns-in-Some-steps-clause-says g c text later left =
       behind_initial (AreOfCases inits) P n bytes c.check_initial.new.reader c.skip_section-in-Some-steps.new.reader zs later None (Ok (Some c.in-Some-steps.fault)) first
           (λ i are. behind_steps (AreOfCases steps) P n i (c.check_initial.new.reader ++ zs) c.check_steps.new.reader c.skip_section-in-Some-steps.new.reader us later (Some c.in-Some-steps.fault) (Ok (Some c.in-Some-steps.fault))
           (subst (λ o. FindsWith (AreOfCases steps) (many_at (section_at 115) n (c.check_initial.new.reader ++ zs)) (Ok o) c.check_steps.new.reader us) c.in-Some-steps.is stepped)
-          (λ s more. bad_found (λ (lines : List Line) x. x ≡ Some c.in-Some-steps.fault) P i s (c.check_steps.new.reader ++ us) c.skip_section-in-Some-steps.new.reader later (Ok (Some c.in-Some-steps.fault)) (λ bad x same. subst (λ o. P (i ++ s ++ bad ∷ []) o) (sym same) (steps_first inits steps (bad_case m b c.args.bad) i s bad c.in-Some-steps.fault are more))
+          (λ s more. bad_found (λ (lines : List Line) x. x ≡ Some c.in-Some-steps.fault) P i s (c.check_steps.new.reader ++ us) c.skip_section-in-Some-steps.new.reader later (Ok (Some c.in-Some-steps.fault)) (λ bad x same. subst (λ o. P (i ++ s ++ bad ∷ []) o) (sym same) (steps_first inits steps (bad_case m b c.args.check.bad) i s bad c.in-Some-steps.fault are more))
           (let (bad, is, u) = last in (bad, is, refl)))),
     )
 
@@ -155,10 +155,10 @@ returns-clause-says g c text later left =
     let (us, here, last) = c.check_section.ensures.says text later left in
     let (zs, between, stepped) = c.in_ok-steps.ensures.says text us here in
     let (ys, before, initial) = c.in_ok-initial.ensures.says text zs between in
-    let m = c.args.circuit.now in
-    let inv = c.args.invariant.now in
+    let m = c.args.check.circuit.now in
+    let inv = c.args.check.invariant.now in
     let b = c.args.shared.now.base in
-    let bad = c.args.bad in
+    let bad = c.args.check.bad in
     let n = length inv in
     let bytes : List ℕ = c.args.reader.now ++ ys in
     let inits = map (init_case m) inv in

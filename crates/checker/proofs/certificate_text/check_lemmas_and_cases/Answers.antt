@@ -11,28 +11,28 @@ use Rattle.checker.proofs.certificate_text.check_lemmas_and_cases.Goals as goal
 
 pub returns-in_err-found-clause-says : goal.returns-in_err-found-clause-says
 returns-in_err-found-clause-says g c text later left =
-    let m = c.args.circuit.now in
-    let inv = c.args.invariant.now in
+    let m = c.args.check.circuit.now in
+    let inv = c.args.check.invariant.now in
     let e = c.in_err-found.field-0.0 in
     let (ys, before, refused) = c.in_err-found.ensures.says text later left in
     let bytes : List ℕ = c.args.reader.now ++ ys in (
       ys,
       before,
-      λ p. err_finds (HasSections m c.args.bad) (parts_at c.args.version p (length inv) inv bytes) _ e c.share_lemmas.new.reader later c.from_residual.ensures.1
-          (lemmas_stop c.args.version p (length inv) inv bytes e (refused m inv c.requires.shared)),
+      λ p. err_finds (HasSections m c.args.check.bad) (parts_at c.args.check.version p (length inv) inv bytes) _ e c.share_lemmas.new.reader later c.from_residual.ensures.1
+          (lemmas_stop c.args.check.version p (length inv) inv bytes e (refused m inv c.requires.shared)),
     )
 
 -- ---- the lemmas are refused
 
 pub returns-in_err-skip_cases-clause-says : goal.returns-in_err-skip_cases-clause-says
 returns-in_err-skip_cases-clause-says g c text later left =
-    let m = c.args.circuit.now in
-    let inv = c.args.invariant.now in
+    let m = c.args.check.circuit.now in
+    let inv = c.args.check.invariant.now in
     let n = length inv in
     let b = c.share_lemmas.new.refuter.base in
-    let v = c.args.version in
+    let v = c.args.check.version in
     let e = c.in_err-skip_cases.field-0.0 in
-    let P = HasSections m c.args.bad in
+    let P = HasSections m c.args.check.bad in
     let (zs, between, refused) = c.in_err-skip_cases.ensures.says text later left in
     let (ys, before, taken) = c.in_ok-found.ensures.says text zs between in
     let bytes : List ℕ = c.args.reader.now ++ ys in
@@ -46,13 +46,13 @@ returns-in_err-skip_cases-clause-says g c text later left =
 
 pub returns-in-Some-clause-says : goal.returns-in-Some-clause-says
 returns-in-Some-clause-says g c text later left =
-    let m = c.args.circuit.now in
-    let inv = c.args.invariant.now in
+    let m = c.args.check.circuit.now in
+    let inv = c.args.check.invariant.now in
     let n = length inv in
     let b = c.share_lemmas.new.refuter.base in
-    let v = c.args.version in
+    let v = c.args.check.version in
     let fault = c.in-Some.fault in
-    let P = HasSections m c.args.bad in
+    let P = HasSections m c.args.check.bad in
     let (zs, between, skips) = rw c.len.ensures at (c.in_ok-skip_cases.ensures.says text later left) in
     let (ss, is, u) = skips in
     let (ys, before, taken) = c.in_ok-found.ensures.says text zs between in
@@ -62,7 +62,7 @@ returns-in-Some-clause-says g c text later left =
       before,
       λ p. behind_lemmas (AreTaken m inv b) P v p n inv bytes c.share_lemmas.new.reader c.skip_cases.new.reader zs later (Some fault) (Ok (Some fault)) first
           (λ l are. sections_made (λ sections x. x ≡ Some fault) P p n inv l (c.share_lemmas.new.reader ++ zs) c.skip_cases.new.reader later (Ok (Some fault))
-          (λ ss x same. subst (λ o. P (made p inv l ss) o) (sym same) (lemmas_refused m c.args.bad (made p inv l ss) b fault are))
+          (λ ss x same. subst (λ o. P (made p inv l ss) o) (sym same) (lemmas_refused m c.args.check.bad (made p inv l ss) b fault are))
           (ss, is, refl)),
     )
 
@@ -73,12 +73,12 @@ check_cases-requires-clause-vars g c = c.in_ok-found.ensures.vars ∙ ap (λ (r 
 
 pub returns-clause-says : goal.returns-clause-says
 returns-clause-says g c text later left =
-    let m = c.args.circuit.now in
-    let inv = c.args.invariant.now in
+    let m = c.args.check.circuit.now in
+    let inv = c.args.check.invariant.now in
     let n = length inv in
     let b = c.share_lemmas.new.refuter.base in
-    let v = c.args.version in
-    let P = HasSections m c.args.bad in
+    let v = c.args.check.version in
+    let P = HasSections m c.args.check.bad in
     let none : c.in_ok-found.found ≡ None = search rules in
     let (zs, between, are) = c.check_cases.ensures.says text later left in
     let (ys, before, taken) = c.in_ok-found.ensures.says text zs between in
@@ -87,6 +87,6 @@ returns-clause-says g c text later left =
       ys,
       before,
       λ p. behind_lemmas (AreTaken m inv b) P v p n inv bytes c.share_lemmas.new.reader c.check_cases.new.reader zs later None c.check_cases.result first
-          (λ l shared. sections_made (AreOfCases (cases m b inv c.args.bad)) P p n inv l (c.share_lemmas.new.reader ++ zs) c.check_cases.new.reader later c.check_cases.result
-          (λ ss x are. has_sections m c.args.bad (made p inv l ss) b x shared are) are),
+          (λ l shared. sections_made (AreOfCases (cases m b inv c.args.check.bad)) P p n inv l (c.share_lemmas.new.reader ++ zs) c.check_cases.new.reader later c.check_cases.result
+          (λ ss x are. has_sections m c.args.check.bad (made p inv l ss) b x shared are) are),
     )
