@@ -28,7 +28,11 @@ static WORKED: [(&[u8], bool, bool); 10] = [
     // the same without the constraint
     (b"aag 2 1 1 0 0 1\n2\n4 2\n4\n", false, false),
     // two latches without resets that take an input
-    (b"aag 4 1 2 0 1 1\n2\n4 2 4\n6 2 6\n8\n8 4 7\n", false, false),
+    (
+        b"aag 4 1 2 0 1 1\n2\n4 2 4\n6 2 6\n8\n8 4 7\n",
+        false,
+        false,
+    ),
     // two latches that take one without a reset
     (b"aag 4 0 3 0 1 1\n2 2 2\n4 2\n6 2\n8\n8 4 7\n", true, true),
     // two latches that are never 1 at once, and are not equal

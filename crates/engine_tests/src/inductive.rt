@@ -43,7 +43,11 @@ static WORKED: [(&[u8], bool); 7] = [
 const STEPS: u64 = 100_000;
 
 /// Whether the clauses get a certificate that the checker accepts.
-pub(crate) fn is_certified(alloc: Global, circuit: &Model, clauses: &[Seq<Lit>]) -> Result<bool, Fail> {
+pub(crate) fn is_certified(
+    alloc: Global,
+    circuit: &Model,
+    clauses: &[Seq<Lit>],
+) -> Result<bool, Fail> {
     let mut budget = Budget::new(STEPS);
     match certify(alloc, circuit, Property::Bad(0), clauses, &mut budget)? {
         Certified::Certificate(certificate) => Ok(check(alloc, circuit, &certificate).is_ok()),
