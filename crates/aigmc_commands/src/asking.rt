@@ -21,7 +21,7 @@ const FIRST_PARTS: u64 = 16;
 const FIRST_STEPS: u64 = 200_000;
 
 /// Register correspondence may take one of so many parts of what is left.
-const CORRESPONDENCE_PARTS: u64 = 4;
+const CORRESPONDENCE_PARTS: u64 = 2;
 
 /// A property of a circuit, and how it is looked at.
 #[derive(Clone, Copy)]
