@@ -111,8 +111,8 @@ const JSON: Argument = Argument {
     ..FLAG
 };
 
-/// The commands, in the order of `--help`.
-static ROWS: [Row; 10] = [
+/// The first commands, in the order of `--help`.
+static ROWS: [Row; 5] = [
     Row {
         name: "check",
         about: "Looks for a violation of a property, or for a certificate that there is none",
@@ -247,6 +247,10 @@ Examples:
             REASONS,
         ],
     },
+];
+
+/// The commands behind them. They stand in a table of their own, since a proof about a table takes all of it.
+static MORE_ROWS: [Row; 5] = [
     Row {
         name: "extract",
         about: "Writes the circuit of a bad literal, or of an output as one, for other engines",
@@ -354,15 +358,34 @@ impl Row {
     }
 }
 
+/// Adds the commands of a table.
+fn add_rows<'a>(
+    mut command: Command<'a>,
+    alloc: Global,
+    rows: &[Row],
+) -> Result<Command<'a>, AllocError> {
+    for row in rows {
+        command = command.subcommand(row.command(alloc)?)?;
+    }
+    Ok(command)
+}
+
+/// Adds the first commands.
+fn add_first<'a>(command: Command<'a>, alloc: Global) -> Result<Command<'a>, AllocError> {
+    add_rows(command, alloc, &ROWS)
+}
+
+/// Adds the commands behind them.
+fn add_more<'a>(command: Command<'a>, alloc: Global) -> Result<Command<'a>, AllocError> {
+    add_rows(command, alloc, &MORE_ROWS)
+}
+
 /// The command line.
 pub fn command<'a>(alloc: Global) -> Result<Command<'a>, AllocError> {
-    let mut command = Command::new(alloc, "aigmc")
+    let command = Command::new(alloc, "aigmc")
         .about("Looks for evidence about AIGER circuits")
         .version(VERSION)
         .after_help(STATUSES)
         .subcommand_required(true);
-    for row in ROWS.iter() {
-        command = command.subcommand(row.command(alloc)?)?;
-    }
-    Ok(command)
+    add_more(add_first(command, alloc)?, alloc)
 }
