@@ -68,9 +68,9 @@ impl Question<'_> {
     }
 
     /// Register correspondence, and where it has no invariant, bounded search through runs of so many steps.
-    fn corresponding(self, alloc: Global, depth: u32) -> Result<Box<dyn Engine>, Stop> {
+    fn corresponding(self, alloc: Global, depth: u8) -> Result<Box<dyn Engine>, Stop> {
         let timing = self.timing;
-        let bounded = Bmc::new(timing.solver(alloc), depth);
+        let bounded = Bmc::new(timing.solver(alloc), u32::from(depth));
         let engine: Box<dyn Engine> = boxed(
             alloc,
             Corresponding::new(timing.solver(alloc), bounded),
@@ -126,7 +126,7 @@ impl Question<'_> {
     }
 
     /// What register correspondence says, and bounded search of so many steps behind it.
-    fn corresponded(self, alloc: Global, depth: u32, steps: u64) -> Result<(Verdict, u64), Stop> {
+    fn corresponded(self, alloc: Global, depth: u8, steps: u64) -> Result<(Verdict, u64), Stop> {
         let mut engines: Vec<Box<dyn Engine>> = Vec::new(alloc);
         push(&mut engines, self.corresponding(alloc, depth)?)?;
         self.decided(alloc, engines.as_mut_slice(), steps)
@@ -167,7 +167,7 @@ impl Question<'_> {
     /// error is a terminal, that says how far they are.
     pub fn ask(self, rt: &HostRuntime, candidates: Seq<Seq<Lit>>) -> Result<Verdict, Stop> {
         let search = self.timing.search;
-        let (budget, depth) = (search.budget, u32::from(search.depth));
+        let (budget, depth) = (search.budget, search.depth);
         let verdict = match search.engine {
             EngineKind::All => self.staged(rt, candidates),
             EngineKind::Corresponding => {
