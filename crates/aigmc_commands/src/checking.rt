@@ -163,15 +163,36 @@ fn certificate_in<'a>(verdict: &Verdict, certificate: Option<&'a str>) -> Option
     }
 }
 
+/// Prints what was found by the search that began then. Its evidence goes to the file of that name first, where one is
+/// named.
+fn show<'a>(
+    rt: &HostRuntime,
+    whole: Whole<'a>,
+    property: Property,
+    verdict: &'a Verdict,
+    evidence: Option<&'a str>,
+    begun: Option<Instant>,
+) -> Result<u8, Stop> {
+    whole.found(property, verdict, evidence, begun).show(rt)
+}
+
 /// Looks for evidence about the property of the circuit, and prints the verdict. A certificate goes to the
 /// file of that name first, where one is named.
-fn check_in(
+fn check_in<'a>(
     rt: &HostRuntime,
-    whole: Whole<'_>,
+    name: &'a str,
+    file: &'a AigerFile,
     property: Property,
-    certificate: Option<&str>,
+    certificate: Option<&'a str>,
+    timing: Timing,
 ) -> Result<u8, Stop> {
-    let (file, timing) = (whole.file, whole.timing);
+    let whole = Whole {
+        name,
+        file,
+        folder: None,
+        timing,
+        is_vacuous: timing.is_vacuous(rt, file.model())?,
+    };
     let begun = timing.now(rt);
     let candidates = Seq::new(rt.alloc());
     let question = Question {
@@ -182,7 +203,7 @@ fn check_in(
     match about(Role::Circuit, question.ask(rt, candidates)) {
         Ok(verdict) => {
             let evidence = certificate_in(&verdict, certificate);
-            whole.found(property, &verdict, evidence, begun).show(rt)
+            show(rt, whole, property, &verdict, evidence, begun)
         }
         Err(stop) => Err(fault_of(rt.alloc(), file.model(), property, stop)),
     }
@@ -204,14 +225,7 @@ pub fn check(
     }
     let file = circuit(rt, name)?;
     let property = property_in(rt, name, &file, asked, search.verbose)?;
-    let whole = Whole {
-        name,
-        file: &file,
-        folder: None,
-        timing,
-        is_vacuous: timing.is_vacuous(rt, file.model())?,
-    };
-    check_in(rt, whole, property, certificate)
+    check_in(rt, name, &file, property, certificate, timing)
 }
 
 /// The file of the folder to make of the verdict's evidence, where it has some and a folder is named.
@@ -247,10 +261,8 @@ fn keep_in_and_print(
     begun: Option<Instant>,
 ) -> Result<u8, Stop> {
     match evidence_in(rt, whole, property, verdict)? {
-        Some(out) => whole
-            .found(property, verdict, Some(out.as_str()), begun)
-            .show(rt),
-        None => whole.found(property, verdict, None, begun).show(rt),
+        Some(out) => show(rt, whole, property, verdict, Some(out.as_str()), begun),
+        None => show(rt, whole, property, verdict, None, begun),
     }
 }
 
