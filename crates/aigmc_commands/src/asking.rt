@@ -44,76 +44,18 @@ fn copied(alloc: Global, clauses: &[Seq<Lit>]) -> Result<Seq<Seq<Lit>>, Refused>
 }
 
 impl Question<'_> {
-    /// Bounded search.
-    fn bounded(self, rt: &HostRuntime) -> Result<Box<dyn Engine>, Stop> {
-        let (alloc, timing) = (rt.alloc(), self.timing);
-        let depth = u32::from(timing.search.depth);
-        let bounded = Bmc::new(timing.solver(alloc), depth);
-        let bounded = bounded.with_progress(Reporter::new(rt, timing.shown(rt)));
-        let engine: Box<dyn Engine> = boxed(alloc, bounded)?;
-        Ok(engine)
-    }
-
-    /// IC3, which tries these clauses first.
-    fn inductive(
-        self,
-        rt: &HostRuntime,
-        candidates: Seq<Seq<Lit>>,
-    ) -> Result<Box<dyn Engine>, Stop> {
-        let (alloc, timing) = (rt.alloc(), self.timing);
-        let inductive = Ic3::with_candidates(timing.solver(alloc), candidates);
-        let inductive = inductive.with_progress(Reporter::new(rt, timing.shown(rt)));
-        let engine: Box<dyn Engine> = boxed(alloc, inductive)?;
-        Ok(engine)
-    }
-
-    /// Register correspondence, and where it has no invariant, bounded search through runs of so many steps.
-    fn corresponding(self, alloc: Global, depth: u8) -> Result<Box<dyn Engine>, Stop> {
+    /// What register correspondence says, and bounded search of so many steps behind it. Answers how many steps are left too.
+    fn corresponded(self, alloc: Global, depth: u8, steps: u64) -> Result<(Verdict, u64), Stop> {
         let timing = self.timing;
+        let mut engines: Vec<Box<dyn Engine>> = Vec::new(alloc);
         let bounded = Bmc::new(timing.solver(alloc), u32::from(depth));
         let engine: Box<dyn Engine> = boxed(
             alloc,
             Corresponding::new(timing.solver(alloc), bounded),
         )?;
-        Ok(engine)
-    }
-
-    /// Random simulation.
-    fn random(self, alloc: Global) -> Result<Box<dyn Engine>, Stop> {
-        let search = self.timing.search;
-        let random = Random::new(search.seed, u32::from(search.depth));
-        let engine: Box<dyn Engine> = boxed(alloc, random)?;
-        Ok(engine)
-    }
-
-    /// The engines that are asked for, but register correspondence.
-    fn engines(
-        self,
-        rt: &HostRuntime,
-        candidates: Seq<Seq<Lit>>,
-    ) -> Result<Vec<Box<dyn Engine>>, Stop> {
-        let kind = self.timing.search.engine;
-        let mut engines: Vec<Box<dyn Engine>> = Vec::new(rt.alloc());
-        if kind.has_bounded() {
-            push(&mut engines, self.bounded(rt)?)?;
-        }
-        if kind.has_inductive() {
-            push(&mut engines, self.inductive(rt, candidates)?)?;
-        }
-        if kind == EngineKind::Random {
-            push(&mut engines, self.random(rt.alloc())?)?;
-        }
-        Ok(engines)
-    }
-
-    /// What these engines say, which may take so many steps. Answers how many are left too.
-    fn decided(
-        self,
-        alloc: Global,
-        engines: &mut [Box<dyn Engine>],
-        steps: u64,
-    ) -> Result<(Verdict, u64), Stop> {
-        let mut budget = self.timing.budget(steps);
+        push(&mut engines, engine)?;
+        let mut budget = timing.budget(steps);
+        let engines = engines.as_mut_slice();
         let decided = decide(
             alloc,
             self.file.model(),
@@ -125,22 +67,46 @@ impl Question<'_> {
         Ok((verdict, budget.left()))
     }
 
-    /// What register correspondence says, and bounded search of so many steps behind it.
-    fn corresponded(self, alloc: Global, depth: u8, steps: u64) -> Result<(Verdict, u64), Stop> {
-        let mut engines: Vec<Box<dyn Engine>> = Vec::new(alloc);
-        push(&mut engines, self.corresponding(alloc, depth)?)?;
-        self.decided(alloc, engines.as_mut_slice(), steps)
-    }
-
-    /// What the engines that are asked for say, but register correspondence.
+    /// What the engines that are asked for say, but register correspondence. IC3 tries these clauses first. Answers how many
+    /// steps are left too.
     fn searched(
         self,
         rt: &HostRuntime,
         candidates: Seq<Seq<Lit>>,
         steps: u64,
     ) -> Result<(Verdict, u64), Stop> {
-        let mut engines = self.engines(rt, candidates)?;
-        self.decided(rt.alloc(), engines.as_mut_slice(), steps)
+        let (alloc, timing) = (rt.alloc(), self.timing);
+        let (search, shown) = (timing.search, timing.shown(rt));
+        let depth = u32::from(search.depth);
+        let mut engines: Vec<Box<dyn Engine>> = Vec::new(alloc);
+        if search.engine.has_bounded() {
+            let bounded = Bmc::new(timing.solver(alloc), depth);
+            let bounded = bounded.with_progress(Reporter::new(rt, shown));
+            let engine: Box<dyn Engine> = boxed(alloc, bounded)?;
+            push(&mut engines, engine)?;
+        }
+        if search.engine.has_inductive() {
+            let inductive = Ic3::with_candidates(timing.solver(alloc), candidates);
+            let inductive = inductive.with_progress(Reporter::new(rt, shown));
+            let engine: Box<dyn Engine> = boxed(alloc, inductive)?;
+            push(&mut engines, engine)?;
+        }
+        if search.engine == EngineKind::Random {
+            let random = Random::new(search.seed, depth);
+            let engine: Box<dyn Engine> = boxed(alloc, random)?;
+            push(&mut engines, engine)?;
+        }
+        let mut budget = timing.budget(steps);
+        let engines = engines.as_mut_slice();
+        let decided = decide(
+            alloc,
+            self.file.model(),
+            self.property,
+            engines,
+            &mut budget,
+        );
+        let verdict = decided.map_err(CliError::from)?;
+        Ok((verdict, budget.left()))
     }
 
     /// What bounded search and IC3 say with few steps, else register correspondence, else the two with what is left.
