@@ -76,8 +76,9 @@ impl Question<'_> {
         steps: u64,
     ) -> Result<(Verdict, u64), Stop> {
         let (alloc, timing) = (rt.alloc(), self.timing);
-        let (search, shown) = (timing.search, timing.shown(rt));
-        let depth = u32::from(search.depth);
+        let search = timing.search;
+        let shown = timing.shown(rt);
+        let depth = u32::from(timing.search.depth);
         let mut engines: Vec<Box<dyn Engine>> = Vec::new(alloc);
         if search.engine.has_bounded() {
             let bounded = Bmc::new(timing.solver(alloc), depth);
