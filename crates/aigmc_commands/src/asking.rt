@@ -73,12 +73,13 @@ impl Question<'_> {
         self,
         rt: &HostRuntime,
         candidates: Seq<Seq<Lit>>,
+        depth: u8,
         steps: u64,
     ) -> Result<(Verdict, u64), Stop> {
         let (alloc, timing) = (rt.alloc(), self.timing);
         let search = timing.search;
         let shown = timing.shown(rt);
-        let depth = u32::from(timing.search.depth);
+        let depth = u32::from(depth);
         let mut engines: Vec<Box<dyn Engine>> = Vec::new(alloc);
         if search.engine.has_bounded() {
             let bounded = Bmc::new(timing.solver(alloc), depth);
@@ -112,10 +113,10 @@ impl Question<'_> {
 
     /// What bounded search and IC3 say with few steps, else register correspondence, else the two with what is left.
     fn staged(self, rt: &HostRuntime, candidates: Seq<Seq<Lit>>) -> Result<Verdict, Stop> {
-        let all = self.timing.search.budget;
+        let (all, depth) = (self.timing.search.budget, self.timing.search.depth);
         let few = (all / FIRST_PARTS).min(FIRST_STEPS);
         let first = copied(rt.alloc(), candidates.as_slice())?;
-        let (verdict, left) = self.searched(rt, first, few)?;
+        let (verdict, left) = self.searched(rt, first, depth, few)?;
         if !matches!(verdict, Verdict::Unknown(_)) {
             return Ok(verdict);
         }
@@ -126,7 +127,7 @@ impl Question<'_> {
             return Ok(verdict);
         }
         let rest = rest.saturating_sub(share.saturating_sub(left));
-        let (verdict, _) = self.searched(rt, candidates, rest)?;
+        let (verdict, _) = self.searched(rt, candidates, depth, rest)?;
         Ok(verdict)
     }
 
@@ -142,7 +143,7 @@ impl Question<'_> {
                 Ok(verdict)
             }
             _ => {
-                let (verdict, _) = self.searched(rt, candidates, budget)?;
+                let (verdict, _) = self.searched(rt, candidates, depth, budget)?;
                 Ok(verdict)
             }
         };
