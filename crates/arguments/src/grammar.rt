@@ -254,7 +254,7 @@ static MORE_ROWS: [Row; 5] = [
     Row {
         name: "extract",
         about: "Writes the circuit of a bad literal, or of an output as one, for other engines",
-        behind: "OUT has all inputs and latches, each with a name (i0, l0 where FILE has none), so that a stimulus of OUT fits
+        behind: "OUT has all inputs and latches, each with a name (i0, lo0 where FILE has none), so that a stimulus of OUT fits
 FILE, and the constraints. It has the gates on which the property and the constraints rest; a latch on which they
 don't rest keeps its value. The property is b0 of OUT, or o0 where FILE has its outputs as properties.
 Status: 0 done, 3 failed.

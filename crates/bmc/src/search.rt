@@ -27,7 +27,7 @@ use std::alloc::Global;
 pub struct Bmc<S, P> {
     solver: S,
     depth: u32,
-    /// what is told of each search
+    /// where each search reports its progress
     progress: P,
 }
 

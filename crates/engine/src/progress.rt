@@ -15,7 +15,7 @@ pub trait Progress: Drop {
     fn query_asked(&mut self, budget: &Budget);
 }
 
-/// What is told of a search and does nothing.
+/// Progress that is not shown.
 #[derive(Drop)]
 pub struct Silent;
 

@@ -100,7 +100,7 @@ fn finds_worked_circuits(rt: HostRuntime) -> Result<(), Fail> {
     Ok(())
 }
 
-/// What was told of a search: the last frame, how many clauses the frames had then, and how many queries.
+/// The progress of a search: the last frame, how many clauses the frames had then, and how many queries.
 #[derive(Drop)]
 struct Told {
     frame: u32,
@@ -121,7 +121,7 @@ impl Progress for Told {
     }
 }
 
-/// What is told of the search in the circuit of a text.
+/// The progress of the search in the circuit of a text.
 fn told_of(alloc: Global, text: &[u8]) -> Result<Told, Fail> {
     let circuit = circuit(alloc, text)?;
     let nothing = Told {

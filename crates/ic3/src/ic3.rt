@@ -17,7 +17,7 @@ pub struct Ic3<S: PartSat, P: Progress> {
     frame_solver: FrameSolver<S>,
     /// clauses that are tried first
     candidates: Option<Seq<Seq<Lit>>>,
-    /// what is told of each search
+    /// where each search reports its progress
     progress: P,
 }
 
@@ -43,7 +43,7 @@ impl<S: PartSat> Ic3<S, Silent> {
         }
     }
 
-    /// The same engine, whose searches this is told of: each frame that is opened, and each query about the bad
+    /// The same engine, whose searches report their progress here: each frame that is opened, and each query about the bad
     /// literal and about states that are to be blocked.
     pub fn with_progress<P: Progress>(self, progress: P) -> Ic3<S, P>
         ensures solver { result.frame_solver ≡ self.frame_solver }
@@ -59,7 +59,7 @@ impl<S: PartSat> Ic3<S, Silent> {
 }
 
 impl<S: PartSat, P: Progress> Ic3<S, P> {
-    /// What was told of the searches.
+    /// Where the searches reported their progress.
     pub fn into_progress(self) -> P
         ensures { result ≡ self.progress }
     {
