@@ -250,8 +250,8 @@ def changed(source, text):
 
 
 def compared(scratch, one, other, *options):
-    """The steps of the run in which aigmc says that two files differ, or None where they are equal. aigcheck accepts the
-    evidence."""
+    """The steps of the run in which aigmc says that two files differ, or None where they are equal. aigcheck accepts
+    the evidence."""
     made = scratch / "made"
     shutil.rmtree(made, ignore_errors=True)
     made.mkdir()
@@ -308,7 +308,7 @@ def mitered(scratch):
     expect(compared(scratch, "one.aag", "other.aag"), None, "whether they differ")
     words = ("convert", "made/miter.aig", "miter.aag")
     expect(program(scratch, "aigmc", *words), (b"", b"", 0), "what convert does")
-    # inputs 2 and 4; latches 6 of one, 8 and 10 of the other; their gates 12 and 14; the gates 16, 18 and 20 compare them
+    # inputs 2 and 4; latches 6 of one, 8 and 10 of the other; their gates 12 and 14; 16, 18 and 20 compare these
     head = "aag 10 2 3 0 5 1\n2\n4\n6 12\n8 4\n10 2\n21\n"
     gates = "12 4 2\n14 10 8\n16 15 6\n18 14 7\n20 19 17\n"
     names = "i0 x\ni1 y\nl0 a.both\nl1 b.lo0\nl2 b.x\nb0 differs\n"
@@ -350,7 +350,8 @@ def covered(scratch):
     expect(program(scratch, "aigcheck", "run", "circuit.aag", "run"), (b"no 30\n", b"", 1), "what the judge says")
     # with a third bad literal that is always set it is a violation at the run's end
     make(scratch / "set.aag", text.replace("1 2 1\n", "1 3 1\n").replace("\n0\n6\n", "\n0\n6\n1\n"))
-    expect(program(scratch, "aigcheck", "run", "set.aag", "run"), (b"yes run b2\n", b"", 0), "whether constraints are kept")
+    said = program(scratch, "aigcheck", "run", "set.aag", "run")
+    expect(said, (b"yes run b2\n", b"", 0), "whether the constraints are kept")
 
 
 def has_run(circuit, steps):
@@ -362,7 +363,8 @@ def has_run(circuit, steps):
 
 
 def with_true(circuit, text):
-    """The text of the circuit with the constant true behind its bad literals: each run with its constraints violates it."""
+    """The text of the circuit with the constant true behind its bad literals, which each run that keeps the constraints
+    violates."""
     header, *lines = text.split("\n")
     counts = header.split()
     counts[6] = str(len(circuit.bad) + 1)
