@@ -313,6 +313,24 @@ def mitered(scratch):
     gates = "12 4 2\n14 10 8\n16 15 6\n18 14 7\n20 19 17\n"
     names = "i0 x\ni1 y\nl0 a.both\nl1 b.lo0\nl2 b.x\nb0 differs\n"
     expect((scratch / "miter.aag").read_text(), head + gates + names, "the miter")
+    wanted = {"file": "one.aag other.aag", "property": "b0", "name": "differs", "verdict": "holds"}
+    wanted |= {"evidence": "made/b0.cert", "reason": None, "vacuous": False}
+    done = program(scratch, "aigmc", "equal", "one.aag", "other.aag", "--json", "--out", "made")
+    expect(lines(done), ([wanted], 0), "what JSON says")
+
+
+@case("aigmc equal --timeout: the search ends, and the miter stays")
+def late(scratch):
+    make(scratch / "one.aag", counter(64))
+    make(scratch / "other.aag", "aag 1 1 0 0 0 1\n2\n0\n")
+    (scratch / "made").mkdir()
+    words = ("equal", "one.aag", "other.aag", "--timeout", "1", "--engine", "ic3", "--budget", ALL_STEPS)
+    out, told, status = program(scratch, "aigmc", *words, "--out", "made", "-v")
+    last = told.splitlines()[-1]
+    expect((out, last, status), (b"2\nb0\n.\n", b"b0: " + SPENT + b" (differs)", 2), "what it does")
+    expect([path.name for path in (scratch / "made").iterdir()], ["miter.aig"], "what is made")
+    said = b"no evidence b0\n0 safe, 0 violated, 1 without evidence\n"
+    expect(program(scratch, "aigcheck", "all", "made/miter.aig", "made"), (said, b"", 2), "what the judge says")
 
 
 @case("aigmc equal: files that are read stay, and a miter over the limit is refused")

@@ -229,7 +229,7 @@ impl<'a> Halves<'a> {
     }
 
     /// Adds the gates that say whether this literal is set and the literals that belong together are equal, and answers
-    /// their literal. The constant needs none.
+    /// their literal. The constant needs none. What belongs to nothing is not equal.
     fn add_all_equal(
         &mut self,
         before: Lit,
@@ -240,10 +240,10 @@ impl<'a> Halves<'a> {
         let mut all = before;
         for (position, lit) in others.iter().enumerate() {
             let Some(place) = places.get(position) else {
-                return Ok(all);
+                return Ok(FALSE);
             };
             let Some(partner) = ones.get(*place as usize) else {
-                return Ok(all);
+                return Ok(FALSE);
             };
             let (one, other) = (self.one.at(*partner), self.other.at(*lit));
             let equal = add_equal(&mut self.parts, one, other)?;
