@@ -1,15 +1,23 @@
 """Cases of the programs themselves: names of properties, a time, and the files that they make."""
 
+import itertools
 import json
 import os
+import random
 import re
+import shutil
 import stat
+from collections import Counter
+from importlib.machinery import SourceFileLoader
 
 from trial import BOTH, FILES, HOLDS, PROGRAMS, call, case, counter, expect, make
 
 JUSTICE = (FILES / "hold-justice-named.aag").read_bytes()
 INVARIANT = (FILES / "hold.clauses").read_bytes()
 SPENT = b"the time is over; a greater --timeout looks further"
+
+# Small circuits, and what exhaustive search says of them.
+EXHAUSTIVE = SourceFileLoader("exhaustive", str(FILES.parent / "exhaustive")).load_module()
 
 # The greatest number of steps: the time alone ends a search.
 ALL_STEPS = "18446744073709551615"
@@ -199,3 +207,214 @@ def long(scratch):
         expect((scratch / name).read_text(), HOLDS, "the file")
         (scratch / name).unlink()
     expect([path.name for path in scratch.iterdir()], ["circuit.aag"], "what is left")
+
+
+def of_pair(one, other):
+    """The least number of steps to a time at which two circuits with as many inputs, outputs and bad literals differ in
+    one of these, by pairs of states; or None. Both keep their constraints at each time."""
+    pairs = set(itertools.product(one.initial_states(), other.initial_states()))
+    seen, steps = set(), 0
+    while pairs:
+        seen |= pairs
+        times = [both for states in pairs for both in times_of(one, other, *states)]
+        if any(seen_outside(one, values) != seen_outside(other, others) for values, others in times):
+            return steps
+        pairs = {(one.next_state(values), other.next_state(others)) for values, others in times} - seen
+        steps += 1
+    return None
+
+
+def times_of(one, other, state, other_state):
+    """The times of both circuits in these states under the same inputs, where both keep their constraints."""
+    for inputs in itertools.product((False, True), repeat=len(one.inputs)):
+        both = one.valuation(state, inputs), other.valuation(other_state, inputs)
+        if all(values[lit // 2] != bool(lit % 2) for it, values in zip((one, other), both) for lit in it.constraints):
+            yield both
+
+
+def seen_outside(circuit, values):
+    """The values of the outputs and bad literals."""
+    return [values[lit // 2] != bool(lit % 2) for lit in circuit.outputs + circuit.bad]
+
+
+def changed(source, text):
+    """The circuit with the negation of a literal of one gate."""
+    lines = text.splitlines()
+    gates = int(lines[0].split()[5])
+    at = len(lines) - 1 - source.randrange(gates)
+    words = lines[at].split()
+    side = source.choice((1, 2))
+    words[side] = str(int(words[side]) ^ 1)
+    lines[at] = " ".join(words)
+    return "\n".join(lines) + "\n"
+
+
+def compared(scratch, one, other, *options):
+    """The steps of the run in which aigmc says that two files differ, or None where they are equal. aigcheck accepts
+    the evidence."""
+    made = scratch / "made"
+    shutil.rmtree(made, ignore_errors=True)
+    made.mkdir()
+    out, told, status = program(scratch, "aigmc", "equal", one, other, "--out", "made", *options)
+    expect((told, status in (0, 1)), (b"", True), "what equal says, and its status")
+    kept = {path.name for path in made.iterdir()}
+    expect(kept, {"miter.aig", "b0.stim" if status else "b0.cert"}, "what is in the folder")
+    word, counts = ((b"run", b"0 safe, 1 violated"), (b"safe", b"1 safe, 0 violated"))[status == 0]
+    said = b"yes " + word + b" b0\n" + counts + b", 0 without evidence\n"
+    expect(program(scratch, "aigcheck", "all", "made/miter.aig", "made"), (said, b"", status), "what the judge says")
+    return len(out.splitlines()) - 5 if status else None
+
+
+def is_closed(circuit):
+    """Whether each latch has a reset."""
+    return all(lit != reset for lit, _, reset in circuit.latches)
+
+
+def of_itself(scratch, text):
+    """What exhaustive search and aigmc say of a circuit and what convert makes of it. A latch without a reset begins in
+    both by itself; without such the two are equal."""
+    make(scratch / "one.aag", text)
+    expect(program(scratch, "aigmc", "convert", "one.aag", "same.aig"), (b"", b"", 0), "what convert does")
+    circuit = EXHAUSTIVE.Circuit(text)
+    wanted = None if is_closed(circuit) else of_pair(circuit, circuit)
+    return wanted, compared(scratch, "one.aag", "same.aig")
+
+
+def of_changed(scratch, text, other):
+    """What exhaustive search and aigmc say of two circuits."""
+    make(scratch / "one.aag", text)
+    make(scratch / "other.aag", other)
+    wanted = of_pair(EXHAUSTIVE.Circuit(text), EXHAUSTIVE.Circuit(other))
+    return wanted, compared(scratch, "one.aag", "other.aag")
+
+
+@case("aigmc equal: what exhaustive search says of small circuits and of changed ones")
+def pairs(scratch):
+    source, lost, found = random.Random(20), [], Counter()
+    for _ in range(60):
+        text = EXHAUSTIVE.generated(source, False)
+        other = changed(source, text)
+        said = of_itself(scratch, text), of_changed(scratch, text, other)
+        lost += [(text, other, *both) for both in said if both[0] != both[1]]
+        found.update(("itself" if at == 0 else "changed", wanted is None) for at, (wanted, _) in enumerate(said))
+    expect(lost, [], "the circuits of which something else is said")
+    expect(len(found) == 4 and min(found.values()) > 4, True, f"whether there are many of each kind: {found}")
+
+
+@case("aigmc equal: the miter by names")
+def mitered(scratch):
+    make(scratch / "one.aag", "aag 4 2 1 1 1\n2\n4\n6 8\n6\n8 2 4\ni0 x\ni1 y\nl0 both\n")
+    make(scratch / "other.aag", "aag 5 2 2 1 1\n2\n4\n6 2\n8 4\n10\n10 6 8\ni0 y\ni1 x\nl1 x\n")
+    expect(compared(scratch, "one.aag", "other.aag"), None, "whether they differ")
+    words = ("convert", "made/miter.aig", "miter.aag")
+    expect(program(scratch, "aigmc", *words), (b"", b"", 0), "what convert does")
+    # inputs 2 and 4; latches 6 of one, 8 and 10 of the other; their gates 12 and 14; 16, 18 and 20 compare these
+    head = "aag 10 2 3 0 5 1\n2\n4\n6 12\n8 4\n10 2\n21\n"
+    gates = "12 4 2\n14 10 8\n16 15 6\n18 14 7\n20 19 17\n"
+    names = "i0 x\ni1 y\nl0 a.both\nl1 b.lo0\nl2 b.x\nb0 differs\n"
+    expect((scratch / "miter.aag").read_text(), head + gates + names, "the miter")
+    wanted = {"file": "one.aag other.aag", "property": "b0", "name": "differs", "verdict": "holds"}
+    wanted |= {"evidence": "made/b0.cert", "reason": None, "vacuous": False}
+    done = program(scratch, "aigmc", "equal", "one.aag", "other.aag", "--json", "--out", "made")
+    expect(lines(done), ([wanted], 0), "what JSON says")
+
+
+@case("aigmc equal --timeout: the search ends, and the miter stays")
+def late(scratch):
+    make(scratch / "one.aag", counter(64))
+    make(scratch / "other.aag", "aag 1 1 0 0 0 1\n2\n0\n")
+    (scratch / "made").mkdir()
+    words = ("equal", "one.aag", "other.aag", "--timeout", "1", "--engine", "ic3", "--budget", ALL_STEPS)
+    out, told, status = program(scratch, "aigmc", *words, "--out", "made", "-v")
+    last = told.splitlines()[-1]
+    expect((out, last, status), (b"2\nb0\n.\n", b"b0: " + SPENT + b" (differs)", 2), "what it does")
+    expect([path.name for path in (scratch / "made").iterdir()], ["miter.aig"], "what is made")
+    said = b"no evidence b0\n0 safe, 0 violated, 1 without evidence\n"
+    expect(program(scratch, "aigcheck", "all", "made/miter.aig", "made"), (said, b"", 2), "what the judge says")
+
+
+@case("aigmc equal: files that are read stay, and a miter over the limit is refused")
+def unequal(scratch):
+    make(scratch / "b0.cert", HOLDS)
+    make(scratch / "miter.aig", HOLDS)
+    for name in ("b0.cert", "miter.aig"):
+        expect(program(scratch, "aigmc", "equal", name, name, "--out", "."), (b"", b"aigmc: bad argument\n", 3), name)
+        expect((scratch / name).read_text(), HOLDS, "the file")
+    expect(program(scratch, "aigmc", "equal", "-", "-"), (b"", b"aigmc: bad argument\n", 3), "standard input twice")
+    # two circuits with so many latches each have one variable more than a circuit may
+    latches = 2_097_152
+    make(scratch / "large.aig", b"aig %d 0 %d 1 0\n" % (latches, latches) + b"0\n" * (latches + 1))
+    (scratch / "made").mkdir()
+    words = ("equal", "large.aig", "large.aig", "--out", "made")
+    expect(program(scratch, "aigmc", *words), (b"", b"aigmc: fault 4 at 0\n", 3), "what it does")
+    expect(list((scratch / "made").iterdir()), [], "what is made")
+
+
+@case("aigmc cover: the run is a stimulus for sim and trace, and no violation")
+def covered(scratch):
+    text = "aag 4 1 2 0 1 2 1\n2\n4 5\n6 6 6\n0\n6\n9\n8 4 2\ni0 enable\n"
+    make(scratch / "circuit.aag", text)
+    run, told, status = program(scratch, "aigmc", "cover", "circuit.aag", "--depth", "3")
+    expect((told, status), (b"", 0), "what cover says, and its status")
+    first, name, state, *times, last = run.decode().split("\n")[:-1]
+    expect((first, name, state[0], len(state), len(times), last), ("1", "b2", "0", 2, 4, "."), "the run")
+    # the first latch is set at the times 1 and 3, and the constraint wants the input 0 then
+    expect([times[1], times[3]], ["0", "0"], "the inputs that the constraint decides")
+    make(scratch / "run", run)
+    table, told, status = program(scratch, "aigmc", "sim", "circuit.aag", "run")
+    rows = [line.split(" ") for line in table.decode().splitlines()]
+    expect((told, status, [row[1][0] for row in rows]), (b"", 0, ["0", "1", "0", "1", "0"]), "the replay's states")
+    expect(program(scratch, "aigmc", "trace", "circuit.aag", "run")[1:], (b"", 0), "what trace says, and its status")
+    expect(program(scratch, "aigcheck", "run", "circuit.aag", "run"), (b"no 30\n", b"", 1), "what the judge says")
+    # with a third bad literal that is always set it is a violation at the run's end
+    make(scratch / "set.aag", text.replace("1 2 1\n", "1 3 1\n").replace("\n0\n6\n", "\n0\n6\n1\n"))
+    said = program(scratch, "aigcheck", "run", "set.aag", "run")
+    expect(said, (b"yes run b2\n", b"", 0), "whether the constraints are kept")
+
+
+def has_run(circuit, steps):
+    """Whether a run of so many steps keeps the constraints at each of its times."""
+    states = set(circuit.initial_states())
+    for _ in range(steps):
+        states = {circuit.next_state(values) for state in states for values in circuit.times_in(state)}
+    return any(True for state in states for _ in circuit.times_in(state))
+
+
+def with_true(circuit, text):
+    """The text of the circuit with the constant true behind its bad literals, which each run that keeps the constraints
+    violates."""
+    header, *lines = text.split("\n")
+    counts = header.split()
+    counts[6] = str(len(circuit.bad) + 1)
+    at = len(circuit.inputs) + len(circuit.latches) + len(circuit.outputs) + len(circuit.bad)
+    return "\n".join([" ".join(counts), *lines[:at], "1", *lines[at:]])
+
+
+def is_covered(scratch, text, steps):
+    """Whether aigmc has a run of so many steps, which aigcheck accepts as a violation of the constant true."""
+    circuit = EXHAUSTIVE.Circuit(text)
+    make(scratch / "circuit.aag", text)
+    run, told, status = program(scratch, "aigmc", "cover", "circuit.aag", "--depth", str(steps))
+    if status != 0:
+        said = b"aigmc: no run keeps the constraints for %d steps\n" % steps
+        expect((run, told, status), (b"", said, 1), "what it does where there is none")
+        return False
+    make(scratch / "true.aag", with_true(circuit, text))
+    make(scratch / "run", run)
+    said = (b"yes run b%d\n" % len(circuit.bad), b"", 0)
+    expect(program(scratch, "aigcheck", "run", "true.aag", "run"), said, "what the judge says")
+    expect((told, len(run.splitlines())), (b"", steps + 5), "what it says, and the length of the run")
+    return True
+
+
+@case("aigmc cover: what exhaustive search says of small circuits")
+def runs(scratch):
+    source, lost, found = random.Random(21), [], Counter()
+    texts = [EXHAUSTIVE.generated(source, False) for _ in range(60)]
+    for text, steps in itertools.product(texts, (0, 1, 3, 8)):
+        wanted = has_run(EXHAUSTIVE.Circuit(text), steps)
+        found[wanted] += 1
+        if is_covered(scratch, text, steps) != wanted:
+            lost.append((text, steps, wanted))
+    expect(lost, [], "the circuits of which something else is said")
+    expect(len(found) == 2 and min(found.values()) > 10, True, f"whether there are many of both: {found}")

@@ -35,6 +35,12 @@
 //! `--out DIR` the evidence about each is written to the folder DIR before its verdict is printed: a
 //! certificate to `P.cert`, a stimulus to `P.stim`.
 //!
+//! `aigmc equal A B` looks for a run in which two circuits differ: it does what `check` does of the bad literal of their miter
+//! (`aigmc_commands`). With `--out DIR` that is `miter.aig` in the folder DIR, and the evidence `b0.cert` or `b0.stim`.
+//!
+//! `aigmc cover FILE` prints a run of `--depth` steps that keeps the constraints. Where bounded search shows that there is none,
+//! the status is 1 and standard error says so.
+//!
 //! `aigmc certify FILE -p P --invariant INV --cert OUT` makes a certificate of the clauses that INV has (a line for each, or a
 //! certificate): `certify::certify` proves each case of them, and believes nothing. `--budget` is how many steps the proofs may
 //! cost. Where the clauses are no inductive invariant that excludes the property's literal, or the budget is exhausted,
@@ -53,7 +59,7 @@
 //! (`witness::strict`). It prints `yes run P`. Where no choice shows a violation the status is 1, standard error says why, and nothing is
 //! written. With `--clear` OUT has an `x` for each value that the violation does not rest on.
 //!
-//! FILE, STIM and INV may be `-`, the standard input, but one of them alone. OUT of `convert` and `trace` may be `-`, the standard output.
+//! FILE, A, B, STIM and INV may be `-`, the standard input, but one of them alone. OUT of `convert` and `trace` may be `-`, the standard output.
 //!
 //! With `-v` the fault of a file has a second line, with the file, the reason, and the line and column of a text.
 //!
@@ -66,10 +72,11 @@ mod detail;
 mod explaining;
 
 use aigmc_commands::{
-    certify_clauses, check, check_all, extract, make_fitting, make_shadow, make_witness, trace,
+    Pair, certify_clauses, check, check_all, cover, extract, make_fitting, make_shadow,
+    make_witness, trace,
 };
 use aigmc_files::{DONE, FAULT, Stop, circuit, finished, print_table, stimulus_of, tell};
-use arguments::{AskedLayout, Request, Wrong, parse};
+use arguments::{AskedLayout, Request, Search, Wrong, parse};
 use base::push;
 use cli::Layout;
 use detail::tell_detail;
@@ -106,6 +113,23 @@ fn sim(rt: &HostRuntime, name: &str, stimulus: &str) -> Result<u8, Stop> {
     Ok(DONE)
 }
 
+/// Looks for a run in which the circuits of two files differ.
+fn compare<'a>(
+    rt: &HostRuntime,
+    one: &'a str,
+    other: &'a str,
+    folder: Option<&'a str>,
+    search: Search,
+) -> Result<u8, Stop> {
+    let pair = Pair {
+        one,
+        other,
+        folder,
+        search,
+    };
+    pair.compare(rt)
+}
+
 /// Does what is asked for.
 fn done(rt: &HostRuntime, request: Request<'_>) -> Result<u8, Stop> {
     match request {
@@ -128,6 +152,13 @@ fn done(rt: &HostRuntime, request: Request<'_>) -> Result<u8, Stop> {
             certificate,
             search,
         } => check(rt, file, property, certificate, search),
+        Request::Equal {
+            file,
+            other,
+            folder,
+            search,
+        } => compare(rt, file, other, folder, search),
+        Request::Cover { file, search } => cover(rt, file, search),
         Request::All {
             file,
             folder,

@@ -266,6 +266,33 @@ fn keep_in_and_print(
     }
 }
 
+/// Looks for evidence about the one bad literal of a circuit that was made of those with this name, and prints the verdict.
+/// Evidence goes to the folder of that name first, where one is named.
+pub fn check_made<'a>(
+    rt: &HostRuntime,
+    name: &'a str,
+    file: &'a AigerFile,
+    folder: Option<&'a str>,
+    timing: Timing,
+) -> Result<u8, Stop> {
+    let whole = Whole {
+        name,
+        file,
+        folder,
+        timing,
+        is_vacuous: timing.is_vacuous(rt, file.model())?,
+    };
+    let begun = timing.now(rt);
+    let property = Property::Bad(0);
+    let question = Question {
+        file,
+        property,
+        timing,
+    };
+    let verdict = question.ask(rt, Seq::new(rt.alloc()))?;
+    keep_in_and_print(rt, whole, property, &verdict, begun)
+}
+
 /// The status of two verdicts: that of a violation, else that of an unknown.
 fn joined(one: u8, other: u8) -> u8 {
     if one == VIOLATED || other == VIOLATED {

@@ -4,8 +4,12 @@
 mod adopting;
 mod asking;
 mod checking;
+mod comparing;
 mod counterexample;
+mod covering;
 mod extracting;
+mod matching;
+mod mitering;
 mod naming;
 mod progress;
 mod relevant;
@@ -18,6 +22,8 @@ mod witnessing;
 
 pub use adopting::{certify_clauses, make_fitting, make_shadow};
 pub use checking::{check, check_all};
+pub use comparing::Pair;
+pub use covering::cover;
 pub use extracting::extract;
 pub use progress::is_terminal;
 pub use tracing::trace;

@@ -72,7 +72,7 @@ fn add_old(
 }
 
 /// How many there are, which the limits of a circuit keep at 4,194,303 at most.
-fn count(length: usize) -> u32 {
+pub fn count(length: usize) -> u32 {
     if length < 4_194_303 {
         length as u32
     } else {

@@ -16,16 +16,21 @@ const STEPS: u64 = 100_000_000;
 /// The literal that is always true.
 const TRUE: Lit = Lit(1);
 
-/// The circuit with the constant true as its one bad literal: it is violated by each run that keeps the constraints.
-fn covered(alloc: Global, circuit: &Model) -> Result<Model, ReadError> {
-    let mut parts: Parts = circuit.parts().copy(alloc)?;
+/// The circuit of these parts with this one bad literal, and no outputs, justice or fairness.
+pub fn watching(alloc: Global, mut parts: Parts, watched: Lit) -> Result<Model, ReadError> {
     let mut bad = Seq::new(alloc);
-    bad.push(TRUE)?;
+    bad.push(watched)?;
     parts.bad = bad;
     parts.outputs = Seq::new(alloc);
     parts.justice = Seq::new(alloc);
     parts.fairness = Seq::new(alloc);
     Model::from_parts(alloc, parts)
+}
+
+/// The circuit with the constant true as its one bad literal: it is violated by each run that keeps the constraints.
+fn covered(alloc: Global, circuit: &Model) -> Result<Model, ReadError> {
+    let parts = circuit.parts().copy(alloc)?;
+    watching(alloc, parts, TRUE)
 }
 
 /// Whether a certificate that is found in time shows that no run keeps the circuit's constraints: then every property holds,

@@ -52,9 +52,14 @@ fn read_circuit(rt: &HostRuntime, name: &str) -> Result<AigerFile, Stop> {
     Ok(file)
 }
 
+/// The circuit in the file of this name and role.
+pub fn circuit_of(rt: &HostRuntime, name: &str, role: Role) -> Result<AigerFile, Stop> {
+    read_of(role, read_circuit(rt, name))
+}
+
 /// The circuit's file of this name.
 pub fn circuit(rt: &HostRuntime, name: &str) -> Result<AigerFile, Stop> {
-    read_of(Role::Circuit, read_circuit(rt, name))
+    circuit_of(rt, name, Role::Circuit)
 }
 
 /// The stimulus that the file of this name spells.
@@ -142,11 +147,16 @@ pub fn keep(
 }
 
 /// Writes the stimulus's text.
-fn write_stimulus(rt: &HostRuntime, out: File, shown: &Stimulus) -> Result<(), Stop> {
+fn write_stimulus<W: Write + Drop>(rt: &HostRuntime, out: W, shown: &Stimulus) -> Result<(), Stop> {
     let out = buffered(rt.alloc(), out)?;
     let mut out = ToWrite::new(out);
     let put = stimulus::write(shown, &mut out).map_err(|_| CliError::Device);
     settled(out, put.map_err(Stop::from))
+}
+
+/// Prints the stimulus's text.
+pub fn print_stimulus(rt: &HostRuntime, shown: &Stimulus) -> Result<(), Stop> {
+    write_stimulus(rt, io::writer(rt), shown)
 }
 
 /// Makes the file of this name with the stimulus's text.

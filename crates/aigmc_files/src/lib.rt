@@ -9,8 +9,9 @@ mod making;
 mod stop;
 
 pub use files::{
-    VIOLATED, circuit, keep, keep_and_print, make, make_bytes, make_stimulus, make_waveform,
-    path_of, print_alone, print_table, print_trace, read_text, status_of, stimulus_of,
+    VIOLATED, circuit, circuit_of, keep, keep_and_print, make, make_bytes, make_stimulus,
+    make_waveform, path_of, print_alone, print_stimulus, print_table, print_trace, read_text,
+    status_of, stimulus_of,
 };
 pub use making::{expect_folder, is_same};
 pub use stop::{

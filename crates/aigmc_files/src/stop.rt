@@ -29,6 +29,8 @@ pub const NO_PROPERTY: u8 = 30;
 pub enum Role {
     /// The circuit that is read.
     Circuit,
+    /// The circuit that is read to be compared with it.
+    Other,
     /// The stimulus that is read.
     Stimulus,
     /// The clauses that are read.

@@ -17,7 +17,7 @@ struct Row {
 static VERSION: &str = "0.1.0 (rattle-kit-13f)";
 
 static STATUSES: &str =
-    "Status: 0 done, 1 a violation (check, all), no invariant (certify) or none shown (witness), 2 nothing is known (check, all, certify), 3 failed.
+    "Status: 0 done, 1 a violation (check, all), a difference (equal), no run (cover), no invariant (certify) or none shown (witness), 2 nothing is known (check, all, equal, cover, certify), 3 failed.
 A file called - is the standard input or output. Each command has a help of its own: aigmc check --help.";
 
 /// The file to make of a circuit.
@@ -249,6 +249,75 @@ Examples:
     },
 ];
 
+/// The commands about circuits as a whole.
+static CIRCUIT_ROWS: [Row; 2] = [
+    Row {
+        name: "equal",
+        about: "Looks for a run in which two circuits differ, or for a certificate that there is none",
+        behind: "Inputs, outputs and bad literals belong together by their names, where both circuits name all of a kind and with the
+same names, else by their positions. The certificate or the run is of the miter: the two circuits with the inputs of A
+and a bad literal b0, which is set where two outputs or bad literals that belong together differ. It has the
+constraints of both. A latch without a reset begins in each by itself. Justice properties and fairness literals are not
+compared.
+Status: 0 equal, 1 they differ, 2 unknown, 3 failed.
+Examples:
+  aigmc equal old.aig new.aig
+  mkdir made; aigmc equal old.aig new.aig --out made && aigcheck all made/miter.aig made",
+        words: &[
+            Argument {
+                name: "A",
+                help: "A circuit (AIGER 1.9, ASCII or binary)",
+                ..FILE
+            },
+            Argument {
+                name: "B",
+                help: "The circuit to compare it with",
+                ..FILE
+            },
+            Argument {
+                name: "out",
+                help: "The folder, which is there, for miter.aig and b0.cert or b0.stim",
+                value: "DIR",
+                ..OPTION
+            },
+            BUDGET,
+            DEPTH,
+            ENGINE,
+            SEED,
+            TIMEOUT,
+            QUIET,
+            JSON,
+            VERBOSE,
+        ],
+    },
+    Row {
+        name: "cover",
+        about: "Looks for a run that keeps the constraints, whatever it does else",
+        behind: "The run is printed as a stimulus. Its property is the bad literal behind the last one of FILE, which FILE does not
+have: the run need not violate anything.
+Status: 0 a run is printed, 1 no run keeps them so long, 2 unknown, 3 failed.
+Examples:
+  aigmc cover design.aig
+  aigmc cover design.aig --depth 100 | aigmc trace design.aig -",
+        words: &[
+            FILE,
+            Argument {
+                help: "How many steps the run has",
+                ..DEPTH
+            },
+            Argument {
+                help: "How many steps the search may cost",
+                ..BUDGET
+            },
+            Argument {
+                help: "How many seconds the search may take",
+                ..TIMEOUT
+            },
+            VERBOSE,
+        ],
+    },
+];
+
 /// The commands behind them. They stand in a table of their own, since a proof about a table takes all of it.
 static MORE_ROWS: [Row; 5] = [
     Row {
@@ -375,6 +444,11 @@ fn add_first<'a>(command: Command<'a>, alloc: Global) -> Result<Command<'a>, All
     add_rows(command, alloc, &ROWS)
 }
 
+/// Adds the commands about circuits as a whole.
+fn add_whole<'a>(command: Command<'a>, alloc: Global) -> Result<Command<'a>, AllocError> {
+    add_rows(command, alloc, &CIRCUIT_ROWS)
+}
+
 /// Adds the commands behind them.
 fn add_more<'a>(command: Command<'a>, alloc: Global) -> Result<Command<'a>, AllocError> {
     add_rows(command, alloc, &MORE_ROWS)
@@ -387,5 +461,6 @@ pub fn command<'a>(alloc: Global) -> Result<Command<'a>, AllocError> {
         .version(VERSION)
         .after_help(STATUSES)
         .subcommand_required(true);
-    add_more(add_first(command, alloc)?, alloc)
+    let command = add_whole(add_first(command, alloc)?, alloc)?;
+    add_more(command, alloc)
 }

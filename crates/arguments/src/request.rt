@@ -111,6 +111,24 @@ pub enum Request<'a> {
     Extract(Extraction<'a>),
     /// Make a strict stimulus of a counterexample.
     Witness(Counterexample<'a>),
+    /// Look for a run in which two circuits differ.
+    Equal {
+        /// the first circuit's file
+        file: &'a str,
+        /// the other circuit's file
+        other: &'a str,
+        /// the folder for the miter and the evidence, where one is named
+        folder: Option<&'a str>,
+        /// how the search is to go
+        search: Search,
+    },
+    /// Look for a run that keeps the constraints.
+    Cover {
+        /// the circuit's file
+        file: &'a str,
+        /// how the search is to go
+        search: Search,
+    },
     /// Look for evidence about all properties.
     All {
         /// the circuit's file
@@ -169,6 +187,34 @@ fn asked_all<'a>(words: &ArgMatches<'a>) -> Request<'a> {
     }
 }
 
+/// What `equal` asks for.
+fn asked_equal<'a>(words: &ArgMatches<'a>) -> Request<'a> {
+    Request::Equal {
+        file: word(words, "A"),
+        other: word(words, "B"),
+        folder: words.get_str("out"),
+        search: asked_search(words),
+    }
+}
+
+/// What `cover` asks for.
+fn asked_cover<'a>(words: &ArgMatches<'a>) -> Request<'a> {
+    let search = Search {
+        engine: EngineKind::Bounded,
+        depth: words.get_one::<u8>("depth").unwrap_or(20),
+        budget: words.get_one::<u64>("budget").unwrap_or(10_000_000),
+        seed: 0,
+        timeout: words.get_one::<u64>("timeout"),
+        quiet: false,
+        json: false,
+        verbose: words.get_flag("verbose"),
+    };
+    Request::Cover {
+        file: word(words, "FILE"),
+        search,
+    }
+}
+
 /// What `convert` asks for, or nothing where it asks for two layouts.
 fn asked_convert<'a>(words: &ArgMatches<'a>) -> Option<Request<'a>> {
     let layout = asked_layout(words)?;
@@ -218,6 +264,8 @@ fn asked_of<'a>(name: &str, words: &ArgMatches<'a>) -> Option<Request<'a>> {
     match name {
         "check" => Some(asked_check(words)),
         "all" => Some(asked_all(words)),
+        "equal" => Some(asked_equal(words)),
+        "cover" => Some(asked_cover(words)),
         "certify" => Some(Request::Certify(asked_certify(words))),
         "to-safety" => Some(Request::ToSafety(asked_to_safety(words))),
         "extract" => Some(Request::Extract(asked_extract(words))),

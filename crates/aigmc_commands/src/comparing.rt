@@ -1,0 +1,135 @@
+//! The command `equal`: whether two circuits have the same outputs in all runs.
+
+use crate::checking::{Timing, check_made, is_taken};
+use crate::mitering::miter_of;
+use crate::progress::is_terminal;
+use aigmc_files::{Role, Stop, at, circuit, circuit_of, expect_folder, make};
+use arguments::Search;
+use cli::Layout;
+use graph::{AigerFile, Model, Property};
+use inputs::is_standard;
+use properties::{Evidence, evidence_name};
+
+/// Two circuits by the names of their files, and the folder for the miter and the evidence, where one is named.
+#[derive(Clone, Copy)]
+pub struct Pair<'a> {
+    /// the first circuit's file
+    pub one: &'a str,
+    /// the other circuit's file
+    pub other: &'a str,
+    /// the folder
+    pub folder: Option<&'a str>,
+    /// how the search is to go
+    pub search: Search,
+}
+
+impl Pair<'_> {
+    /// Whether a fault says more than its line.
+    fn is_told(self, rt: &HostRuntime) -> bool {
+        self.search.verbose || is_terminal(rt)
+    }
+
+    /// Refuses two circuits of which one has more of these than the other.
+    fn expect_same(
+        self,
+        rt: &HostRuntime,
+        what: &str,
+        one: usize,
+        other: usize,
+    ) -> Result<(), Stop> {
+        if one == other {
+            return Ok(());
+        }
+        if !self.is_told(rt) {
+            return Err(Stop::BadArgument);
+        }
+        let (first, second) = (self.one, self.other);
+        let _ = eprintln!(rt;
+            "aigmc: bad argument\n  the numbers of {what} differ: {one} in {first}, {other} in {second}"
+        );
+        Err(Stop::Told)
+    }
+
+    /// Refuses two circuits of which the inputs, outputs or bad literals are not as many, or that have nothing to compare.
+    fn expect_comparable(self, rt: &HostRuntime, one: &Model, other: &Model) -> Result<(), Stop> {
+        self.expect_same(rt, "inputs", one.inputs().len(), other.inputs().len())?;
+        self.expect_same(rt, "outputs", one.outputs().len(), other.outputs().len())?;
+        self.expect_same(rt, "bad literals", one.bad().len(), other.bad().len())?;
+        if !one.outputs().is_empty() || !one.bad().is_empty() {
+            return Ok(());
+        }
+        if !self.is_told(rt) {
+            return Err(Stop::BadArgument);
+        }
+        let _ = eprintln!(rt;
+            "aigmc: bad argument\n  there is nothing to compare: no outputs and no bad literals"
+        );
+        Err(Stop::Told)
+    }
+
+    /// The miter of the circuits in the two files.
+    fn miter(self, rt: &HostRuntime) -> Result<AigerFile, Stop> {
+        let one = circuit(rt, self.one)?;
+        let other = circuit_of(rt, self.other, Role::Other)?;
+        self.expect_comparable(rt, one.model(), other.model())?;
+        miter_of(rt.alloc(), &one, &other)
+    }
+
+    /// Refuses a file to make that is read, or that standard output goes to.
+    fn expect_free(self, rt: &HostRuntime, out: &str) -> Result<(), Stop> {
+        if is_taken(rt, self.one, out) || is_taken(rt, self.other, out) {
+            return Err(Stop::Taken);
+        }
+        Ok(())
+    }
+
+    /// Refuses a folder in which the file for such evidence is one that is read.
+    fn expect_free_for(
+        self,
+        rt: &HostRuntime,
+        folder: &str,
+        evidence: Evidence,
+    ) -> Result<(), Stop> {
+        let Ok(out) = evidence_name(rt.alloc(), folder, Property::Bad(0), evidence) else {
+            return Err(Stop::Memory);
+        };
+        self.expect_free(rt, out.as_str())
+    }
+
+    /// The file of the folder to make of the miter. None of the files that are made there is one that is read.
+    fn file_in(self, rt: &HostRuntime, folder: &str) -> Result<String, Stop> {
+        at(Role::Made, expect_folder(rt, folder))?;
+        self.expect_free_for(rt, folder, Evidence::Certificate)?;
+        self.expect_free_for(rt, folder, Evidence::Stimulus)?;
+        let Ok(out) = format!(in rt.alloc(); "{folder}/miter.aig") else {
+            return Err(Stop::Memory);
+        };
+        self.expect_free(rt, out.as_str())?;
+        Ok(out)
+    }
+
+    /// The miter, which is in the folder, where one is named.
+    fn made(self, rt: &HostRuntime) -> Result<AigerFile, Stop> {
+        let Some(folder) = self.folder else {
+            return self.miter(rt);
+        };
+        let out = self.file_in(rt, folder)?;
+        let miter = self.miter(rt)?;
+        make(rt, out.as_str(), &miter, Layout::Binary)?;
+        Ok(miter)
+    }
+
+    /// Looks for a run in which the circuits differ, or for a certificate that there is none, and prints the verdict about their
+    /// miter. That and the evidence go to the folder first, where one is named.
+    pub fn compare(self, rt: &HostRuntime) -> Result<u8, Stop> {
+        let timing = Timing::begin(rt, self.search)?;
+        if is_standard(self.one) && is_standard(self.other) {
+            return Err(Stop::BadArgument);
+        }
+        let miter = self.made(rt)?;
+        let Ok(name) = format!(in rt.alloc(); "{} {}", self.one, self.other) else {
+            return Err(Stop::Memory);
+        };
+        check_made(rt, name.as_str(), &miter, self.folder, timing)
+    }
+}
