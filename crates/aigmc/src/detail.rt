@@ -1,7 +1,6 @@
 //! The second line of a fault: which file it is about, and why.
 
-use aigmc_commands::is_terminal;
-use aigmc_files::{DEVICE, Has, NO_HEADER, Role, Stop};
+use aigmc_files::{DEVICE, Has, NO_HEADER, Role, Stop, is_terminal};
 use arguments::{Asked, Request};
 use explanations::{is_at_byte, meaning, other_format, position_behind};
 use graph::{FromRead, Property, read_to_end};

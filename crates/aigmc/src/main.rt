@@ -71,10 +71,8 @@
 mod detail;
 mod explaining;
 
-use aigmc_commands::{
-    Pair, certify_clauses, check, check_all, cover, extract, make_fitting, make_shadow,
-    make_witness, trace,
-};
+use aigmc_circuits::{Pair, extract, make_fitting, make_shadow, make_witness, trace};
+use aigmc_commands::{Timing, certify_clauses, check, check_all, check_miter, cover};
 use aigmc_files::{DONE, FAULT, Stop, circuit, finished, print_table, stimulus_of, tell};
 use arguments::{AskedLayout, Request, Search, Wrong, parse};
 use base::push;
@@ -113,21 +111,12 @@ fn sim(rt: &HostRuntime, name: &str, stimulus: &str) -> Result<u8, Stop> {
     Ok(DONE)
 }
 
-/// Looks for a run in which the circuits of two files differ.
-fn compare<'a>(
-    rt: &HostRuntime,
-    one: &'a str,
-    other: &'a str,
-    folder: Option<&'a str>,
-    search: Search,
-) -> Result<u8, Stop> {
-    let pair = Pair {
-        one,
-        other,
-        folder,
-        search,
-    };
-    pair.compare(rt)
+/// Looks for a run in which two circuits differ.
+fn compare(rt: &HostRuntime, pair: Pair<'_>, search: Search) -> Result<u8, Stop> {
+    let timing = Timing::begin(rt, search)?;
+    let miter = pair.made(rt)?;
+    let name = pair.name(rt.alloc())?;
+    check_miter(rt, name.as_str(), &miter, pair.folder, timing)
 }
 
 /// Does what is asked for.
@@ -157,7 +146,15 @@ fn done(rt: &HostRuntime, request: Request<'_>) -> Result<u8, Stop> {
             other,
             folder,
             search,
-        } => compare(rt, file, other, folder, search),
+        } => {
+            let pair = Pair {
+                one: file,
+                other,
+                folder,
+                verbose: search.verbose,
+            };
+            compare(rt, pair, search)
+        }
         Request::Cover { file, search } => cover(rt, file, search),
         Request::All {
             file,

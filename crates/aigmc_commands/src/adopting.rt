@@ -1,21 +1,20 @@
-//! The commands `certify` and `to-safety`: what other engines found becomes evidence.
+//! The command `certify`: what other engines found becomes evidence.
 
 use crate::asking::Question;
-use crate::checking::{Timing, is_taken};
+use crate::checking::Timing;
 use crate::counterexample::tell_counterexample;
-use crate::naming::{asked_for, property_in};
 use crate::progress::conclude;
-use crate::shadow::shadow_file;
 use aigmc_files::{
-    DONE, Role, Stop, about, circuit, is_same, keep, make, path_of, read_of, read_text,
+    DONE, Role, Stop, about, asked_for, circuit, is_taken, keep, property_in, read_of, read_text,
 };
-use arguments::{Claim, EngineKind, Search, Shadow};
+use arguments::{Claim, EngineKind, Search};
 use certify::{Certified, certify};
-use cli::{CliError, Layout, Verdict, ready};
+use cli::Verdict;
 use graph::{AigerFile, Budget, Lit, Property, Seq};
 use inputs::is_standard;
-use property_names::{Asked, symbol_of};
+use property_names::symbol_of;
 use std::alloc::Global;
+use transforms::shadow_file;
 
 /// The status of clauses that are no inductive invariant which excludes the property's literal.
 const NO_INVARIANT: u8 = 1;
@@ -44,7 +43,8 @@ fn pla_clauses(
     let Property::Justice(position) = property else {
         return about(Role::Invariant, pla_over(alloc, file, text));
     };
-    let shadow = about(Role::Circuit, shadow_file(alloc, file, position))?;
+    let shadow = shadow_file(alloc, file, position).map_err(Stop::from);
+    let shadow = about(Role::Circuit, shadow)?;
     about(Role::Invariant, pla_over(alloc, &shadow, text))
 }
 
@@ -173,52 +173,4 @@ pub fn certify_clauses(rt: &HostRuntime, asked: Claim<'_>) -> Result<u8, Stop> {
     let file = circuit(rt, asked.file)?;
     let property = property_in(rt, asked.file, &file, word, asked.verbose)?;
     certified_clauses(rt, asked, property, &file)
-}
-
-/// The circuit as the layout takes it: for the binary one in its numbering.
-fn fitting(alloc: Global, file: AigerFile, layout: Layout) -> Result<AigerFile, CliError> {
-    match layout {
-        Layout::Ascii => Ok(file),
-        Layout::Binary => ready(alloc, file).map_err(CliError::from),
-    }
-}
-
-/// Makes the file of that name, in its layout.
-pub fn make_fitting(
-    rt: &HostRuntime,
-    out: &str,
-    file: AigerFile,
-    layout: Layout,
-) -> Result<(), Stop> {
-    let file = fitting(rt.alloc(), file, layout)?;
-    make(rt, out, &file, layout)
-}
-
-/// Whether a justice property may be asked for.
-fn is_of_justice(asked: Asked<'_>) -> bool {
-    matches!(
-        asked,
-        Asked::Property(Property::Justice(_)) | Asked::Symbol(_)
-    )
-}
-
-/// Makes the file of that name with the shadow circuit of a justice property.
-pub fn make_shadow(rt: &HostRuntime, asked: Shadow<'_>) -> Result<u8, Stop> {
-    let word = asked_for(asked.property)?;
-    let out = asked.out;
-    let layout = Layout::of_name(out).ok_or(Stop::BadArgument)?;
-    if !is_of_justice(word) {
-        return Err(Stop::BadArgument);
-    }
-    if is_same(rt, out, path_of(asked.file)) {
-        return Err(Stop::Taken);
-    }
-    let file = circuit(rt, asked.file)?;
-    let property = property_in(rt, asked.file, &file, word, asked.verbose)?;
-    let Property::Justice(position) = property else {
-        return Err(Stop::BadArgument);
-    };
-    let shadow = about(Role::Circuit, shadow_file(rt.alloc(), &file, position))?;
-    make_fitting(rt, out, shadow, layout)?;
-    Ok(DONE)
 }

@@ -1,24 +1,22 @@
 //! The commands `check` and `all`.
 
 use crate::asking::Question;
-use crate::naming::{asked_for, property_in};
 use crate::progress::Shown;
-use crate::relevant::relevant_clauses;
 use crate::showing::Found;
 use crate::timed::{Deadline, Timed};
 use crate::vacuity::is_vacuous;
 use aigmc_files::{
-    DONE, Has, NO_PROPERTY, Role, Stop, VIOLATED, about, at, circuit, expect_folder, finished,
-    is_same, path_of,
+    DONE, Role, Stop, VIOLATED, about, asked_for, at, circuit, expect_folder, fault_of, finished,
+    is_taken, property_in,
 };
 use arguments::Search;
 use cdcl::Cdcl;
 use cli::{CliError, Verdict};
 use graph::{AigerFile, Budget, Lit, Model, Property, Seq};
-use inputs::is_standard;
 use properties::{Evidence, all_properties, evidence_name};
 use std::alloc::Global;
 use std::time::Instant;
+use transforms::relevant_clauses;
 
 /// A search and when its time is over.
 #[derive(Clone, Copy)]
@@ -78,47 +76,6 @@ impl Timing {
     pub fn budget(self, steps: u64) -> Budget {
         Budget::new(if self.deadline.is_over() { 0 } else { steps })
     }
-}
-
-/// The properties that a circuit has.
-fn properties_of(alloc: Global, circuit: &Model) -> Result<Has, Stop> {
-    let properties = all_properties(alloc, circuit)?;
-    let mut has = Has {
-        bad: 0,
-        justice: 0,
-        outputs: 0,
-    };
-    for property in properties {
-        match property {
-            Property::Bad(_) => has.bad = has.bad.saturating_add(1),
-            Property::Justice(_) => has.justice = has.justice.saturating_add(1),
-            Property::Output(_) => has.outputs = has.outputs.saturating_add(1),
-        }
-    }
-    Ok(has)
-}
-
-/// The fault of a search, with the properties that the circuit has where there is no such one.
-pub fn fault_of(alloc: Global, circuit: &Model, property: Property, stop: Stop) -> Stop {
-    let Stop::At { number, place, .. } = stop else {
-        return stop;
-    };
-    if number != NO_PROPERTY {
-        return stop;
-    }
-    match properties_of(alloc, circuit) {
-        Ok(has) => Stop::NoProperty {
-            property,
-            place,
-            has,
-        },
-        Err(stop) => stop,
-    }
-}
-
-/// Whether a file for evidence would be the circuit's, or the one that standard output goes to.
-pub fn is_taken(rt: &HostRuntime, circuit: &str, out: &str) -> bool {
-    is_standard(out) || is_same(rt, out, path_of(circuit)) || is_same(rt, out, "/dev/stdout")
 }
 
 /// What commands ask about: the circuit's file and its name, the folder for the evidence, where one is named, how the
@@ -266,9 +223,9 @@ fn keep_in_and_print(
     }
 }
 
-/// Looks for evidence about the one bad literal of a circuit that was made of those with this name, and prints the verdict.
-/// Evidence goes to the folder of that name first, where one is named.
-pub fn check_made<'a>(
+/// Looks for a run in which two circuits differ, or for a certificate that there is none: about the one bad literal of their miter,
+/// which has this name. Prints the verdict. Evidence goes to the folder of that name first, where one is named.
+pub fn check_miter<'a>(
     rt: &HostRuntime,
     name: &'a str,
     file: &'a AigerFile,

@@ -3,50 +3,18 @@
 use crate::asking::Question;
 use crate::checking::Timing;
 use crate::progress::Why;
-use crate::shadow::count;
-use crate::vacuity::watching;
 use aigmc_files::{DONE, Role, Stop, about, circuit, print_stimulus};
 use arguments::Search;
 use cli::Verdict;
 use engine::Reason;
-use graph::{AigerFile, Latch, Lit, Model, Parts, Property, Seq};
-use std::alloc::Global;
+use graph::{Model, Property, Seq};
 use stimulus::Stimulus;
+use transforms::{bad_behind, no_bad};
 
-/// The literal that is always false.
-const FALSE: Lit = Lit(0);
-/// The literal that is always true.
-const TRUE: Lit = Lit(1);
 /// The status where no run keeps the constraints so long.
 const NO_RUN: u8 = 1;
 /// The status where nothing is known.
 const UNKNOWN: u8 = 2;
-
-/// Adds so many latches, of which each has the value that the one before had a step ago: the last one is set from that
-/// number of steps on. Answers its literal, or the constant true of no latches.
-fn add_chain(parts: &mut Parts, steps: u8) -> Result<Lit, Stop> {
-    let mut last = TRUE;
-    for _ in 0..steps {
-        parts.max_var = parts.max_var.saturating_add(1);
-        let lit = Lit(parts.max_var.saturating_mul(2));
-        parts.latches.push(Latch {
-            lit,
-            next: last,
-            reset: FALSE,
-        })?;
-        last = lit;
-    }
-    Ok(last)
-}
-
-/// The circuit with a bad literal that is set from this number of steps on, and with that alone.
-fn counting(alloc: Global, circuit: &Model, steps: u8) -> Result<AigerFile, Stop> {
-    let mut parts: Parts = circuit.parts().copy(alloc)?;
-    let last = add_chain(&mut parts, steps)?;
-    let counting = watching(alloc, parts, last)?;
-    let file = AigerFile::new(alloc, counting, Seq::new(alloc), None)?;
-    Ok(file)
-}
 
 /// Prints a run of the circuit that counts as one of the circuit itself. Its property is a bad literal that the circuit does
 /// not have: the run is to violate none.
@@ -59,7 +27,7 @@ fn print_run(
     let mut initial = initial.into_vec();
     initial.truncate(circuit.latches().len());
     let run = Stimulus::Violated {
-        property: Property::Bad(count(circuit.bad().len())),
+        property: no_bad(circuit),
         initial: Seq::from_vec(initial),
         inputs,
     };
@@ -83,12 +51,10 @@ fn tell_unknown(rt: &HostRuntime, reason: Reason, is_over: bool) -> u8 {
 pub fn cover(rt: &HostRuntime, name: &str, search: Search) -> Result<u8, Stop> {
     let timing = Timing::begin(rt, search)?;
     let file = circuit(rt, name)?;
-    let counting = about(
-        Role::Circuit,
-        counting(rt.alloc(), file.model(), search.depth),
-    )?;
+    let made = bad_behind(rt.alloc(), file.model(), search.depth).map_err(Stop::from);
+    let made = about(Role::Circuit, made)?;
     let question = Question {
-        file: &counting,
+        file: &made,
         property: Property::Bad(0),
         timing,
     };

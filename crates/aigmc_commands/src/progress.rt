@@ -1,13 +1,13 @@
 //! What standard error says of a search: how far it is, and what it found.
 
+use aigmc_files::is_terminal;
 use cli::Verdict;
 use engine::{Progress, Reason};
 use explanations::Printable;
 use graph::{Budget, Property};
 use property_names::Name;
-use std::os::unix::fs::{FileTypeExt, MetadataExt};
+use std::fmt;
 use std::time::Instant;
-use std::{fmt, fs};
 use stimulus::Stimulus;
 
 /// How long the one line stays as it is.
@@ -26,18 +26,6 @@ pub enum Shown {
     Lines,
     /// By one line, which is written over each half second and is gone at the end.
     OneLine,
-}
-
-/// Whether standard error is a terminal: a character device of a kind that Linux has for terminals
-/// (Documentation/admin-guide/devices.txt: 4 and 5 for consoles and lines, 136 to 143 for those of programs).
-pub fn is_terminal(rt: &HostRuntime) -> bool {
-    match fs::metadata(rt, "/dev/stderr") {
-        Ok(found) => {
-            found.file_type().is_char_device()
-                && matches!((found.rdev() >> 8) & 0xfff, 4 | 5 | 136..=143)
-        }
-        Err(_) => false,
-    }
 }
 
 impl Shown {

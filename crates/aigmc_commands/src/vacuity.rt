@@ -6,32 +6,13 @@ use base::{boxed, push};
 use cdcl::Cdcl;
 use cli::{CliError, Verdict, decide};
 use engine::Engine;
-use graph::{Budget, Lit, Model, Parts, Property, ReadError, Seq};
+use graph::{Budget, Model, Property};
 use ic3::Ic3;
 use std::alloc::Global;
+use transforms::always_bad;
 
 /// How many steps of a budget of its own the question may cost.
 const STEPS: u64 = 100_000_000;
-
-/// The literal that is always true.
-const TRUE: Lit = Lit(1);
-
-/// The circuit of these parts with this one bad literal, and no outputs, justice or fairness.
-pub fn watching(alloc: Global, mut parts: Parts, watched: Lit) -> Result<Model, ReadError> {
-    let mut bad = Seq::new(alloc);
-    bad.push(watched)?;
-    parts.bad = bad;
-    parts.outputs = Seq::new(alloc);
-    parts.justice = Seq::new(alloc);
-    parts.fairness = Seq::new(alloc);
-    Model::from_parts(alloc, parts)
-}
-
-/// The circuit with the constant true as its one bad literal: it is violated by each run that keeps the constraints.
-fn covered(alloc: Global, circuit: &Model) -> Result<Model, ReadError> {
-    let parts = circuit.parts().copy(alloc)?;
-    watching(alloc, parts, TRUE)
-}
 
 /// Whether a certificate that is found in time shows that no run keeps the circuit's constraints: then every property holds,
 /// whatever the circuit does.
@@ -39,7 +20,7 @@ pub fn is_vacuous(alloc: Global, circuit: &Model, deadline: Deadline) -> Result<
     if circuit.constraints().is_empty() {
         return Ok(false);
     }
-    let covered = covered(alloc, circuit)?;
+    let covered = always_bad(alloc, circuit)?;
     let mut engines: Vec<Box<dyn Engine>> = Vec::new(alloc);
     let solver = Timed::new(Cdcl::new(alloc), deadline);
     let engine: Box<dyn Engine> = boxed(alloc, Ic3::new(solver))?;

@@ -1,6 +1,6 @@
 //! The files that commands read and make.
 
-use crate::making::Making;
+use crate::making::{Making, is_same};
 use crate::stop::{DONE, Role, Stop, about, at, finished, read_of};
 use base::buffered;
 use cli::{CliError, Layout, Verdict, load, put_certificate, put_file, put_table, show};
@@ -29,6 +29,11 @@ pub fn path_of(name: &str) -> &str {
     } else {
         name
     }
+}
+
+/// Whether a file for evidence would be the circuit's, or the one that standard output goes to.
+pub fn is_taken(rt: &HostRuntime, circuit: &str, out: &str) -> bool {
+    is_standard(out) || is_same(rt, out, path_of(circuit)) || is_same(rt, out, "/dev/stdout")
 }
 
 /// The text of the file of this name, read whole: a stimulus, or clauses.

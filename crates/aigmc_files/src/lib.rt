@@ -6,15 +6,21 @@
 
 mod files;
 mod making;
+mod missing;
+mod naming;
 mod stop;
+mod terminal;
 
 pub use files::{
-    VIOLATED, circuit, circuit_of, keep, keep_and_print, make, make_bytes, make_stimulus,
+    VIOLATED, circuit, circuit_of, is_taken, keep, keep_and_print, make, make_bytes, make_stimulus,
     make_waveform, path_of, print_alone, print_stimulus, print_table, print_trace, read_text,
     status_of, stimulus_of,
 };
 pub use making::{expect_folder, is_same};
+pub use missing::fault_of;
+pub use naming::{asked_for, property_in};
 pub use stop::{
     DEVICE, DONE, FAULT, Has, NO_HEADER, NO_PROPERTY, Role, Stop, about, at, finished, read_of,
     tell,
 };
+pub use terminal::is_terminal;

@@ -9,6 +9,7 @@ use invariant::InvariantError;
 use live_safe::LiveError;
 use std::io;
 use std::process::ExitCode;
+use transforms::TransformError;
 use witness::WitnessError;
 
 /// The status of a command that was done.
@@ -135,6 +136,15 @@ impl From<CertifyError> for Stop {
 
 impl From<LiveError> for Stop {
     fn from(e: LiveError) -> Stop {
+        Stop::Fault {
+            number: e.number(),
+            place: e.place(),
+        }
+    }
+}
+
+impl From<TransformError> for Stop {
+    fn from(e: TransformError) -> Stop {
         Stop::Fault {
             number: e.number(),
             place: e.place(),

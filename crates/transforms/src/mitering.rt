@@ -1,8 +1,8 @@
 //! The miter of two circuits: a circuit with one bad literal, which is set where they differ.
 
+use crate::error::TransformError;
 use crate::matching::partners;
-use crate::shadow::{add, count};
-use aigmc_files::Stop;
+use crate::symbols::{add, count};
 use base::{Refused, copied, extend, filled, filled_like};
 use graph::{AigerFile, Gate, Latch, Lit, Model, Parts, Seq, Symbol, SymbolKind};
 use std::alloc::Global;
@@ -278,10 +278,10 @@ fn joined<'a>(
 }
 
 /// What a latch is called in the miter: behind the letter its name, or `lo` and its position where it has none.
-fn called(alloc: Global, letter: &str, name: &[u8], position: u32) -> Result<Vec<u8>, Stop> {
+fn called(alloc: Global, letter: &str, name: &[u8], position: u32) -> Result<Vec<u8>, TransformError> {
     if name.is_empty() {
         let Ok(text) = format!(in alloc; "{letter}lo{position}") else {
-            return Err(Stop::Memory);
+            return Err(TransformError::Name);
         };
         let called = copied(alloc, text.as_bytes())?;
         return Ok(called);
@@ -311,7 +311,7 @@ fn add_latches(
     file: &AigerFile,
     letter: &str,
     first: u32,
-) -> Result<(), Stop> {
+) -> Result<(), TransformError> {
     let names = latch_names(alloc, file)?;
     let mut position = 0u32;
     for name in names.as_slice() {
@@ -324,7 +324,7 @@ fn add_latches(
 }
 
 /// The names in the miter: those of the first circuit's inputs, of all latches and of the bad literal.
-fn names(alloc: Global, one: &AigerFile, other: &AigerFile) -> Result<Vec<Symbol>, Stop> {
+fn names(alloc: Global, one: &AigerFile, other: &AigerFile) -> Result<Vec<Symbol>, TransformError> {
     let mut symbols = Vec::new(alloc);
     for symbol in one.symbols() {
         if symbol.kind == SymbolKind::Input {
@@ -345,7 +345,7 @@ pub fn miter_of<'a>(
     alloc: Global,
     one: &'a AigerFile,
     other: &'a AigerFile,
-) -> Result<AigerFile, Stop> {
+) -> Result<AigerFile, TransformError> {
     let matching = Matching::of(alloc, one, other)?;
     let parts = joined(alloc, one.model(), other.model(), &matching)?;
     let miter = Model::from_parts(alloc, parts)?;

@@ -1,7 +1,7 @@
 //! Properties by their names in the circuit's symbol table.
 
-use crate::progress::is_terminal;
-use aigmc_files::Stop;
+use crate::stop::Stop;
+use crate::terminal::is_terminal;
 use explanations::Printable;
 use graph::{AigerFile, Property};
 use property_names::{Asked, Listing, asked_by, property_called};

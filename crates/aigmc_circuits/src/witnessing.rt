@@ -1,9 +1,8 @@
 //! The command `witness`: a counterexample of another tool becomes a strict stimulus.
 
-use crate::checking::is_taken;
-use crate::naming::{asked_for, property_in};
 use aigmc_files::{
-    DONE, Role, Stop, about, circuit, finished, make_bytes, make_stimulus, read_of, read_text,
+    DONE, Role, Stop, about, asked_for, circuit, finished, is_taken, make_bytes, make_stimulus,
+    property_in, read_of, read_text,
 };
 use arguments::Counterexample;
 use graph::{AigerFile, Model, Property};

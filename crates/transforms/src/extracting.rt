@@ -1,16 +1,11 @@
-//! The command `extract`: the circuit of one property alone.
+//! The circuit of one property alone.
 
-use crate::adopting::make_fitting;
-use crate::checking::fault_of;
-use crate::naming::{asked_for, property_in};
-use crate::relevant::Cone;
-use crate::shadow::add;
-use aigmc_files::{DONE, NO_PROPERTY, Role, Stop, about, circuit, is_same, path_of};
-use arguments::Extraction;
-use base::filled_like;
-use cli::Layout;
+use crate::cone::Cone;
+use crate::error::TransformError;
+use crate::symbols::add;
+use base::{Refused, filled_like};
 use graph::{AigerFile, Gate, Latch, Lit, Model, Parts, Property, Seq, Symbol, SymbolKind};
-use property_names::{Asked, symbol_of};
+use property_names::symbol_of;
 use std::alloc::Global;
 
 /// The literal that a property watches, where the circuit has that bad literal, or that output as one.
@@ -25,7 +20,7 @@ fn watched(circuit: &Model, property: Property) -> Option<Lit> {
 }
 
 /// The gates of the cone.
-fn gates_in(alloc: Global, cone: &Cone, gates: &[Gate]) -> Result<Seq<Gate>, Stop> {
+fn gates_in(alloc: Global, cone: &Cone, gates: &[Gate]) -> Result<Seq<Gate>, Refused> {
     let mut kept = Seq::new(alloc);
     for gate in gates {
         if cone.has_all(&[gate.lhs]) {
@@ -36,7 +31,7 @@ fn gates_in(alloc: Global, cone: &Cone, gates: &[Gate]) -> Result<Seq<Gate>, Sto
 }
 
 /// The latches, of which each that is not of the cone keeps its value.
-fn latches_in(alloc: Global, cone: &Cone, latches: &[Latch]) -> Result<Seq<Latch>, Stop> {
+fn latches_in(alloc: Global, cone: &Cone, latches: &[Latch]) -> Result<Seq<Latch>, Refused> {
     let mut kept = Seq::new(alloc);
     for latch in latches {
         let mut latch = *latch;
@@ -55,7 +50,7 @@ fn part_of(
     circuit: &Model,
     property: Property,
     watched: Lit,
-) -> Result<Model, Stop> {
+) -> Result<Model, TransformError> {
     let mut cone = Cone::new(alloc, circuit)?;
     cone.mark(watched.variable())?;
     cone.mark_all(circuit.constraints())?;
@@ -89,12 +84,12 @@ fn add_unnamed(
     kind: SymbolKind,
     letters: &str,
     named: &[bool],
-) -> Result<(), Stop> {
+) -> Result<(), TransformError> {
     let mut position = 0u32;
     for is_named in named {
         if !*is_named {
             let Ok(name) = format!(in alloc; "{letters}{position}") else {
-                return Err(Stop::Memory);
+                return Err(TransformError::Name);
             };
             add(alloc, symbols, kind, position, name.as_bytes())?;
         }
@@ -104,7 +99,7 @@ fn add_unnamed(
 }
 
 /// The names in the circuit of the property: each input and latch has one.
-fn names(alloc: Global, file: &AigerFile, property: Property) -> Result<Vec<Symbol>, Stop> {
+fn names(alloc: Global, file: &AigerFile, property: Property) -> Result<Vec<Symbol>, TransformError> {
     let mut symbols = Vec::new(alloc);
     let mut inputs = filled_like(alloc, false, file.model().inputs())?;
     let mut latches = filled_like(alloc, false, file.model().latches())?;
@@ -142,41 +137,19 @@ fn names(alloc: Global, file: &AigerFile, property: Property) -> Result<Vec<Symb
     Ok(symbols)
 }
 
-/// The file of the property's circuit.
-fn extracted(alloc: Global, file: &AigerFile, property: Property) -> Result<AigerFile, Stop> {
+/// The file of the circuit of a property, which is no justice property: all inputs and latches, each with a name, the constraints, and
+/// the gates on which they and the property rest. A latch on which they don't rest keeps its value.
+pub fn extracted(
+    alloc: Global,
+    file: &AigerFile,
+    property: Property,
+) -> Result<AigerFile, TransformError> {
     let Some(watched) = watched(file.model(), property) else {
         let (Property::Bad(n) | Property::Justice(n) | Property::Output(n)) = property;
-        let stop = Stop::At {
-            role: Role::Circuit,
-            number: NO_PROPERTY,
-            place: u64::from(n),
-            word: "",
-        };
-        return Err(fault_of(alloc, file.model(), property, stop));
+        return Err(TransformError::NoProperty(n));
     };
     let part = part_of(alloc, file.model(), property, watched)?;
     let symbols = Seq::from_vec(names(alloc, file, property)?);
     let extracted = AigerFile::new(alloc, part, symbols, None)?;
     Ok(extracted)
-}
-
-/// Makes the file of that name with the circuit of a property, which is no justice property.
-pub fn extract(rt: &HostRuntime, asked: Extraction<'_>) -> Result<u8, Stop> {
-    let word = asked_for(asked.property)?;
-    let out = asked.out;
-    let layout = Layout::of_name(out).ok_or(Stop::BadArgument)?;
-    if matches!(word, Asked::Property(Property::Justice(_))) {
-        return Err(Stop::BadArgument);
-    }
-    if is_same(rt, out, path_of(asked.file)) {
-        return Err(Stop::Taken);
-    }
-    let file = circuit(rt, asked.file)?;
-    let property = property_in(rt, asked.file, &file, word, asked.verbose)?;
-    if matches!(property, Property::Justice(_)) {
-        return Err(Stop::BadArgument);
-    }
-    let part = about(Role::Circuit, extracted(rt.alloc(), &file, property))?;
-    make_fitting(rt, out, part, layout)?;
-    Ok(DONE)
 }

@@ -1,7 +1,8 @@
 //! The shadow circuit of a justice property as a file, with names.
 
-use aigmc_files::Stop;
-use base::{Refused, extend, push};
+use crate::error::TransformError;
+use crate::symbols::{add, count};
+use base::{Refused, extend};
 use graph::{AigerFile, Seq, Symbol, SymbolKind};
 use live_safe::to_safety;
 use std::alloc::Global;
@@ -12,25 +13,6 @@ const SAVE: &[u8] = b"save";
 const SAVED: &[u8] = b"saved";
 /// What stands before a latch's name in that of its copy.
 const COPY: &[u8] = b"copy.";
-
-/// Adds a name.
-pub fn add(
-    alloc: Global,
-    symbols: &mut Vec<Symbol>,
-    kind: SymbolKind,
-    position: u32,
-    name: &[u8],
-) -> Result<(), Refused> {
-    let name = Seq::from_slice(alloc, name)?;
-    push(
-        symbols,
-        Symbol {
-            kind,
-            position,
-            name,
-        },
-    )
-}
 
 /// Adds the name of a latch's copy.
 fn add_copy(
@@ -71,15 +53,6 @@ fn add_old(
     }
 }
 
-/// How many there are, which the limits of a circuit keep at 4,194,303 at most.
-pub fn count(length: usize) -> u32 {
-    if length < 4_194_303 {
-        length as u32
-    } else {
-        4_194_303
-    }
-}
-
 /// The names in the shadow circuit: those of the file, those of the copies, and the two of what is new.
 fn names(alloc: Global, file: &AigerFile, justice: u32) -> Result<Vec<Symbol>, Refused> {
     let latches = count(file.model().latches().len());
@@ -96,7 +69,7 @@ fn names(alloc: Global, file: &AigerFile, justice: u32) -> Result<Vec<Symbol>, R
 /// The file of the shadow circuit of the justice property at the position: its inputs, latches and constraints have the
 /// names that they have in the circuit's file, the copy of a latch is called `copy.` and the latch's name, the new input
 /// `save`, the latch that it sets `saved`, and the bad literal as the justice property.
-pub fn shadow_file(alloc: Global, file: &AigerFile, position: u32) -> Result<AigerFile, Stop> {
+pub fn shadow_file(alloc: Global, file: &AigerFile, position: u32) -> Result<AigerFile, TransformError> {
     let model = to_safety(alloc, file.model(), position)?;
     let symbols = Seq::from_vec(names(alloc, file, position)?);
     let shadow = AigerFile::new(alloc, model, symbols, None)?;

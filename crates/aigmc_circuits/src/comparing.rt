@@ -1,14 +1,12 @@
-//! The command `equal`: whether two circuits have the same outputs in all runs.
+//! The miter that the command `equal` asks about: it has a run to its bad literal where two circuits differ.
 
-use crate::checking::{Timing, check_made, is_taken};
-use crate::mitering::miter_of;
-use crate::progress::is_terminal;
-use aigmc_files::{Role, Stop, at, circuit, circuit_of, expect_folder, make};
-use arguments::Search;
+use aigmc_files::{Role, Stop, at, circuit, circuit_of, expect_folder, is_taken, is_terminal, make};
 use cli::Layout;
 use graph::{AigerFile, Model, Property};
 use inputs::is_standard;
 use properties::{Evidence, evidence_name};
+use std::alloc::Global;
+use transforms::miter_of;
 
 /// Two circuits by the names of their files, and the folder for the miter and the evidence, where one is named.
 #[derive(Clone, Copy)]
@@ -19,14 +17,14 @@ pub struct Pair<'a> {
     pub other: &'a str,
     /// the folder
     pub folder: Option<&'a str>,
-    /// how the search is to go
-    pub search: Search,
+    /// whether a fault says more than its line, where standard error is no terminal too
+    pub verbose: bool,
 }
 
 impl Pair<'_> {
     /// Whether a fault says more than its line.
     fn is_told(self, rt: &HostRuntime) -> bool {
-        self.search.verbose || is_terminal(rt)
+        self.verbose || is_terminal(rt)
     }
 
     /// Refuses two circuits of which one has more of these than the other.
@@ -72,7 +70,8 @@ impl Pair<'_> {
         let one = circuit(rt, self.one)?;
         let other = circuit_of(rt, self.other, Role::Other)?;
         self.expect_comparable(rt, one.model(), other.model())?;
-        miter_of(rt.alloc(), &one, &other)
+        let miter = miter_of(rt.alloc(), &one, &other)?;
+        Ok(miter)
     }
 
     /// Refuses a file to make that is read, or that standard output goes to.
@@ -108,8 +107,11 @@ impl Pair<'_> {
         Ok(out)
     }
 
-    /// The miter, which is in the folder, where one is named.
-    fn made(self, rt: &HostRuntime) -> Result<AigerFile, Stop> {
+    /// The miter of the two circuits. It is in the folder, where one is named.
+    pub fn made(self, rt: &HostRuntime) -> Result<AigerFile, Stop> {
+        if is_standard(self.one) && is_standard(self.other) {
+            return Err(Stop::BadArgument);
+        }
         let Some(folder) = self.folder else {
             return self.miter(rt);
         };
@@ -119,17 +121,11 @@ impl Pair<'_> {
         Ok(miter)
     }
 
-    /// Looks for a run in which the circuits differ, or for a certificate that there is none, and prints the verdict about their
-    /// miter. That and the evidence go to the folder first, where one is named.
-    pub fn compare(self, rt: &HostRuntime) -> Result<u8, Stop> {
-        let timing = Timing::begin(rt, self.search)?;
-        if is_standard(self.one) && is_standard(self.other) {
-            return Err(Stop::BadArgument);
+    /// What the miter is called: the names of the two files.
+    pub fn name(self, alloc: Global) -> Result<String, Stop> {
+        match format!(in alloc; "{} {}", self.one, self.other) {
+            Ok(name) => Ok(name),
+            Err(_) => Err(Stop::Memory),
         }
-        let miter = self.made(rt)?;
-        let Ok(name) = format!(in rt.alloc(); "{} {}", self.one, self.other) else {
-            return Err(Stop::Memory);
-        };
-        check_made(rt, name.as_str(), &miter, self.folder, timing)
     }
 }

@@ -1,0 +1,63 @@
+//! Why a circuit was not made.
+
+use base::Refused;
+use graph::ReadError;
+use live_safe::LiveError;
+use thiserror::Error;
+
+/// Why a circuit was not made. Each refusal has a number and a place.
+#[derive(Clone, Copy, Debug, PartialEq, Eq, Error)]
+pub enum TransformError {
+    /// Its position.
+    #[error("there is no property {0}")]
+    NoProperty(u32),
+    #[error("{0}")]
+    Circuit(ReadError),
+    #[error("{0}")]
+    Shadow(LiveError),
+    #[error("{0}")]
+    OutOfMemory(Refused),
+    /// There is no memory for a name.
+    #[error("out of memory")]
+    Name,
+}
+
+impl From<ReadError> for TransformError {
+    fn from(error: ReadError) -> TransformError {
+        TransformError::Circuit(error)
+    }
+}
+
+impl From<LiveError> for TransformError {
+    fn from(error: LiveError) -> TransformError {
+        TransformError::Shadow(error)
+    }
+}
+
+impl From<Refused> for TransformError {
+    fn from(refused: Refused) -> TransformError {
+        TransformError::OutOfMemory(refused)
+    }
+}
+
+impl TransformError {
+    /// The refusal's number.
+    pub fn number(&self) -> u8 {
+        match self {
+            TransformError::NoProperty(_) => 30,
+            TransformError::Circuit(error) => error.number(),
+            TransformError::Shadow(error) => error.number(),
+            TransformError::OutOfMemory(_) | TransformError::Name => 20,
+        }
+    }
+
+    /// The refusal's place: the property's position, that of a circuit's fault, or 0.
+    pub fn place(&self) -> u64 {
+        match self {
+            TransformError::NoProperty(position) => u64::from(*position),
+            TransformError::Circuit(error) => error.place(),
+            TransformError::Shadow(error) => error.place(),
+            TransformError::OutOfMemory(_) | TransformError::Name => 0,
+        }
+    }
+}

@@ -1,0 +1,24 @@
+//! Circuits that are made of circuits.
+//!
+//! - `extracted` is the circuit of one property, `shadow_file` that of the shadow circuit with names, and `miter_of` the miter of two.
+//! - `always_bad` is violated by each run that keeps the constraints, and `bad_behind` by each of so many steps. `no_bad`
+//!   is a property that a circuit does not have.
+//! - `relevant_clauses` are those over latches on which a property rests.
+#![tactic(auto)]
+
+mod cone;
+mod covering;
+mod error;
+mod extracting;
+mod matching;
+mod mitering;
+mod relevant;
+mod shadow;
+mod symbols;
+
+pub use covering::{always_bad, bad_behind, no_bad};
+pub use error::TransformError;
+pub use extracting::extracted;
+pub use mitering::miter_of;
+pub use relevant::relevant_clauses;
+pub use shadow::shadow_file;
