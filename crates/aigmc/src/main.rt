@@ -25,7 +25,7 @@
 //! steps, then register correspondence, then the two again; or `random`, random simulation from `--seed`.
 //! `--budget` is how many steps the search may cost. With `--cert OUT` the certificate of a property that
 //! holds is written to OUT before anything is printed; OUT may name neither the circuit's file nor the file
-//! that standard output goes to. What is said is `cli::decide`'s. `--timeout` ends bounded search and IC3 after so many seconds,
+//! that standard output goes to. What is said is `cli::decide`'s. `--timeout` ends bounded search, IC3 and correspondence after so many seconds,
 //! of `all` for all properties together: what is left of the budget is spent then. `--quiet` leaves out a run, and `--json` prints a line
 //! of JSON for each property instead. P may be a name of
 //! the symbol table here and in all other commands, where exactly one property has it.

@@ -93,7 +93,7 @@ fn strengthened(
         property,
         timing,
     };
-    let verdict = question.ask(rt, clauses)?;
+    let (verdict, _) = question.ask(rt, clauses)?;
     if asked.verbose {
         let symbol = symbol_of(file, property);
         conclude(rt, property, &verdict, symbol, timing.deadline.is_over());

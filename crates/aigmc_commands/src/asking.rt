@@ -111,43 +111,42 @@ impl Question<'_> {
         Ok((verdict, budget.left()))
     }
 
-    /// What bounded search and IC3 say with few steps, else register correspondence, else the two with what is left.
-    fn staged(self, rt: &HostRuntime, candidates: Seq<Seq<Lit>>) -> Result<Verdict, Stop> {
+    /// What bounded search and IC3 say with few steps, else register correspondence, else the two with what is left. Answers how
+    /// many steps are left too.
+    fn staged(self, rt: &HostRuntime, candidates: Seq<Seq<Lit>>) -> Result<(Verdict, u64), Stop> {
         let (all, depth) = (self.timing.search.budget, self.timing.search.depth);
         let few = (all / FIRST_PARTS).min(FIRST_STEPS);
         let first = copied(rt.alloc(), candidates.as_slice())?;
         let (verdict, left) = self.searched(rt, first, depth, few)?;
-        if !matches!(verdict, Verdict::Unknown(_)) {
-            return Ok(verdict);
-        }
         let rest = all.saturating_sub(few.saturating_sub(left));
+        if !matches!(verdict, Verdict::Unknown(_)) {
+            return Ok((verdict, rest));
+        }
         let share = rest / CORRESPONDENCE_PARTS;
         let (verdict, left) = self.corresponded(rt.alloc(), 0, share)?;
-        if !matches!(verdict, Verdict::Unknown(_)) {
-            return Ok(verdict);
-        }
         let rest = rest.saturating_sub(share.saturating_sub(left));
-        let (verdict, _) = self.searched(rt, candidates, depth, rest)?;
-        Ok(verdict)
+        if !matches!(verdict, Verdict::Unknown(_)) {
+            return Ok((verdict, rest));
+        }
+        self.searched(rt, candidates, depth, rest)
     }
 
     /// Asks the engines for evidence about the property. IC3 tries these clauses first. Where it is asked for, or standard
-    /// error is a terminal, that says how far they are.
-    pub fn ask(self, rt: &HostRuntime, candidates: Seq<Seq<Lit>>) -> Result<Verdict, Stop> {
+    /// error is a terminal, that says how far they are. Answers how many steps of the budget are spent too.
+    pub fn ask(
+        self,
+        rt: &HostRuntime,
+        candidates: Seq<Seq<Lit>>,
+    ) -> Result<(Verdict, u64), Stop> {
         let search = self.timing.search;
         let (budget, depth) = (search.budget, search.depth);
-        let verdict = match search.engine {
+        let answer = match search.engine {
             EngineKind::All => self.staged(rt, candidates),
-            EngineKind::Corresponding => {
-                let (verdict, _) = self.corresponded(rt.alloc(), depth, budget)?;
-                Ok(verdict)
-            }
-            _ => {
-                let (verdict, _) = self.searched(rt, candidates, depth, budget)?;
-                Ok(verdict)
-            }
+            EngineKind::Corresponding => self.corresponded(rt.alloc(), depth, budget),
+            _ => self.searched(rt, candidates, depth, budget),
         };
         self.timing.shown(rt).wipe(rt);
-        verdict
+        let (verdict, left) = answer?;
+        Ok((verdict, budget.saturating_sub(left)))
     }
 }

@@ -78,6 +78,15 @@ impl Timing {
     }
 }
 
+/// How long a search was.
+#[derive(Clone, Copy)]
+struct Spent {
+    /// when it began, where that is to be said
+    begun: Option<Instant>,
+    /// how many steps of its budget are spent
+    steps: u64,
+}
+
 /// What commands ask about: the circuit's file and its name, the folder for the evidence, where one is named, how the
 /// search is to go, and whether it is shown that no run keeps the constraints.
 #[derive(Clone, Copy)]
@@ -90,13 +99,13 @@ struct Whole<'a> {
 }
 
 impl<'a> Whole<'a> {
-    /// What was found of a property by the search that began then.
+    /// What was found of a property by a search of this length.
     fn found(
         self,
         property: Property,
         verdict: &'a Verdict,
         evidence: Option<&'a str>,
-        begun: Option<Instant>,
+        spent: Spent,
     ) -> Found<'a> {
         Found {
             name: self.name,
@@ -105,7 +114,8 @@ impl<'a> Whole<'a> {
             verdict,
             evidence,
             search: self.timing.search,
-            begun,
+            begun: spent.begun,
+            steps: spent.steps,
             is_over: self.timing.deadline.is_over(),
             is_vacuous: self.is_vacuous,
         }
@@ -120,7 +130,7 @@ fn certificate_in<'a>(verdict: &Verdict, certificate: Option<&'a str>) -> Option
     }
 }
 
-/// Prints what was found by the search that began then. Its evidence goes to the file of that name first, where one is
+/// Prints what was found by a search of this length. Its evidence goes to the file of that name first, where one is
 /// named.
 fn show<'a>(
     rt: &HostRuntime,
@@ -128,9 +138,9 @@ fn show<'a>(
     property: Property,
     verdict: &'a Verdict,
     evidence: Option<&'a str>,
-    begun: Option<Instant>,
+    spent: Spent,
 ) -> Result<u8, Stop> {
-    whole.found(property, verdict, evidence, begun).show(rt)
+    whole.found(property, verdict, evidence, spent).show(rt)
 }
 
 /// Looks for evidence about the property of the circuit, and prints the verdict. A certificate goes to the
@@ -158,9 +168,10 @@ fn check_in<'a>(
         timing,
     };
     match about(Role::Circuit, question.ask(rt, candidates)) {
-        Ok(verdict) => {
+        Ok((verdict, steps)) => {
+            let spent = Spent { begun, steps };
             let evidence = certificate_in(&verdict, certificate);
-            show(rt, whole, property, &verdict, evidence, begun)
+            show(rt, whole, property, &verdict, evidence, spent)
         }
         Err(stop) => Err(fault_of(rt.alloc(), file.model(), property, stop)),
     }
@@ -215,11 +226,11 @@ fn keep_in_and_print(
     whole: Whole<'_>,
     property: Property,
     verdict: &Verdict,
-    begun: Option<Instant>,
+    spent: Spent,
 ) -> Result<u8, Stop> {
     match evidence_in(rt, whole, property, verdict)? {
-        Some(out) => show(rt, whole, property, verdict, Some(out.as_str()), begun),
-        None => show(rt, whole, property, verdict, None, begun),
+        Some(out) => show(rt, whole, property, verdict, Some(out.as_str()), spent),
+        None => show(rt, whole, property, verdict, None, spent),
     }
 }
 
@@ -246,8 +257,9 @@ pub fn check_miter<'a>(
         property,
         timing,
     };
-    let verdict = question.ask(rt, Seq::new(rt.alloc()))?;
-    keep_in_and_print(rt, whole, property, &verdict, begun)
+    let (verdict, steps) = question.ask(rt, Seq::new(rt.alloc()))?;
+    let spent = Spent { begun, steps };
+    keep_in_and_print(rt, whole, property, &verdict, spent)
 }
 
 /// The status of two verdicts: that of a violation, else that of an unknown.
@@ -285,8 +297,9 @@ fn check_next(
         property,
         timing: whole.timing,
     };
-    let verdict = about(Role::Circuit, question.ask(rt, candidates))?;
-    let status = keep_in_and_print(rt, whole, property, &verdict, begun)?;
+    let (verdict, steps) = about(Role::Circuit, question.ask(rt, candidates))?;
+    let spent = Spent { begun, steps };
+    let status = keep_in_and_print(rt, whole, property, &verdict, spent)?;
     if let Some(found) = clauses_of(property, verdict) {
         *clauses = found;
     }

@@ -58,7 +58,7 @@ pub fn cover(rt: &HostRuntime, name: &str, search: Search) -> Result<u8, Stop> {
         property: Property::Bad(0),
         timing,
     };
-    let verdict = about(Role::Circuit, question.ask(rt, Seq::new(rt.alloc())))?;
+    let (verdict, _) = about(Role::Circuit, question.ask(rt, Seq::new(rt.alloc())))?;
     match verdict {
         Verdict::Unsafe(
             Stimulus::Violated {

@@ -23,6 +23,8 @@ pub struct Found<'a> {
     pub evidence: Option<&'a str>,
     /// how the search was to go
     pub search: Search,
+    /// how many steps of its budget are spent
+    pub steps: u64,
     /// when it began, where the clock said so
     pub begun: Option<Instant>,
     /// whether its time is over
@@ -60,16 +62,20 @@ impl Found<'_> {
             evidence: self.evidence,
             time: self.time(rt),
         };
-        let is_vacuous = self.is_vacuous;
+        let (steps, is_vacuous) = (self.steps, self.is_vacuous);
         let printed = match self.verdict {
             Verdict::Unknown(reason) => {
                 let why = Why {
                     reason: *reason,
                     is_over: self.is_over,
                 };
-                println!(rt; "{line},\"reason\":\"{why}\",\"vacuous\":{is_vacuous}}}")
+                println!(rt;
+                    "{line},\"steps\":{steps},\"reason\":\"{why}\",\"vacuous\":{is_vacuous}}}"
+                )
             }
-            _ => println!(rt; "{line},\"reason\":null,\"vacuous\":{is_vacuous}}}"),
+            _ => println!(rt;
+                "{line},\"steps\":{steps},\"reason\":null,\"vacuous\":{is_vacuous}}}"
+            ),
         };
         finished(printed)?;
         Ok(status_of(self.verdict))

@@ -91,7 +91,7 @@ const REASONS: Argument = Argument {
 /// How long a search may take.
 const TIMEOUT: Argument = Argument {
     name: "timeout",
-    help: "How many seconds bounded search and IC3 may take in all",
+    help: "How many seconds bounded search, IC3 and correspondence may take in all",
     value: "SECONDS",
     takes: Takes::Number,
     ..OPTION
