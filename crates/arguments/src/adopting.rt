@@ -1,6 +1,6 @@
 //! The commands for other engines and what they found, and what they ask for.
 
-use crate::words::word;
+use crate::words::{STEPS, word};
 use clap::ArgMatches;
 
 /// Clauses that are said to be an inductive invariant, and the certificate to make of them.
@@ -67,7 +67,7 @@ pub fn asked_certify<'a>(words: &ArgMatches<'a>) -> Claim<'a> {
         property: word(words, "property"),
         invariant: word(words, "invariant"),
         certificate: word(words, "cert"),
-        budget: words.get_one::<u64>("budget").unwrap_or(10_000_000),
+        budget: words.get_one::<u64>("budget").unwrap_or(STEPS),
         strengthen: words.get_flag("strengthen"),
         timeout: words.get_one::<u64>("timeout"),
         verbose: words.get_flag("verbose"),

@@ -39,7 +39,7 @@ const BUDGET: Argument = Argument {
     name: "budget",
     help: "How many steps the search for a property may cost",
     value: "N",
-    default: "10000000",
+    default: "200000000",
     takes: Takes::Number,
     ..OPTION
 };

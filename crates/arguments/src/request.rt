@@ -4,7 +4,7 @@ use crate::adopting::{Claim, Extraction, Shadow, asked_certify, asked_extract, a
 use crate::grammar::command;
 use crate::layouts::{AskedLayout, asked_layout};
 use crate::witnessing::{Counterexample, asked_witness};
-use crate::words::word;
+use crate::words::{STEPS, word};
 use crate::wrong::Wrong;
 use clap::ArgMatches;
 use std::alloc::Global;
@@ -154,7 +154,7 @@ fn engine_kind(words: &ArgMatches<'_>) -> EngineKind {
 /// What the words say of the search.
 fn asked_search(words: &ArgMatches<'_>) -> Search {
     let depth = words.get_one::<u8>("depth").unwrap_or(20);
-    let budget = words.get_one::<u64>("budget").unwrap_or(10_000_000);
+    let budget = words.get_one::<u64>("budget").unwrap_or(STEPS);
     let seed = words.get_one::<u64>("seed").unwrap_or(0);
     Search {
         engine: engine_kind(words),
@@ -202,7 +202,7 @@ fn asked_cover<'a>(words: &ArgMatches<'a>) -> Request<'a> {
     let search = Search {
         engine: EngineKind::Bounded,
         depth: words.get_one::<u8>("depth").unwrap_or(20),
-        budget: words.get_one::<u64>("budget").unwrap_or(10_000_000),
+        budget: words.get_one::<u64>("budget").unwrap_or(STEPS),
         seed: 0,
         timeout: words.get_one::<u64>("timeout"),
         quiet: false,

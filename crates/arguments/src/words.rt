@@ -19,6 +19,9 @@ pub enum Takes {
     Engine,
 }
 
+/// How many steps a search, or the proofs of a certificate, may cost where no number is asked for.
+pub const STEPS: u64 = 200_000_000;
+
 /// The engines that may be asked for.
 static ENGINES: [&str; 5] = ["all", "bmc", "ic3", "corr", "random"];
 
