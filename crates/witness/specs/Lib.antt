@@ -2,3 +2,4 @@ pub mod Completions
 pub mod Strict
 pub mod Cleared
 pub mod Numbers
+pub mod Texts

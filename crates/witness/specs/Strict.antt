@@ -1,7 +1,8 @@
 -- The strict stimulus of a loose text.
-use Rattle.std.specs.Prelude.{◌⊎◌, Bool, List, ◌∷◌, Option, Contains}
+use Rattle.std.specs.Prelude.{◌≡◌, ◌⊎◌, Bool, List, [], ◌∷◌, Option, None, Some, All, Contains}
 use Rattle.graph.specs.declared.circuit.Property.{Property}
 use Rattle.graph.specs.declared.parts.Parts.{Parts}
+use Rattle.graph.specs.Properties.{HasProperty}
 use Rattle.stimulus.specs.declared.value.Stimulus.{Stimulus}
 use Rattle.stimulus.specs.declared.value.Stimulus.TheVariants.{Holds, Violated, Unknown}
 use Rattle.stimulus.specs.Texts.{property_of}
@@ -19,3 +20,14 @@ pub record IsStrict (m : Parts) (rows : List (List (Option Bool))) (asked : List
   pub shows : Shows m s
   pub asked_for : Contains asked (property_of s)
   pub has_values : HasValues rows s
+
+-- the properties that the circuit has
+pub record AreAll (m : Parts) (ps : List Property) : Type 0 where
+  pub each : (p : Property) → HasProperty m p → Contains ps p
+  pub only : All (HasProperty m) ps
+
+-- the property that is chosen, or those that are named, or where none is all of the circuit
+abbrev pub AreAsked : Parts → Option Property → List Property → List Property → Type 0
+AreAsked m (Some p) named asked = asked ≡ p ∷ []
+AreAsked m None [] asked = AreAll m asked
+AreAsked m None (p ∷ ps) asked = asked ≡ p ∷ ps

@@ -1,6 +1,6 @@
 //! What a violation rests on.
 
-ghost use Rattle.std.specs.Prelude.{◌≡◌, ◌+◌, [], IfOk, IfSome, IsTrue, All, None, Some, length, map, replicate, slice_index_or};
+ghost use Rattle.std.specs.Prelude.{◌≡◌, ◌+◌, [], false, IfOk, IfSome, IsTrue, All, None, Some, length, map, replicate, slice_index_or};
 ghost use Rattle.graph.specs.Valuation.{variable};
 ghost use Rattle.cones.specs.Marks.{IsKnown};
 ghost use Rattle.cones.specs.Reach.{IsGateTable};
@@ -227,12 +227,33 @@ fn clear_nothing(
 
 /// Whether the stimulus shows its violation.
 fn is_shown(alloc: Global, circuit: &Model, stimulus: &Stimulus) -> Result<bool, Refused>
-    ensures { IfOk result (λ shown. IsTrue shown → Shows circuit.now stimulus.now) }
+    ensures shows { IfOk result (λ shown. IsTrue shown → Shows circuit.now stimulus.now) }
+    ensures exact { IfOk result (λ shown. shown ≡ false → Shows circuit.now stimulus.now → ⊥) }
 {
     match judge(alloc, circuit, stimulus) {
         Ok(()) => Ok(true),
         Err(JudgeError::OutOfMemory(refused)) => Err(refused),
         Err(_) => Ok(false),
+    }
+}
+
+/// What the run of these lines rests on, where it sets what a bad literal or an output watches.
+fn clear_safety(
+    alloc: Global,
+    circuit: &Model,
+    property: Property,
+    initial: &[bool],
+    lines: &[Seq<bool>],
+) -> Result<Option<Cleared>, Refused>
+    ensures enough { IfOk result (λ found. IfSome found (IsEnough circuit.now)) }
+    ensures is { IfOk result (λ found. IfSome found (λ c. IsClearedOf c (Violated property initial.now lines.now))) }
+{
+    if check_playable(circuit.parts(), initial, lines).is_err() {
+        return Ok(None);
+    }
+    match literal_of(circuit, property) {
+        Some(lit) => clear_bad(alloc, circuit, property, lit, initial, lines),
+        None => Ok(None),
     }
 }
 
@@ -247,6 +268,7 @@ pub fn clear(
 ) -> Result<Option<Cleared>, Refused>
     ensures enough { IfOk result (λ found. IfSome found (IsEnough circuit.now)) }
     ensures is { IfOk result (λ found. IfSome found (λ c. IsClearedOf c stimulus.now)) }
+    ensures none { IfOk result (λ found. found ≡ None → Shows circuit.now stimulus.now → ⊥) }
 {
     let Stimulus::Violated {
         property,
@@ -256,14 +278,12 @@ pub fn clear(
     else {
         return Ok(None);
     };
-    let (initial, lines) = (initial.as_slice(), inputs.as_slice());
-    if check_playable(circuit.parts(), initial, lines).is_err()
-        || !is_shown(alloc, circuit, stimulus)?
-    {
+    if !is_shown(alloc, circuit, stimulus)? {
         return Ok(None);
     }
-    match literal_of(circuit, *property) {
-        Some(lit) => clear_bad(alloc, circuit, *property, lit, initial, lines),
+    let (initial, lines) = (initial.as_slice(), inputs.as_slice());
+    match clear_safety(alloc, circuit, *property, initial, lines)? {
+        Some(cleared) => Ok(Some(cleared)),
         None => Ok(Some(clear_nothing(alloc, circuit, *property, initial, lines)?)),
     }
 }

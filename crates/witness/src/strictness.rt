@@ -6,7 +6,7 @@ ghost use Rattle.stimulus.specs.Shown.{Shows};
 ghost use Rattle.stimulus.specs.Texts.{property_of};
 ghost use Rattle.stimulus.specs.declared.value.Stimulus.TheVariants.{Violated};
 ghost use Rattle.witness.specs.Completions.{CompleteFirst};
-ghost use Rattle.witness.specs.Strict.{HasValues, IsStrict};
+ghost use Rattle.witness.specs.Strict.{AreAsked, HasValues, IsStrict};
 
 use crate::completion::{completed, completed_rows};
 use crate::cutting::times_to_violation;
@@ -194,7 +194,8 @@ pub fn asked_of(
     loose: &Loose,
     chosen: Option<Property>,
 ) -> Result<Vec<Property>, Refused>
-    ensures { (p : AProperty) → chosen ≡ Some p → IfOk result (λ v. v.items ≡ p ∷ []) }
+    ensures chosen { (p : AProperty) → chosen ≡ Some p → IfOk result (λ v. v.items ≡ p ∷ []) }
+    ensures asked { IfOk result (λ v. AreAsked circuit.now chosen loose.now.properties v.items) }
 {
     match chosen {
         Some(property) => copied(alloc, &[property]),
