@@ -412,7 +412,7 @@ def without_values(scratch):
     place = Place(scratch)
     place.circuit(counter(64))
     make(scratch / "empty.aag", "junk")
-    out = place.check("--json", "--limit", "1", "circuit.aag", "empty.aag").out
+    out = place.check("circuit.aag", "--limit", "1", "empty.aag", "--json").out
     found = [json.loads(line) for line in out.splitlines()]
     nothing = dict.fromkeys(("name", "evidence", "checked", "steps"))
     expect(1 <= found[0].pop("seconds") < 60, True, "whether the seconds can be")
@@ -463,7 +463,8 @@ def names_in_layouts(scratch):
 def bad_words(scratch):
     place = Place(scratch)
     place.circuit(HOLDS)
-    for words in ("", "--jobs 0 circuit.aag", "--limit 1.5 circuit.aag", "--limit", "-x circuit.aag", "--"):
+    behind = ("circuit.aag -x", "circuit.aag --out", "circuit.aag --json=yes")
+    for words in ("", "--jobs 0 circuit.aag", "--limit 1.5 circuit.aag", "--limit", "-x circuit.aag", "--", *behind):
         done = place.call("check-all", *words.split())
         is_usage = done.told.startswith(b"check-all: it is called bin/check-all ")
         expect((done.status, done.out, is_usage), (3, b"", True), f"what it does with {words}")
