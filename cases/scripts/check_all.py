@@ -407,6 +407,18 @@ def named(scratch):
     expect(found, [first, ("b1", "violated", f"{folder}/b1.stim", "yes", "turns")], "the objects")
 
 
+@case("check-all: a circuit without properties")
+def without_properties(scratch):
+    place = Place(scratch)
+    place.circuit("aag 1 1 0 0 0\n2\n")
+    done = place.check("circuit.aag")
+    expect((done.status, done.rows(), done.told), (2, [], b"circuit.aag has no property\n"), "what it does")
+    make(scratch / "holds.aag", HOLDS)
+    make(scratch / "violated.aag", VIOLATED)
+    expect_table(place.check("circuit.aag", "holds.aag"), 2, YES_HOLDS, "the table beside one that holds")
+    expect_table(place.check("circuit.aag", "violated.aag"), 1, YES_VIOLATED, "the table beside one that is violated")
+
+
 @case("check-all --json: null for what there is not")
 def without_values(scratch):
     place = Place(scratch)
