@@ -419,6 +419,18 @@ def without_properties(scratch):
     expect_table(place.check("circuit.aag", "violated.aag"), 1, YES_VIOLATED, "the table beside one that is violated")
 
 
+@case("check-all: constraints that no run keeps")
+def vacuous(scratch):
+    place = Place(scratch)
+    said = b"circuit.aag no run keeps its constraints, so every property holds\n"
+    for constraint, is_said in ((0, True), (2, False), (5, False)):
+        place.circuit(f"aag 2 1 1 0 0 1 1\n2\n4 1\n0\n{constraint}\n")
+        for _ in range(2):
+            done = place.check("circuit.aag")
+            expect_table(done, 0, YES_HOLDS, "the table")
+            expect(done.told.count(said), int(is_said), f"how often it is said of the constraint {constraint}")
+
+
 @case("check-all --json: null for what there is not")
 def without_values(scratch):
     place = Place(scratch)
