@@ -15,6 +15,9 @@ zsh = $(DESTDIR)$(PREFIX)/share/zsh/site-functions
 .PHONY: install uninstall
 
 install:
+	@for program in $(PROGRAMS); do \
+		[ -x "crates/$$program/out/$$program" ] || { echo "make install: bin/build has not built $$program yet" >&2; exit 1; }; \
+	done
 	$(INSTALL) -d "$(bin)" "$(share)" "$(man)" "$(bash)" "$(zsh)"
 	set -e; for program in $(PROGRAMS); do \
 		$(INSTALL) -m 755 "crates/$$program/out/$$program" "$(bin)/$$program"; \

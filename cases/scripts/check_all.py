@@ -308,7 +308,7 @@ def bytes_in_names(scratch):
     quoted = name.replace(b'"', b'""')
     expect(done.status, 1, "the status")
     expect(row.startswith(b'"' + quoted + b'",b0,violated,'), True, f"the row {row!r}")
-    expect(row.endswith(b',"m\xfe/' + quoted + b'/b0.stim",yes,'), True, f"the end of the row {row!r}")
+    expect(row.endswith(b',"m\xfe/' + quoted + b'/b0.stim",yes,,'), True, f"the end of the row {row!r}")
 
 
 @case("check-all: two files of one name in one call")
@@ -393,16 +393,72 @@ def named(scratch):
     place = Place(scratch)
     place.circuit(BOTH)
     table = place.check("circuit.aag").out.decode()
-    head = "file,property,verdict,seconds,evidence,checked,name\n"
+    head = "file,property,verdict,seconds,evidence,checked,name,steps\n"
     expect(table.partition("\n")[0] + "\n", head, "the head")
     names = [row["name"] for row in csv.DictReader(table.splitlines())]
     expect(names, ['stays, "so"', "turns"], "the names")
     objects = [json.loads(line) for line in place.check("--json", "circuit.aag").out.splitlines()]
-    expect([list(it) for it in objects], [head.strip().split(",")] * 2, "the keys")
+    keys = ["file", "property", "name", "verdict", "evidence", "checked", "seconds", "steps"]
+    expect([list(it) for it in objects], [keys] * 2, "the keys")
+    expect([0 <= it["seconds"] < 60 for it in objects], [True] * 2, "whether the seconds can be")
     found = [(it["property"], it["verdict"], it["evidence"], it["checked"], it["name"]) for it in objects]
     folder = "made/circuit.aag"
     first = ("b0", "holds", f"{folder}/b0.cert", "yes", 'stays, "so"')
     expect(found, [first, ("b1", "violated", f"{folder}/b1.stim", "yes", "turns")], "the objects")
+
+
+@case("check-all: a circuit without properties")
+def without_properties(scratch):
+    place = Place(scratch)
+    place.circuit("aag 1 1 0 0 0\n2\n")
+    done = place.check("circuit.aag")
+    expect((done.status, done.rows(), done.told), (2, [], b"circuit.aag has no property\n"), "what it does")
+    make(scratch / "holds.aag", HOLDS)
+    make(scratch / "violated.aag", VIOLATED)
+    expect_table(place.check("circuit.aag", "holds.aag"), 2, YES_HOLDS, "the table beside one that holds")
+    expect_table(place.check("circuit.aag", "violated.aag"), 1, YES_VIOLATED, "the table beside one that is violated")
+
+
+@case("check-all: constraints that no run keeps")
+def vacuous(scratch):
+    place = Place(scratch)
+    said = b"circuit.aag no run keeps its constraints, so every property holds\n"
+    for constraint, is_said in ((0, True), (2, False), (5, False)):
+        place.circuit(f"aag 2 1 1 0 0 1 1\n2\n4 1\n0\n{constraint}\n")
+        for _ in range(2):
+            done = place.check("circuit.aag")
+            expect_table(done, 0, YES_HOLDS, "the table")
+            expect(done.told.count(said), int(is_said), f"how often it is said of the constraint {constraint}")
+
+
+@case("check-all --json: null for what there is not")
+def without_values(scratch):
+    place = Place(scratch)
+    place.circuit(counter(64))
+    make(scratch / "empty.aag", "junk")
+    out = place.check("circuit.aag", "--limit", "1", "empty.aag", "--json").out
+    found = [json.loads(line) for line in out.splitlines()]
+    nothing = dict.fromkeys(("name", "evidence", "checked", "steps"))
+    expect(1 <= found[0].pop("seconds") < 60, True, "whether the seconds can be")
+    limit = {"file": "circuit.aag", "property": "b0", "verdict": "limit"}
+    failed = {"file": "empty.aag", "property": None, "verdict": "failed", "seconds": None}
+    expect(found, [limit | nothing, failed | nothing], "the objects")
+
+
+@case("check-all: the steps that aigmc says")
+def steps_are_said(scratch):
+    place = Place(scratch)
+    place.circuit(BOTH)
+    said = """sed 's/,"steps":[0-9]*//; s/,"reason"/,"steps":123456789012,"reason"/'"""
+    place.wrap("aigmc", f"{PROGRAMS['aigmc']} \"$@\" | {said}; exit 1")
+    for _ in range(2):
+        table = csv.DictReader(place.check("circuit.aag").out.decode().splitlines())
+        expect([row["steps"] for row in table], ["123456789012"] * 2, "the steps in the table")
+        found = [json.loads(line)["steps"] for line in place.check("--json", "circuit.aag").out.splitlines()]
+        expect(found, [123456789012] * 2, "the steps in the objects")
+    make(scratch / "made/circuit.aag/b1.result", "junk")
+    table = csv.DictReader(place.check("circuit.aag").out.decode().splitlines())
+    expect([(row["checked"], row["steps"]) for row in table], [("yes", "123456789012"), ("yes", "")], "what is kept")
 
 
 # Circuits, and the names of their properties. The gates of the first one, in binary, are bytes that look like a symbol.
@@ -431,7 +487,8 @@ def names_in_layouts(scratch):
 def bad_words(scratch):
     place = Place(scratch)
     place.circuit(HOLDS)
-    for words in ("", "--jobs 0 circuit.aag", "--limit 1.5 circuit.aag", "--limit", "-x circuit.aag", "--"):
+    behind = ("circuit.aag -x", "circuit.aag --out", "circuit.aag --json=yes")
+    for words in ("", "--jobs 0 circuit.aag", "--limit 1.5 circuit.aag", "--limit", "-x circuit.aag", "--", *behind):
         done = place.call("check-all", *words.split())
         is_usage = done.told.startswith(b"check-all: it is called bin/check-all ")
         expect((done.status, done.out, is_usage), (3, b"", True), f"what it does with {words}")

@@ -53,6 +53,12 @@ def named(scratch):
         (OUTPUTS, "o0", (b"0\nb0\n.\n", 20)),
         (OUTPUTS, "o1", (b"1\nb1\n00\n\n\n.\n", 10)),
         (JUSTICE, "b0", (b"0\nb0\n.\n", 20)),
+        (BOTH, "turns", (b"1\nb1\n00\n\n\n.\n", 10)),
+        (BOTH, 'stays, "so"', (b"0\nb0\n.\n", 20)),
+        (OUTPUTS + "o1 low\n", "low", (b"1\nb1\n00\n\n\n.\n", 10)),
+        (BOTH.replace("turns", "b0"), "b0", (b"0\nb0\n.\n", 20)),
+        (BOTH.replace("turns", 'stays, "so"'), 'stays, "so"', (b"", 3)),
+        (BOTH, "turn", (b"", 3)),
         (BOTH, "b2", (b"", 3)),
         (BOTH, "o0", (b"", 3)),
     ):

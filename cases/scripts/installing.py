@@ -46,6 +46,17 @@ def installed(scratch):
     expect((folder / "share/lugyveron").exists(), False, "whether the folder of the modules is left")
 
 
+@case("make install before anything was built")
+def unbuilt(scratch):
+    if not shutil.which("make"):
+        raise NotTried("there is no make")
+    shutil.copy(TOP / "Makefile", scratch)
+    done = call("make", "-s", "install", f"DESTDIR={scratch}/root", cwd=scratch)
+    said = b"make install: bin/build has not built aigmc yet\n"
+    expect((done.told.startswith(said), (scratch / "root").exists()), (True, False), f"what it does: {done.told!r}")
+    expect(done.status != 0, True, "whether it fails")
+
+
 @case("the installed scripts run without the repository")
 def run(scratch):
     folder = made(scratch, "install")
