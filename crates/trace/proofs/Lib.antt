@@ -9,3 +9,5 @@ pub mod ScopeLaws
 pub mod VariableLaws
 pub mod ChangeLaws
 pub mod WaveLaws
+pub mod WidthLaws
+pub mod LoopLaws

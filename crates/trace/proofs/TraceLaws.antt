@@ -2,6 +2,7 @@
 use Rattle.std.proofs.Common.{◌≡◌, ◌≢◌, ℕ, Bool, List, [], length, Option, refl, sym, ap, ◌∙◌, arith}
 use Rattle.std.specs.List.{flat_map}
 use Rattle.graph.specs.declared.parts.Parts.{Parts}
+use Rattle.graph.specs.declared.circuit.Property.{Property}
 use Rattle.graph.specs.File.{File}
 use Rattle.graph.specs.Valuation.{Valuation}
 use Rattle.simulate.specs.Replays.{Replayed}
@@ -19,19 +20,19 @@ use Rattle.trace.specs.Lines.{HasLines}
 use Rattle.trace.specs.Traces.{HasTraceCause, HasTraceCauseIn}
 
 -- what comes before the sink is the same for a table
-pub trace_cause : (f : File) (all : Bool) (initial : List Bool) (inputs : List (List Bool)) (before after : Option (List ℕ)) (e : SimError) → e ≢ Device →
-    HasSimCauseIn f.model initial inputs before after e → HasTraceCauseIn f all initial inputs before after e
-trace_cause f all initial inputs before after NotViolated fits p = p
-trace_cause f all initial inputs before after (LineLength k) fits p = p
-trace_cause f all initial inputs before after NoInputLine fits p = p
-trace_cause f all initial inputs before after (InitialReset k) fits p = p
-trace_cause f all initial inputs before after Device fits p = absurd (fits refl)
-trace_cause f all initial inputs before after (OutOfMemory refused) fits p = tt
+pub trace_cause : (f : File) (all : Bool) (p : Property) (initial : List Bool) (inputs : List (List Bool)) (before after : Option (List ℕ)) (e : SimError) → e ≢ Device →
+    HasSimCauseIn f.model initial inputs before after e → HasTraceCauseIn f all p initial inputs before after e
+trace_cause f all p initial inputs before after NotViolated fits h = h
+trace_cause f all p initial inputs before after (LineLength k) fits h = h
+trace_cause f all p initial inputs before after NoInputLine fits h = h
+trace_cause f all p initial inputs before after (InitialReset k) fits h = h
+trace_cause f all p initial inputs before after Device fits h = absurd (fits refl)
+trace_cause f all p initial inputs before after (OutOfMemory refused) fits h = tt
 
 -- of what shows no violation there is no table
-pub no_trace : (f : File) (all : Bool) (s : Stimulus) (before after : Option (List ℕ)) → ((initial : List Bool) (inputs : List (List Bool)) → HasLines s initial inputs → ⊥) →
+pub no_trace : (f : File) (all : Bool) (s : Stimulus) (before after : Option (List ℕ)) → ((p : Property) (initial : List Bool) (inputs : List (List Bool)) → HasLines s p initial inputs → ⊥) →
     HasTraceCause f all s before after NotViolated
-no_trace f all (Violated p initial inputs) before after none = absurd (none initial inputs (p, refl))
+no_trace f all (Violated p initial inputs) before after none = absurd (none p initial inputs refl)
 no_trace f all (Holds p) before after none = refl
 no_trace f all (Unknown p) before after none = refl
 

@@ -3,6 +3,8 @@ pub mod Bits
 pub mod Signals
 pub mod Columns
 pub mod Lines
+pub mod Loops
+pub mod Widths
 pub mod SignalValues
 pub mod Traces
 pub mod Scopes

@@ -1,8 +1,9 @@
--- Traces: a line for each signal of a replay, with a value for each time.
-use Rattle.std.specs.Prelude.{◌≡◌, ℕ, Bool, List, [], ◌++◌, Option, codes}
+-- Traces: a line for each signal of a replay, with a value for each time, in columns, and where the loop of a lasso begins.
+use Rattle.std.specs.Prelude.{◌≡◌, ℕ, Bool, List, [], ◌++◌, map, Option, Some, None, codes, decimal}
 use Rattle.std.specs.Io.KnownBytes.{Appends}
 use Rattle.std.specs.List.{flat_map}
 use Rattle.base.specs.Devices.{PutsBeginning}
+use Rattle.graph.specs.declared.circuit.Property.{Property}
 use Rattle.graph.specs.Valuation.{Valuation}
 use Rattle.graph.specs.File.{File}
 use Rattle.simulate.specs.Starts.{Starts, IsFirstAgainst}
@@ -10,7 +11,7 @@ use Rattle.stimulus.specs.declared.value.Stimulus.{Stimulus}
 use Rattle.stimulus.specs.declared.value.Stimulus.TheVariants.{Holds, Violated, Unknown}
 use Rattle.stimulus.specs.declared.sim_error.SimError.{SimError}
 use Rattle.stimulus.specs.declared.sim_error.SimError.TheVariants.{NotViolated, LineLength, NoInputLine, InitialReset, Device, OutOfMemory}
-use Rattle.stimulus.specs.Shown.{IsReplay}
+use Rattle.stimulus.specs.Shown.{IsReplay, closing_state}
 use Rattle.stimulus.specs.Causes.{HasFitLines, IsPlayable, IsWrongLine}
 use Rattle.trace.specs.declared.bits.Bit.{Bit}
 use Rattle.trace.specs.declared.signals.Signal.{Signal}
@@ -18,22 +19,41 @@ use Rattle.trace.specs.Numbers.{number_text}
 use Rattle.trace.specs.Bits.{AreShown}
 use Rattle.trace.specs.Signals.{AreSignals, bits_of, signal_name}
 use Rattle.trace.specs.Columns.{values_at}
-
--- a space, and the number of some bits
-abbrev pub spaced_number : List Bool → List ℕ
-spaced_number bits = codes " " ++ number_text bits
+use Rattle.trace.specs.Loops.{IsLoopStart}
+use Rattle.trace.specs.Widths.{at_left, at_right, width_of}
 
 -- the value of a signal of these bits at a time
 abbrev pub value_text : List Bit → Valuation → List ℕ
-value_text bits w = spaced_number (values_at bits w)
+value_text bits w = number_text (values_at bits w)
 
--- the name of a signal of these bits, and its value at each time of the replay
-abbrev pub row_text : List Valuation → List Bit → List ℕ
-row_text r bits = signal_name bits ++ (flat_map (value_text bits) r ++ codes "\n")
+-- the width of the names
+abbrev pub names_width : List Bit → List Signal → ℕ
+names_width bits signals = width_of (map (λ s. signal_name (bits_of bits s)) signals)
 
--- a line for each signal
-abbrev pub trace_text : List Bit → List Signal → List Valuation → List ℕ
-trace_text bits signals r = flat_map (λ s. row_text r (bits_of bits s)) signals
+-- the width of the values at a time
+abbrev pub values_width : List Bit → List Signal → Valuation → ℕ
+values_width bits signals w = width_of (map (λ s. value_text (bits_of bits s) w) signals)
+
+-- a space, and the number of some bits at the right of a column of this width
+abbrev pub number_cell : ℕ → List Bool → List ℕ
+number_cell width bits = codes " " ++ at_right width (number_text bits)
+
+-- the value of a signal in the column of its time
+abbrev pub cell_text : List Bit → List Signal → Signal → Valuation → List ℕ
+cell_text bits signals s w = number_cell (values_width bits signals w) (values_at (bits_of bits s) w)
+
+-- the line of a signal: its name at the left of the column of names, its value at each time of the replay, and a line end
+abbrev pub row_text : List Bit → List Signal → List Valuation → Signal → List ℕ
+row_text bits signals r s = at_left (names_width bits signals) (signal_name (bits_of bits s)) ++ (flat_map (cell_text bits signals s) r ++ codes "\n")
+
+-- the line that tells where the loop begins, where there is one
+abbrev pub loop_text : Option ℕ → List ℕ
+loop_text None = []
+loop_text (Some start) = (codes "loop " ++ decimal start) ++ codes "\n"
+
+-- a line for each signal, and the loop
+abbrev pub trace_text : List Bit → List Signal → List Valuation → Option ℕ → List ℕ
+trace_text bits signals r start = flat_map (row_text bits signals r) signals ++ loop_text start
 
 -- the signals of a file: the bits that are shown, each in one signal
 pub record Signals (f : File) (all : Bool) : Type 0 where
@@ -43,39 +63,43 @@ pub record Signals (f : File) (all : Bool) : Type 0 where
   pub are_signals : AreSignals bits signals
 
 -- the trace of the one replay of the lines was put
-pub record PutsTraceIn (f : File) (all : Bool) (initial : List Bool) (inputs : List (List Bool)) (before after : Option (List ℕ)) : Type 0 where
+pub record PutsTraceIn (f : File) (all : Bool) (p : Property) (initial : List Bool) (inputs : List (List Bool)) (before after : Option (List ℕ)) : Type 0 where
   pub replay : List Valuation
   pub replays : IsReplay f.model initial inputs replay
   pub only : (x : List Valuation) → IsReplay f.model initial inputs x → x ≡ replay
   pub starts : Starts f.model.latches initial
   pub shows : Signals f all
-  pub appends : Appends before after (trace_text shows.bits shows.signals replay)
+  pub start : Option ℕ
+  pub loops : IsLoopStart f.model p (closing_state f.model replay) replay start
+  pub appends : Appends before after (trace_text shows.bits shows.signals replay start)
 
 -- the trace of the stimulus's replay was put
 abbrev pub PutsTrace : File → Bool → Stimulus → Option (List ℕ) → Option (List ℕ) → Type 0
-PutsTrace f all (Violated p initial inputs) before after = PutsTraceIn f all initial inputs before after
+PutsTrace f all (Violated p initial inputs) before after = PutsTraceIn f all p initial inputs before after
 PutsTrace f all (Holds p) before after = ⊥
 PutsTrace f all (Unknown p) before after = ⊥
 
 -- no cause stands, and after the sink's failure a beginning of the trace of the replay was put
-pub record IsTraceCutOff (f : File) (all : Bool) (initial : List Bool) (inputs : List (List Bool)) (before after : Option (List ℕ)) : Type 0 where
+pub record IsTraceCutOff (f : File) (all : Bool) (p : Property) (initial : List Bool) (inputs : List (List Bool)) (before after : Option (List ℕ)) : Type 0 where
   pub playable : IsPlayable f.model initial inputs
   pub starts : Starts f.model.latches initial
   pub shows : Signals f all
-  pub begins : (r : List Valuation) → IsReplay f.model initial inputs r → PutsBeginning before after (trace_text shows.bits shows.signals r)
+  pub start : Option ℕ
+  pub loops : (r : List Valuation) → IsReplay f.model initial inputs r → IsLoopStart f.model p (closing_state f.model r) r start
+  pub begins : (r : List Valuation) → IsReplay f.model initial inputs r → PutsBeginning before after (trace_text shows.bits shows.signals r start)
 
 -- the reason for which there is no trace of the lines stands, and none that comes before it: no violation, a line's
 -- length, no input line, a latch against its reset
-abbrev pub HasTraceCauseIn : File → Bool → List Bool → List (List Bool) → Option (List ℕ) → Option (List ℕ) → SimError → Type 0
-HasTraceCauseIn f all initial inputs before after NotViolated = ⊥
-HasTraceCauseIn f all initial inputs before after (LineLength k) = IsWrongLine f.model initial inputs k
-HasTraceCauseIn f all initial inputs before after NoInputLine = HasFitLines f.model initial inputs × (inputs ≡ [])
-HasTraceCauseIn f all initial inputs before after (InitialReset k) = IsPlayable f.model initial inputs × IsFirstAgainst f.model.latches initial k
-HasTraceCauseIn f all initial inputs before after Device = IsTraceCutOff f all initial inputs before after
-HasTraceCauseIn f all initial inputs before after (OutOfMemory refused) = Unit {0}
+abbrev pub HasTraceCauseIn : File → Bool → Property → List Bool → List (List Bool) → Option (List ℕ) → Option (List ℕ) → SimError → Type 0
+HasTraceCauseIn f all p initial inputs before after NotViolated = ⊥
+HasTraceCauseIn f all p initial inputs before after (LineLength k) = IsWrongLine f.model initial inputs k
+HasTraceCauseIn f all p initial inputs before after NoInputLine = HasFitLines f.model initial inputs × (inputs ≡ [])
+HasTraceCauseIn f all p initial inputs before after (InitialReset k) = IsPlayable f.model initial inputs × IsFirstAgainst f.model.latches initial k
+HasTraceCauseIn f all p initial inputs before after Device = IsTraceCutOff f all p initial inputs before after
+HasTraceCauseIn f all p initial inputs before after (OutOfMemory refused) = Unit {0}
 
 -- the reason for which there is no trace of the stimulus stands
 abbrev pub HasTraceCause : File → Bool → Stimulus → Option (List ℕ) → Option (List ℕ) → SimError → Type 0
-HasTraceCause f all (Violated p initial inputs) before after e = HasTraceCauseIn f all initial inputs before after e
+HasTraceCause f all (Violated p initial inputs) before after e = HasTraceCauseIn f all p initial inputs before after e
 HasTraceCause f all (Holds p) before after e = e ≡ NotViolated
 HasTraceCause f all (Unknown p) before after e = e ≡ NotViolated

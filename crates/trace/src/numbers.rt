@@ -1,6 +1,6 @@
 //! The texts of numbers that are given by their bits, the lowest first.
 
-ghost use Rattle.std.specs.Prelude.{◌≡◌, ◌+◌, ◌-◌, ◌*◌, ◌/◌, ◌^◌, ◌<◌, ◌≤◌, if◌then◌else◌, length, take, drop};
+ghost use Rattle.std.specs.Prelude.{◌≡◌, ◌+◌, ◌-◌, ◌*◌, ◌/◌, ◌^◌, ◌<◌, ◌≤◌, if◌then◌else◌, length, take, drop, decimal};
 ghost use Rattle.base.specs.Devices.{CountsFailure, Puts};
 ghost use Rattle.trace.specs.Numbers.{digit_of, hex_below, number_of, number_text};
 
@@ -61,6 +61,26 @@ fn put_hex<W: Sink>(out: &mut W, bits: &[bool]) -> Result<(), Failed>
         put_all(out, &[digit(bits_of_digit(bits, k))])?;
     }
     Ok(())
+}
+
+/// The length of a number in decimal.
+pub fn decimal_length(number: u64) -> usize
+    ensures length { result ≡ length (decimal number) }
+    ensures short { result ≤ 40 }
+{
+    let mut buffer = Buffer::new();
+    buffer.format(number).len()
+}
+
+/// The length of the text of the number of the bits.
+pub fn number_length(bits: &[bool]) -> usize
+    ensures { result ≡ length (number_text bits.now) }
+{
+    if bits.len() <= 64 {
+        decimal_length(number(bits))
+    } else {
+        2 + bits.len().div_ceil(4)
+    }
 }
 
 /// Puts the number of the bits: in decimal, or in hexadecimal where there are more than 64.

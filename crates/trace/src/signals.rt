@@ -6,6 +6,7 @@ ghost use Rattle.trace.specs.Bits.{bit_name, letter_of};
 ghost use Rattle.trace.specs.Signals.{AreApart, AreSignals, IsVector, range_text, signal_name, vector_name};
 
 use crate::bits::Bit;
+use crate::numbers::decimal_length;
 use base::{Refused, push};
 use graph::{Failed, Sink, SymbolKind, put_all};
 use itoa::Buffer;
@@ -72,6 +73,43 @@ pub fn letter(kind: SymbolKind) -> &'static [u8]
     }
 }
 
+/// The length of the name of a bit.
+fn bit_name_length(bit: &Bit<'_>) -> usize
+    ensures { result ≡ length (bit_name bit.now) }
+{
+    match bit.name {
+        [] => letter(bit.kind).len() + decimal_length(bit.position as u64),
+        [_, ..] => bit.name.len(),
+    }
+}
+
+/// The length of the name of a vector of `count` bits.
+fn vector_name_length(base: &[u8], low: u32, count: usize) -> usize
+    requires some { 0 < count }
+    requires few { count < 2 ^ 63 }
+    ensures { result ≡ length (vector_name base.now low count) }
+{
+    if low == 0 {
+        return base.len();
+    }
+    let low = u64::from(low);
+    base.len() + (decimal_length(low + count as u64 - 1) + decimal_length(low) + 3)
+}
+
+/// The length of the name of a signal of these bits.
+pub fn signal_name_length(bits: &[Bit<'_>]) -> usize
+    ensures { result ≡ length (signal_name bits.now) }
+{
+    match bits {
+        [] => 0,
+        [bit] => bit_name_length(bit),
+        [first, ..] => match first.index {
+            None => bit_name_length(first),
+            Some(low) => vector_name_length(first.base, low, bits.len()),
+        },
+    }
+}
+
 /// Puts the name of what has no symbol: its kind's letter and its position.
 fn put_plain_name<W: Sink>(out: &mut W, kind: SymbolKind, position: usize) -> Result<(), Failed>
     requires { W.failed out.old < 2 ^ 64 - 1 }
@@ -96,7 +134,7 @@ fn put_bit_name<W: Sink>(out: &mut W, bit: &Bit<'_>) -> Result<(), Failed>
 }
 
 /// Puts these bytes, and a number.
-fn put_number<W: Sink>(out: &mut W, before: &[u8], number: u64) -> Result<(), Failed>
+pub fn put_counted<W: Sink>(out: &mut W, before: &[u8], number: u64) -> Result<(), Failed>
     requires { W.failed out.old < 2 ^ 64 - 1 }
     ensures puts { Puts result (W.contents out.old) (W.contents out.new) (before.now ++ decimal number) }
     ensures counts { CountsFailure (W.failed out.old) (W.failed out.new) result }
@@ -112,8 +150,8 @@ fn put_range<W: Sink>(out: &mut W, high: u64, low: u64) -> Result<(), Failed>
     ensures puts { Puts result (W.contents out.old) (W.contents out.new) (range_text high low) }
     ensures counts { CountsFailure (W.failed out.old) (W.failed out.new) result }
 {
-    put_number(out, b"[", high)?;
-    put_number(out, b":", low)?;
+    put_counted(out, b"[", high)?;
+    put_counted(out, b":", low)?;
     put_all(out, b"]")
 }
 

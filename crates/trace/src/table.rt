@@ -1,49 +1,63 @@
-//! Traces: a line for each signal, with a value for each time.
+//! Traces: a line for each signal, with a value for each time, in columns.
 
-ghost use Rattle.std.specs.Prelude.{◌≡◌, ◌≢◌, ◌≤◌, ◌+◌, ◌-◌, ◌^◌, ◌<◌, List, All, length, IfErr, OnOk, flat_map};
+ghost use Rattle.std.specs.Prelude.{◌≡◌, ◌≢◌, ◌≤◌, ◌+◌, ◌-◌, ◌^◌, ◌<◌, List, All, Some, length, map, IfErr, OnOk, flat_map};
 ghost use Rattle.base.specs.Devices.{CountsFailure, Puts};
 ghost use Rattle.graph.specs.Valuation.{Valuation};
 ghost use Rattle.trace.specs.Columns.{AreValues, values_at};
-ghost use Rattle.trace.specs.Signals.{bits_of};
-ghost use Rattle.trace.specs.Traces.{HasTraceCause, HasTraceCauseIn, PutsTrace, PutsTraceIn, row_text, spaced_number, trace_text, value_text};
+ghost use Rattle.trace.specs.declared.signals.Signal.{Signal as ASignal};
+ghost use Rattle.trace.specs.Signals.{signal_name};
+ghost use Rattle.trace.specs.Traces.{HasTraceCause, HasTraceCauseIn, PutsTrace, PutsTraceIn, cell_text, loop_text, names_width as width_of_names, number_cell, row_text, trace_text, values_width};
+ghost use Rattle.trace.specs.Widths.{at_left};
 
 use crate::bits::Bit;
 use crate::lines::lines_of;
-use crate::numbers::put_number;
+use crate::numbers::{number_length, put_number};
 use crate::signal_values::SignalValues;
-use crate::signals::{Signal, put_signal_name};
-use graph::{AigerFile, Failed, Seq, Sink, put_all};
+use crate::signals::{Signal, put_counted, put_signal_name, signal_name_length};
+use crate::widths::{names_width, put_spaces, values_widths};
+use graph::{AigerFile, Failed, Property, Seq, Sink, put_all};
 use std::alloc::Global;
 use stimulus::{SimError, Stimulus};
 
-/// Puts a space and the number of some bits.
-fn put_value<W: Sink>(out: &mut W, bits: &[bool]) -> Result<(), Failed>
+/// Puts the name of a signal of these bits in a column of this width.
+fn put_name<W: Sink>(out: &mut W, bits: &[Bit<'_>], width: usize) -> Result<(), Failed>
     requires { W.failed out.old < 2 ^ 64 - 1 }
-    ensures puts { Puts result (W.contents out.old) (W.contents out.new) (spaced_number bits.now) }
+    ensures puts { Puts result (W.contents out.old) (W.contents out.new) (at_left width (signal_name bits.now)) }
+    ensures counts { CountsFailure (W.failed out.old) (W.failed out.new) result }
+{
+    put_signal_name(out, bits)?;
+    put_spaces(out, width.saturating_sub(signal_name_length(bits)))
+}
+
+/// Puts a space, and the number of some bits in a column of this width.
+fn put_value<W: Sink>(out: &mut W, bits: &[bool], width: usize) -> Result<(), Failed>
+    requires { W.failed out.old < 2 ^ 64 - 1 }
+    ensures puts { Puts result (W.contents out.old) (W.contents out.new) (number_cell width bits.now) }
     ensures counts { CountsFailure (W.failed out.old) (W.failed out.new) result }
 {
     put_all(out, b" ")?;
+    put_spaces(out, width.saturating_sub(number_length(bits)))?;
     put_number(out, bits)
 }
 
-/// Puts the values of a signal, one for each time. `values` has those of all bits, time after time.
+/// Puts the values of a signal, one for each time, in columns of these widths. `values` has those of all bits, time after time.
 fn put_values<W: Sink>(
     out: &mut W,
     bits: &[Bit<'_>],
     signal: Signal,
     values: &[bool],
-    times: usize,
+    widths: &[usize],
 ) -> Result<(), Failed>
     requires sink { W.failed out.old < 2 ^ 64 - 1 }
     requires inside { (signal.first < signal.end) × (signal.end ≤ length bits.now) }
-    requires values { AreValues bits.now times values.now }
-    ensures puts { (r : List Valuation) → values.now ≡ flat_map (values_at bits.now) r → length r ≡ times → Puts result (W.contents out.old) (W.contents out.new) (flat_map (value_text (bits_of bits.now signal)) r) }
+    requires values { AreValues bits.now (length widths.now) values.now }
+    ensures puts { (signals : List ASignal) (r : List Valuation) → values.now ≡ flat_map (values_at bits.now) r → widths.now ≡ map (values_width bits.now signals) r → Puts result (W.contents out.old) (W.contents out.new) (flat_map (cell_text bits.now signals signal) r) }
     ensures counts { CountsFailure (W.failed out.old) (W.failed out.new) result }
 {
     let mut rest = values;
-    for _time in 0..times {
+    for width in widths {
         let (now, later) = rest.split_at(bits.len());
-        put_value(out, &now[signal.first..signal.end])?;
+        put_value(out, &now[signal.first..signal.end], *width)?;
         rest = later;
     }
     Ok(())
@@ -55,16 +69,17 @@ fn put_row<W: Sink>(
     bits: &[Bit<'_>],
     signal: Signal,
     values: &[bool],
-    times: usize,
+    names: usize,
+    widths: &[usize],
 ) -> Result<(), Failed>
     requires sink { W.failed out.old < 2 ^ 64 - 1 }
     requires inside { (signal.first < signal.end) × (signal.end ≤ length bits.now) }
-    requires values { AreValues bits.now times values.now }
-    ensures puts { (r : List Valuation) → values.now ≡ flat_map (values_at bits.now) r → length r ≡ times → Puts result (W.contents out.old) (W.contents out.new) (row_text r (bits_of bits.now signal)) }
+    requires values { AreValues bits.now (length widths.now) values.now }
+    ensures puts { (signals : List ASignal) (r : List Valuation) → values.now ≡ flat_map (values_at bits.now) r → names ≡ width_of_names bits.now signals → widths.now ≡ map (values_width bits.now signals) r → Puts result (W.contents out.old) (W.contents out.new) (row_text bits.now signals r signal) }
     ensures counts { CountsFailure (W.failed out.old) (W.failed out.new) result }
 {
-    put_signal_name(out, &bits[signal.first..signal.end])?;
-    put_values(out, bits, signal, values, times)?;
+    put_name(out, &bits[signal.first..signal.end], names)?;
+    put_values(out, bits, signal, values, widths)?;
     put_all(out, b"\n")
 }
 
@@ -74,43 +89,94 @@ fn put_rows<W: Sink>(
     bits: &[Bit<'_>],
     signals: &[Signal],
     values: &[bool],
-    times: usize,
+    widths: &[usize],
 ) -> Result<(), Failed>
     requires sink { W.failed out.old < 2 ^ 64 - 1 }
     requires inside { All (λ s. (s.first < s.end) × (s.end ≤ length bits.now)) signals.now }
-    requires values { AreValues bits.now times values.now }
-    ensures puts { (r : List Valuation) → values.now ≡ flat_map (values_at bits.now) r → length r ≡ times → Puts result (W.contents out.old) (W.contents out.new) (trace_text bits.now signals.now r) }
+    requires values { AreValues bits.now (length widths.now) values.now }
+    ensures puts { (r : List Valuation) → values.now ≡ flat_map (values_at bits.now) r → widths.now ≡ map (values_width bits.now signals.now) r → Puts result (W.contents out.old) (W.contents out.new) (flat_map (row_text bits.now signals.now r) signals.now) }
     ensures counts { CountsFailure (W.failed out.old) (W.failed out.new) result }
 {
+    let names = names_width(bits, signals);
     for signal in signals {
-        put_row(out, bits, *signal, values, times)?;
+        put_row(out, bits, *signal, values, names, widths)?;
     }
     Ok(())
+}
+
+/// Puts the line that tells that the loop begins at this time.
+fn put_loop_line<W: Sink>(out: &mut W, time: usize) -> Result<(), Failed>
+    requires { W.failed out.old < 2 ^ 64 - 1 }
+    ensures puts { Puts result (W.contents out.old) (W.contents out.new) (loop_text (Some time)) }
+    ensures counts { CountsFailure (W.failed out.old) (W.failed out.new) result }
+{
+    put_counted(out, b"loop ", time as u64)?;
+    put_all(out, b"\n")
+}
+
+/// Puts the line that tells where the loop begins, where there is one.
+fn put_loop<W: Sink>(out: &mut W, start: Option<usize>) -> Result<(), Failed>
+    requires { W.failed out.old < 2 ^ 64 - 1 }
+    ensures puts { Puts result (W.contents out.old) (W.contents out.new) (loop_text start) }
+    ensures counts { CountsFailure (W.failed out.old) (W.failed out.new) result }
+{
+    match start {
+        None => Ok(()),
+        Some(time) => put_loop_line(out, time),
+    }
+}
+
+/// Puts the line of each signal, and the loop.
+fn put_table<W: Sink>(
+    out: &mut W,
+    bits: &[Bit<'_>],
+    signals: &[Signal],
+    values: &[bool],
+    widths: &[usize],
+    start: Option<usize>,
+) -> Result<(), Failed>
+    requires sink { W.failed out.old < 2 ^ 64 - 1 }
+    requires inside { All (λ s. (s.first < s.end) × (s.end ≤ length bits.now)) signals.now }
+    requires values { AreValues bits.now (length widths.now) values.now }
+    ensures puts { (r : List Valuation) → values.now ≡ flat_map (values_at bits.now) r → widths.now ≡ map (values_width bits.now signals.now) r → Puts result (W.contents out.old) (W.contents out.new) (trace_text bits.now signals.now r start) }
+    ensures counts { CountsFailure (W.failed out.old) (W.failed out.new) result }
+{
+    put_rows(out, bits, signals, values, widths)?;
+    put_loop(out, start)
 }
 
 /// Puts the trace of these lines.
 fn put_violated<W: Sink>(
     alloc: Global,
     file: &AigerFile,
+    property: Property,
     initial: &[bool],
     inputs: &[Seq<bool>],
     all: bool,
     out: &mut W,
 ) -> Result<(), SimError>
     requires { W.failed out.old < 2 ^ 64 - 1 }
-    ensures put { OnOk result (PutsTraceIn file.now all initial.now inputs.now (W.contents out.old) (W.contents out.new)) }
-    ensures refused { IfErr result (HasTraceCauseIn file.now all initial.now inputs.now (W.contents out.old) (W.contents out.new)) }
+    ensures put { OnOk result (PutsTraceIn file.now all property initial.now inputs.now (W.contents out.old) (W.contents out.new)) }
+    ensures refused { IfErr result (HasTraceCauseIn file.now all property initial.now inputs.now (W.contents out.old) (W.contents out.new)) }
     ensures kept { OnOk result (W.failed out.new ≡ W.failed out.old) }
     ensures device { IfErr result (λ e. e ≡ SimError.Device → W.failed out.new ≡ W.failed out.old + 1) }
     ensures untouched { IfErr result (λ e. e ≢ SimError.Device → out.new ≡ out.old) }
 {
-    let shown = SignalValues::new(alloc, file, initial, inputs, all)?;
-    put_rows(
-        out,
+    let shown = SignalValues::new(alloc, file, property, initial, inputs, all)?;
+    let widths = values_widths(
+        alloc,
         &shown.bits,
         &shown.signals,
         &shown.values,
         inputs.len(),
+    )?;
+    put_table(
+        out,
+        &shown.bits,
+        &shown.signals,
+        &shown.values,
+        &widths,
+        shown.start,
     )?;
     Ok(())
 }
@@ -118,8 +184,11 @@ fn put_violated<W: Sink>(
 /// Puts the trace of a stimulus's replay: for each signal a line `NAME VALUE VALUE ..`, with a value for each time. Signals are in
 /// the order inputs, latches, outputs, bad literals, constraints and fairness literals, each kind by its names. Without `all`,
 /// names that begin with a dollar sign are left out. A value is in decimal, or where a vector has more than 64 bits in
-/// hexadecimal behind `0x`. Names are put as they are, so a name may hold spaces. It looks neither at the constraints nor at the
-/// property.
+/// hexadecimal behind `0x`. Names are put as they are, so a name may hold spaces. Behind each name are spaces up to the length
+/// of the longest, and before each value up to that of the longest at its time.
+///
+/// Where the replay closes a lasso of a justice property, the last line is `loop TIME`, with the first time at which it begins. It
+/// looks neither at the constraints nor, apart from that, at the property.
 ///
 /// It refuses the first of no violation (65), a line's length (66), no input line (64) and a latch against its reset (60),
 /// with nothing put. After a failure of the sink a beginning of the trace was put.
@@ -137,6 +206,6 @@ pub fn put_trace<W: Sink>(
     ensures device { IfErr result (λ e. e ≡ SimError.Device → W.failed out.new ≡ W.failed out.old + 1) }
     ensures untouched { IfErr result (λ e. e ≢ SimError.Device → out.new ≡ out.old) }
 {
-    let (initial, inputs) = lines_of(stimulus)?;
-    put_violated(alloc, file, initial, inputs, all, out)
+    let (property, initial, inputs) = lines_of(stimulus)?;
+    put_violated(alloc, file, property, initial, inputs, all, out)
 }

@@ -4,26 +4,45 @@ ghost use Rattle.std.specs.Prelude.{◌≡◌, ◌≢◌, ◌≤◌, ◌+◌, �
 ghost use Rattle.std.specs.List.{flat_map};
 ghost use Rattle.graph.specs.Valuation.{Valuation};
 ghost use Rattle.trace.specs.Columns.{AreValues, values_at};
-ghost use Rattle.trace.specs.Waves.{HasWaveCause, HasWaveCauseIn, PutsWave, PutsWaveIn, head_text, wave_text};
+ghost use Rattle.trace.specs.Waves.{HasWaveCause, HasWaveCauseIn, PutsWave, PutsWaveIn, comment_text, head_text, wave_text};
 
 use crate::bits::Bit;
 use crate::changes::push_times;
 use crate::lines::lines_of;
 use crate::signal_values::SignalValues;
 use crate::signals::Signal;
-use crate::variables::push_variables;
+use crate::variables::{push_number, push_variables};
 use base::{Refused, extend};
-use graph::{AigerFile, Seq, Sink, put_all};
+use graph::{AigerFile, Property, Seq, Sink, put_all};
 use std::alloc::Global;
 use stimulus::{SimError, Stimulus};
 
+/// Adds the comment that tells where the loop begins.
+fn push_comment(text: &mut Vec<u8>, start: Option<usize>) -> Result<(), Refused>
+    ensures { OnOk result (text.new.items ≡ text.old.items ++ comment_text start) }
+{
+    let Some(time) = start else {
+        return Ok(());
+    };
+    extend(text, b"$comment loop ")?;
+    push_number(text, time as u64)?;
+    extend(text, b" $end\n")?;
+    Ok(())
+}
+
 /// Adds what comes before the first time.
-fn push_head(text: &mut Vec<u8>, bits: &[Bit<'_>], signals: &[Signal]) -> Result<(), Refused>
+fn push_head(
+    text: &mut Vec<u8>,
+    bits: &[Bit<'_>],
+    signals: &[Signal],
+    start: Option<usize>,
+) -> Result<(), Refused>
     requires { All (λ s. (s.first < s.end) × (s.end ≤ length bits.now)) signals.now }
-    ensures { OnOk result (text.new.items ≡ text.old.items ++ head_text bits.now signals.now) }
+    ensures { OnOk result (text.new.items ≡ text.old.items ++ head_text bits.now signals.now start) }
 {
     extend(text, b"$timescale 1 ns $end\n")?;
     push_variables(text, bits, signals)?;
+    push_comment(text, start)?;
     extend(text, b"$enddefinitions $end\n")?;
     Ok(())
 }
@@ -35,13 +54,14 @@ fn wave(
     signals: &[Signal],
     values: &[bool],
     times: usize,
+    start: Option<usize>,
 ) -> Result<Vec<u8>, Refused>
     requires inside { All (λ s. (s.first < s.end) × (s.end ≤ length bits.now)) signals.now }
     requires values { AreValues bits.now times values.now }
-    ensures { IfOk result (λ v. (r : List Valuation) → values.now ≡ flat_map (values_at bits.now) r → length r ≡ times → v.items ≡ wave_text bits.now signals.now r) }
+    ensures { IfOk result (λ v. (r : List Valuation) → values.now ≡ flat_map (values_at bits.now) r → length r ≡ times → v.items ≡ wave_text bits.now signals.now r start) }
 {
     let mut text = Vec::new(alloc);
-    push_head(&mut text, bits, signals)?;
+    push_head(&mut text, bits, signals, start)?;
     push_times(&mut text, bits, signals, values, times)?;
     Ok(text)
 }
@@ -50,25 +70,27 @@ fn wave(
 fn put_violated<W: Sink>(
     alloc: Global,
     file: &AigerFile,
+    property: Property,
     initial: &[bool],
     inputs: &[Seq<bool>],
     all: bool,
     out: &mut W,
 ) -> Result<(), SimError>
     requires { W.failed out.old < 2 ^ 64 - 1 }
-    ensures put { OnOk result (PutsWaveIn file.now all initial.now inputs.now (W.contents out.old) (W.contents out.new)) }
-    ensures refused { IfErr result (HasWaveCauseIn file.now all initial.now inputs.now (W.contents out.old) (W.contents out.new)) }
+    ensures put { OnOk result (PutsWaveIn file.now all property initial.now inputs.now (W.contents out.old) (W.contents out.new)) }
+    ensures refused { IfErr result (HasWaveCauseIn file.now all property initial.now inputs.now (W.contents out.old) (W.contents out.new)) }
     ensures kept { OnOk result (W.failed out.new ≡ W.failed out.old) }
     ensures device { IfErr result (λ e. e ≡ SimError.Device → W.failed out.new ≡ W.failed out.old + 1) }
     ensures untouched { IfErr result (λ e. e ≢ SimError.Device → out.new ≡ out.old) }
 {
-    let shown = SignalValues::new(alloc, file, initial, inputs, all)?;
+    let shown = SignalValues::new(alloc, file, property, initial, inputs, all)?;
     let text = wave(
         alloc,
         &shown.bits,
         &shown.signals,
         &shown.values,
         inputs.len(),
+        shown.start,
     )?;
     put_all(out, text.as_slice())?;
     Ok(())
@@ -84,7 +106,9 @@ fn put_violated<W: Sink>(
 ///
 /// Time `t` of the replay is time `t` of the dump, a nanosecond each; at time 0 each variable has its value, and at each later time
 /// those that changed. The last line is the time after the last, so that the last values last as long as the others. It has no date.
-/// It looks neither at the constraints nor at the property.
+///
+/// Where the replay closes a lasso of a justice property, the last declaration is `$comment loop TIME $end`, with the first time at
+/// which it begins. It looks neither at the constraints nor, apart from that, at the property.
 ///
 /// The text is made in memory and then put. It refuses the first of no violation (65), a line's length (66), no input line (64)
 /// and a latch against its reset (60), with nothing put. After a failure of the sink a beginning was put.
@@ -102,6 +126,6 @@ pub fn put_vcd<W: Sink>(
     ensures device { IfErr result (λ e. e ≡ SimError.Device → W.failed out.new ≡ W.failed out.old + 1) }
     ensures untouched { IfErr result (λ e. e ≢ SimError.Device → out.new ≡ out.old) }
 {
-    let (initial, inputs) = lines_of(stimulus)?;
-    put_violated(alloc, file, initial, inputs, all, out)
+    let (property, initial, inputs) = lines_of(stimulus)?;
+    put_violated(alloc, file, property, initial, inputs, all, out)
 }

@@ -4,25 +4,31 @@ use Rattle.std.specs.List.{flat_map}
 use Rattle.base.proofs.Putting.{puts_of, puts_then}
 use Rattle.stimulus.proofs.WriteLaws.{first_fails}
 use Rattle.trace.specs.Signals.{bits_of, signal_name}
-use Rattle.trace.specs.Traces.{value_text}
+use Rattle.trace.specs.Traces.{cell_text, names_width}
+use Rattle.trace.specs.Widths.{at_left}
 use Rattle.trace.proofs.table.put_row.Goals as goal
 
-pub returns-in_err-put_signal_name-clause-puts : goal.returns-in_err-put_signal_name-clause-puts
-returns-in_err-put_signal_name-clause-puts g c = λ r is long.
-    let bits = bits_of c.args.bits.now c.args.signal in
+pub returns-in_err-put_name-clause-puts : goal.returns-in_err-put_name-clause-puts
+returns-in_err-put_name-clause-puts g c = λ signals r is names widths.
+    let bits = c.args.bits.now in
     let e = c.from_residual in
-    first_fails e.result _ _ (signal_name bits) (flat_map (value_text bits) r ++ codes "\n") e.ensures.0 c.in_err-put_signal_name.ensures.puts
+    first_fails e.result _ _ (at_left (names_width bits signals) (signal_name (bits_of bits c.args.signal))) (flat_map (cell_text bits signals c.args.signal) r ++ codes "\n") e.ensures.0
+    (rw names at c.in_err-put_name.ensures.puts)
 
 pub returns-in_err-put_values-clause-puts : goal.returns-in_err-put_values-clause-puts
-returns-in_err-put_values-clause-puts g c = λ r is long.
-    let bits = bits_of c.args.bits.now c.args.signal in
+returns-in_err-put_values-clause-puts g c = λ signals r is names widths.
+    let bits = c.args.bits.now in
+    let name = at_left (names_width bits signals) (signal_name (bits_of bits c.args.signal)) in
+    let values = flat_map (cell_text bits signals c.args.signal) r in
     let e = c.from_residual-in_err-put_values in
-    puts_then e.result _ (g.W.Sink.contents c.put_signal_name.new.out) _ (signal_name bits) (flat_map (value_text bits) r ++ codes "\n") c.in_ok-put_signal_name.ensures.puts
-    (first_fails e.result _ _ (flat_map (value_text bits) r) (codes "\n") e.ensures.0 (c.in_err-put_values.ensures.puts r is long))
+    puts_then e.result _ (g.W.Sink.contents c.put_name.new.out) _ name (values ++ codes "\n") (rw names at c.in_ok-put_name.ensures.puts)
+    (first_fails e.result _ _ values (codes "\n") e.ensures.0 (c.in_err-put_values.ensures.puts signals r is widths))
 
 pub returns-clause-puts : goal.returns-clause-puts
-returns-clause-puts g c = λ r is long.
-    let bits = bits_of c.args.bits.now c.args.signal in
+returns-clause-puts g c = λ signals r is names widths.
+    let bits = c.args.bits.now in
+    let name = at_left (names_width bits signals) (signal_name (bits_of bits c.args.signal)) in
+    let values = flat_map (cell_text bits signals c.args.signal) r in
     let e = c.put_all in
-    puts_then e.result _ (g.W.Sink.contents c.put_signal_name.new.out) _ (signal_name bits) (flat_map (value_text bits) r ++ codes "\n") c.in_ok-put_signal_name.ensures.puts
-    (puts_then e.result _ (g.W.Sink.contents c.put_values.new.out) _ (flat_map (value_text bits) r) (codes "\n") (c.in_ok-put_values.ensures.puts r is long) (puts_of e.result _ _ (codes "\n") e.ensures.whole e.ensures.beginning))
+    puts_then e.result _ (g.W.Sink.contents c.put_name.new.out) _ name (values ++ codes "\n") (rw names at c.in_ok-put_name.ensures.puts)
+    (puts_then e.result _ (g.W.Sink.contents c.put_values.new.out) _ values (codes "\n") (c.in_ok-put_values.ensures.puts signals r is widths) (puts_of e.result _ _ (codes "\n") e.ensures.whole e.ensures.beginning))

@@ -4,10 +4,10 @@ use Rattle.trace.specs.Waves.{HasWaveCause}
 use Rattle.trace.proofs.WaveLaws.{no_wave}
 use Rattle.trace.proofs.waves.put_vcd.Goals as goal
 
-pub returns-in_err-initial-clause-refused : goal.returns-in_err-initial-clause-refused
-returns-in_err-initial-clause-refused g c =
+pub returns-in_err-property-clause-refused : goal.returns-in_err-property-clause-refused
+returns-in_err-property-clause-refused g c =
     let before = g.W.Sink.contents c.args.out.now in
-    let none = c.in_err-initial.ensures.none in
+    let none = c.in_err-property.ensures.none in
     let stands = no_wave c.args.file.now c.args.all c.args.stimulus.now before before none.1 in
-    err_at c.from_residual.result c.in_err-initial.field-0.0 (HasWaveCause c.args.file.now c.args.all c.args.stimulus.now before before) c.from_residual.ensures.1
+    err_at c.from_residual.result c.in_err-property.field-0.0 (HasWaveCause c.args.file.now c.args.all c.args.stimulus.now before before) c.from_residual.ensures.1
     (subst (HasWaveCause c.args.file.now c.args.all c.args.stimulus.now before before) (sym none.0) stands)

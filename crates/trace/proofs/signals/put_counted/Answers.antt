@@ -1,7 +1,7 @@
 use Rattle.std.proofs.Common.{◌≡◌, ◌∙◌}
 use Rattle.std.specs.Prelude.{decimal}
 use Rattle.base.proofs.Putting.{puts_of, puts_then}
-use Rattle.trace.proofs.signals.put_number.Goals as goal
+use Rattle.trace.proofs.signals.put_counted.Goals as goal
 
 pub returns-clause-puts : goal.returns-clause-puts
 returns-clause-puts g c =

@@ -1,0 +1,9 @@
+use Rattle.std.proofs.Common.{◌∙◌, ℕ, max, ap}
+use Rattle.trace.specs.Signals.{bits_of, signal_name}
+use Rattle.trace.proofs.WidthLaws.{width_more}
+use Rattle.trace.proofs.widths.names_width.Goals as goal
+
+pub loop-signal-preserved : goal.loop-signal-preserved
+loop-signal-preserved c =
+    width_more (λ s. signal_name (bits_of c.args.bits.now s)) c.args.signals.now c.loop-signal.signal-index (record { first = 0; end = 0 }) c.loop-signal.width c.max-width.result c.loop-signal-test.true c.loop-signal.invariant
+    (c.max-width.ensures ∙ ap (λ (n : ℕ). max c.loop-signal.width n) c.signal_name_length.ensures)

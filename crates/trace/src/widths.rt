@@ -1,0 +1,76 @@
+//! The widths of a table's columns.
+
+ghost use Rattle.std.specs.Prelude.{◌≡◌, ◌≤◌, ◌<◌, ◌-◌, ◌^◌, ◌++◌, List, All, length, map, IfOk};
+ghost use Rattle.std.specs.List.{flat_map};
+ghost use Rattle.base.specs.Devices.{CountsFailure, Puts};
+ghost use Rattle.graph.specs.Valuation.{Valuation};
+ghost use Rattle.trace.specs.Changes.{part_of};
+ghost use Rattle.trace.specs.Columns.{AreValues, values_at};
+ghost use Rattle.trace.specs.Numbers.{number_text};
+ghost use Rattle.trace.specs.Traces.{names_width as width_of_names, values_width as width_of_values};
+ghost use Rattle.trace.specs.Widths.{spaces, width_of};
+
+use crate::bits::Bit;
+use crate::numbers::number_length;
+use crate::signals::{Signal, signal_name_length};
+use base::{Refused, push};
+use graph::{Failed, Sink, put_all};
+use std::alloc::Global;
+
+/// Puts this many spaces.
+pub fn put_spaces<W: Sink>(out: &mut W, count: usize) -> Result<(), Failed>
+    requires { W.failed out.old < 2 ^ 64 - 1 }
+    ensures puts { Puts result (W.contents out.old) (W.contents out.new) (spaces count) }
+    ensures counts { CountsFailure (W.failed out.old) (W.failed out.new) result }
+{
+    for _space in 0..count {
+        put_all(out, b" ")?;
+    }
+    Ok(())
+}
+
+/// The width of the names of the signals.
+pub fn names_width(bits: &[Bit<'_>], signals: &[Signal]) -> usize
+    requires { All (λ s. (s.first < s.end) × (s.end ≤ length bits.now)) signals.now }
+    ensures { result ≡ width_of_names bits.now signals.now }
+{
+    let mut width = 0usize;
+    for signal in signals {
+        width = width.max(signal_name_length(&bits[signal.first..signal.end]));
+    }
+    width
+}
+
+/// The width of the values of the signals in a row.
+fn row_width(row: &[bool], signals: &[Signal]) -> usize
+    requires { All (λ s. (s.first < s.end) × (s.end ≤ length row.now)) signals.now }
+    ensures { result ≡ width_of (map (λ s. number_text (part_of row.now s)) signals.now) }
+{
+    let mut width = 0usize;
+    for signal in signals {
+        width = width.max(number_length(&row[signal.first..signal.end]));
+    }
+    width
+}
+
+/// The width of the values at each time. `values` has those of all bits, time after time.
+pub fn values_widths(
+    alloc: Global,
+    bits: &[Bit<'_>],
+    signals: &[Signal],
+    values: &[bool],
+    times: usize,
+) -> Result<Vec<usize>, Refused>
+    requires inside { All (λ s. (s.first < s.end) × (s.end ≤ length bits.now)) signals.now }
+    requires values { AreValues bits.now times values.now }
+    ensures { IfOk result (λ v. (r : List Valuation) → values.now ≡ flat_map (values_at bits.now) r → length r ≡ times → v.items ≡ map (width_of_values bits.now signals.now) r) }
+{
+    let mut widths = Vec::new(alloc);
+    let mut rest = values;
+    for _time in 0..times {
+        let (now, later) = rest.split_at(bits.len());
+        push(&mut widths, row_width(now, signals))?;
+        rest = later;
+    }
+    Ok(widths)
+}
