@@ -76,12 +76,15 @@ def quiet(scratch):
 
 
 def lines(done):
-    """The lines of JSON that a program put, where they are all that it put, without their seconds, and its status."""
+    """The lines of JSON that a program put, where they are all that it put, and its status. The seconds are left out, and where
+    there are steps these too."""
     out, told, status = done
     expect((out[-1:], told, out.isascii()), (b"\n", b"", True), "the end of what it puts, and what it says")
     found = [json.loads(line) for line in out.splitlines()]
     times = [line.pop("seconds") for line in found]
     expect([time for time in times if not 0 <= time < 60], [], "times that can't be")
+    steps = [line.pop("steps") for line in found if "steps" in line]
+    expect([count for count in steps if not 0 < count <= 200_000_000], [], "steps that can't be")
     expect(out.count(b'"seconds":'), len(re.findall(rb'"seconds":\d+\.\d{3},', out)), "seconds with three decimals")
     return found, status
 
@@ -99,6 +102,7 @@ def told_in_json(scratch):
     violated = other | {"verdict": "violated", "evidence": f"{shown}/b1.stim"} | found
     done = program(scratch, "aigmc", "all", "circuit.aag", "--json", "--out", folder)
     expect(lines(done), ([holds, violated], 1), "what aigmc all does")
+    expect(done[0].count(b'"steps":'), 2, "lines with steps")
     safe = first | {"verdict": "safe", "evidence": f"{shown}/b0.cert", "number": None}
     shows = other | {"verdict": "violated", "evidence": f"{shown}/b1.stim", "number": None}
     done = program(scratch, "aigcheck", "all", "circuit.aag", folder, "--json")
