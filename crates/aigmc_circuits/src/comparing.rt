@@ -1,6 +1,8 @@
 //! The miter that the command `equal` asks about: it has a run to its bad literal where two circuits differ.
 
-use aigmc_files::{Role, Stop, at, circuit, circuit_of, expect_folder, is_taken, is_terminal, make};
+use aigmc_files::{
+    Role, Stop, at, circuit, circuit_of, expect_folder, is_taken, is_terminal, make,
+};
 use cli::Layout;
 use graph::{AigerFile, Model, Property};
 use inputs::is_standard;

@@ -133,11 +133,7 @@ impl Question<'_> {
 
     /// Asks the engines for evidence about the property. IC3 tries these clauses first. Where it is asked for, or standard
     /// error is a terminal, that says how far they are. Answers how many steps of the budget are spent too.
-    pub fn ask(
-        self,
-        rt: &HostRuntime,
-        candidates: Seq<Seq<Lit>>,
-    ) -> Result<(Verdict, u64), Stop> {
+    pub fn ask(self, rt: &HostRuntime, candidates: Seq<Seq<Lit>>) -> Result<(Verdict, u64), Stop> {
         let search = self.timing.search;
         let (budget, depth) = (search.budget, search.depth);
         let answer = match search.engine {

@@ -46,11 +46,7 @@ fn add_chain(parts: &mut Parts, steps: u8) -> Result<Lit, Refused> {
 }
 
 /// The circuit with a bad literal that is set from this number of steps on, and with that alone.
-pub fn bad_behind(
-    alloc: Global,
-    circuit: &Model,
-    steps: u8,
-) -> Result<AigerFile, TransformError> {
+pub fn bad_behind(alloc: Global, circuit: &Model, steps: u8) -> Result<AigerFile, TransformError> {
     let mut parts: Parts = circuit.parts().copy(alloc)?;
     let last = add_chain(&mut parts, steps)?;
     let watching = watching(alloc, parts, last)?;

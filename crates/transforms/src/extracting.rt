@@ -99,7 +99,11 @@ fn add_unnamed(
 }
 
 /// The names in the circuit of the property: each input and latch has one.
-fn names(alloc: Global, file: &AigerFile, property: Property) -> Result<Vec<Symbol>, TransformError> {
+fn names(
+    alloc: Global,
+    file: &AigerFile,
+    property: Property,
+) -> Result<Vec<Symbol>, TransformError> {
     let mut symbols = Vec::new(alloc);
     let mut inputs = filled_like(alloc, false, file.model().inputs())?;
     let mut latches = filled_like(alloc, false, file.model().latches())?;

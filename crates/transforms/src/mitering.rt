@@ -278,7 +278,12 @@ fn joined<'a>(
 }
 
 /// What a latch is called in the miter: behind the letter its name, or `lo` and its position where it has none.
-fn called(alloc: Global, letter: &str, name: &[u8], position: u32) -> Result<Vec<u8>, TransformError> {
+fn called(
+    alloc: Global,
+    letter: &str,
+    name: &[u8],
+    position: u32,
+) -> Result<Vec<u8>, TransformError> {
     if name.is_empty() {
         let Ok(text) = format!(in alloc; "{letter}lo{position}") else {
             return Err(TransformError::Name);

@@ -69,7 +69,11 @@ fn names(alloc: Global, file: &AigerFile, justice: u32) -> Result<Vec<Symbol>, R
 /// The file of the shadow circuit of the justice property at the position: its inputs, latches and constraints have the
 /// names that they have in the circuit's file, the copy of a latch is called `copy.` and the latch's name, the new input
 /// `save`, the latch that it sets `saved`, and the bad literal as the justice property.
-pub fn shadow_file(alloc: Global, file: &AigerFile, position: u32) -> Result<AigerFile, TransformError> {
+pub fn shadow_file(
+    alloc: Global,
+    file: &AigerFile,
+    position: u32,
+) -> Result<AigerFile, TransformError> {
     let model = to_safety(alloc, file.model(), position)?;
     let symbols = Seq::from_vec(names(alloc, file, position)?);
     let shadow = AigerFile::new(alloc, model, symbols, None)?;
