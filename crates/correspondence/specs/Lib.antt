@@ -1,3 +1,2 @@
-pub mod Played
 pub mod Equal
 pub mod Answered

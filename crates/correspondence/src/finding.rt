@@ -6,11 +6,11 @@ ghost use Rattle.engine.specs.Findings.{IsForBad, IsInvariant};
 
 use crate::classes::Classes;
 use crate::equalities::Equalities;
-use crate::opened::opened;
 use crate::rounds::Outcome;
 use crate::search::Search;
 use graph::{Budget, Lit, Model, Seq};
 use inductive_subset::safe_inductive_subset;
+use random_runs::opened;
 use solver::{Sat, SatError};
 use std::alloc::Global;
 

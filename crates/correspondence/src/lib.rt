@@ -22,12 +22,9 @@
 
 mod classes;
 mod corresponding;
-mod drawing;
 mod equalities;
 mod finding;
-mod opened;
 mod rounds;
-mod runs;
 mod search;
 
 pub use corresponding::Corresponding;

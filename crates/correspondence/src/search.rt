@@ -3,12 +3,11 @@
 ghost use Rattle.base.specs.Budget.{Spends};
 
 use crate::classes::Classes;
-use crate::drawing::{Bias, draw_biases, draw_row, rare, uniform};
-use crate::runs::Runs;
 use base::{Refused, push};
 use graph::{Budget, Latch, Model};
 use rand_core::SeedableRng;
 use rand_pcg::Lcg128Xsl64;
+use random_runs::{Bias, Runs, draw_biases, draw_row, rare, uniform};
 use simulate::lanes::{all, both, negated_if, value};
 use std::alloc::Global;
 use std::simd::u64x4;

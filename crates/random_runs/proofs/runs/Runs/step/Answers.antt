@@ -1,6 +1,6 @@
 use Rattle.std.proofs.Common.{◌≡◌, ◌∙◌, ◌+◌, ◌*◌, ◌≤◌, arith}
 use Rattle.graph.proofs.Tabled.{holds_of_used}
-use Rattle.correspondence.proofs.runs.Runs.step.Goals as goal
+use Rattle.random_runs.proofs.runs.Runs.step.Goals as goal
 
 pub setting-requires-clause-in_range : goal.setting-requires-clause-in_range
 setting-requires-clause-in_range c =

@@ -18,7 +18,7 @@ fn opened_latches(alloc: Global, latches: &[Latch]) -> Result<Seq<Latch>, Refuse
 }
 
 /// The same circuit, but that it begins in any state. None where that were no circuit.
-pub(crate) fn opened(alloc: Global, circuit: &Model) -> Result<Option<Model>, Refused> {
+pub fn opened(alloc: Global, circuit: &Model) -> Result<Option<Model>, Refused> {
     let mut parts = circuit.parts().copy(alloc)?;
     parts.latches = opened_latches(alloc, circuit.latches())?;
     match Model::from_parts(alloc, parts) {

@@ -8,7 +8,7 @@ use std::alloc::Global;
 use std::simd::u64x4;
 
 /// A value for each run, each as likely as the other.
-pub(crate) fn uniform(generator: &mut Lcg128Xsl64) -> u64x4 {
+pub fn uniform(generator: &mut Lcg128Xsl64) -> u64x4 {
     let first = generator.next_word();
     let second = generator.next_word();
     let third = generator.next_word();
@@ -17,7 +17,7 @@ pub(crate) fn uniform(generator: &mut Lcg128Xsl64) -> u64x4 {
 }
 
 /// A value for each run, true in one of sixteen.
-pub(crate) fn rare(generator: &mut Lcg128Xsl64) -> u64x4 {
+pub fn rare(generator: &mut Lcg128Xsl64) -> u64x4 {
     let first = both(uniform(generator), uniform(generator));
     let second = both(uniform(generator), uniform(generator));
     both(first, second)
@@ -25,7 +25,7 @@ pub(crate) fn rare(generator: &mut Lcg128Xsl64) -> u64x4 {
 
 /// How the values of an input are drawn.
 #[derive(Clone, Copy)]
-pub(crate) enum Bias {
+pub enum Bias {
     /// Each as likely as the other.
     Uniform,
     /// False, but for a quarter of the runs.
@@ -65,7 +65,7 @@ impl Bias {
 }
 
 /// A bias for each of a number of inputs.
-pub(crate) fn draw_biases(
+pub fn draw_biases(
     alloc: Global,
     count: usize,
     generator: &mut Lcg128Xsl64,
@@ -78,7 +78,7 @@ pub(crate) fn draw_biases(
 }
 
 /// Values of as many inputs as there are biases.
-pub(crate) fn draw_row(
+pub fn draw_row(
     alloc: Global,
     biases: &[Bias],
     generator: &mut Lcg128Xsl64,

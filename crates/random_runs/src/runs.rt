@@ -1,6 +1,6 @@
 //! 256 runs from any states.
 
-ghost use Rattle.std.specs.Prelude.{◌≡◌, ◌≤◌, All, IsSome};
+ghost use Rattle.std.specs.Prelude.{◌≡◌, ◌≤◌, All, IfOk, IfSome, IsSome, IsTrue};
 ghost use Rattle.graph.specs.Valuation.{variable};
 
 use base::Refused;
@@ -12,7 +12,7 @@ use std::simd::u64x4;
 
 /// 256 runs of a circuit. A run is in until it breaks a constraint.
 #[derive(Drop)]
-pub(crate) struct Runs<'a> {
+pub struct Runs<'a> {
     circuit: &'a Model,
     wide: Wide<'a>,
     // those that are still in
@@ -21,7 +21,7 @@ pub(crate) struct Runs<'a> {
 
 impl<'a> std::marker::Model for Runs<'a> {
     ghost use Rattle.std.specs.Prelude.{◌≡◌};
-    ghost use Rattle.correspondence.specs.Played.{Played};
+    ghost use Rattle.random_runs.specs.Played.{Played};
 
     ghost Value = { Played };
 
@@ -44,11 +44,13 @@ fn setting(wide: &Wide, marked: u64x4, lits: &[Lit]) -> u64x4
 
 impl<'a> Runs<'a> {
     /// Runs from these states. None where they are not as many as the latches, or against the resets.
-    pub(crate) fn begin(
+    pub fn begin(
         alloc: Global,
         circuit: &'a Model,
         states: &[u64x4],
-    ) -> Result<Option<Runs<'a>>, Refused> {
+    ) -> Result<Option<Runs<'a>>, Refused>
+        ensures { IfOk result (λ r. IfSome r (λ x. x.circuit ≡ circuit.now)) }
+    {
         if states.len() != circuit.latches().len() {
             return Ok(None);
         }
@@ -63,31 +65,43 @@ impl<'a> Runs<'a> {
         }
     }
 
-    /// Goes one step by these inputs. Runs that break a constraint are out from now on, and all of them where the
-    /// inputs are not as many as the circuit's.
-    pub(crate) fn step(&mut self, inputs: &[u64x4]) {
+    /// Goes one step by these inputs. Runs that break a constraint are out from now on. False where the inputs are not as
+    /// many as the circuit's: then all runs are out.
+    pub fn step(&mut self, inputs: &[u64x4]) -> bool
+        ensures circuit { self.new.circuit ≡ self.old.circuit }
+        ensures stepped { IsTrue result → IsSome self.new.wide.now }
+    {
         if inputs.len() != self.circuit.inputs().len() {
             self.running = all(false).to_array();
-            return;
+            return false;
         }
         self.wide.step(inputs);
         let constraints = self.circuit.parts().constraints.as_slice();
         let running = u64x4::from_array(self.running);
         self.running = setting(&self.wide, running, constraints).to_array();
+        true
+    }
+
+    /// The values of a literal at the time that was stepped last.
+    pub fn value(&self, lit: Lit) -> u64x4
+        requires stepped { IsSome self.now.wide.now }
+        requires in_range { variable lit ≤ self.now.circuit.max_var }
+    {
+        self.wide.value(lit)
     }
 
     /// The states that the runs have come to.
-    pub(crate) fn states(&self) -> &[u64x4] {
+    pub fn states(&self) -> &[u64x4] {
         self.wide.state()
     }
 
     /// The runs that are in.
-    pub(crate) fn running(&self) -> u64x4 {
+    pub fn running(&self) -> u64x4 {
         u64x4::from_array(self.running)
     }
 
     /// Whether no run is in.
-    pub(crate) fn is_over(&self) -> bool {
+    pub fn is_over(&self) -> bool {
         none(self.running())
     }
 }

@@ -1,0 +1,107 @@
+//! The gates near some variables.
+
+use crate::unit::unit;
+use base::{Refused, filled, push};
+use cones::GateTable;
+use graph::{Gate, Lit, Model};
+use solver::{AndGate, Part};
+use std::alloc::Global;
+
+/// The gates of a circuit by their variables, for parts of it.
+#[derive(Drop)]
+pub struct Near {
+    table: GateTable,
+    /// a mark for each variable, of which none is set between two calls
+    marks: Vec<bool>,
+    /// the literal of what is true
+    truth: i32,
+}
+
+/// The gate as a part has it.
+fn and_gate(truth: i32, gate: Gate) -> AndGate {
+    AndGate {
+        lhs: unit(truth, gate.lhs),
+        rhs0: unit(truth, gate.rhs0),
+        rhs1: unit(truth, gate.rhs1),
+    }
+}
+
+impl Near {
+    /// Nothing marked yet. It costs the circuit.
+    pub fn new(alloc: Global, circuit: &Model) -> Result<Near, Refused> {
+        circuit.well_formed();
+        let table = GateTable::new(alloc, circuit)?;
+        let marks = filled(alloc, false, circuit.max_var() as usize + 1)?;
+        let truth = (circuit.max_var() + 1) as i32;
+        Ok(Near {
+            table,
+            marks,
+            truth,
+        })
+    }
+
+    /// Marks the variable, and adds it to the list where it was not marked.
+    fn mark(&mut self, list: &mut Vec<u32>, variable: u32) -> Result<(), Refused> {
+        if let Some(mark) = self.marks.get_mut(variable as usize)
+            && !*mark
+        {
+            *mark = true;
+            push(list, variable)?;
+        }
+        Ok(())
+    }
+
+    /// Takes the listed marks away.
+    fn unmark(&mut self, list: &[u32]) {
+        for variable in list {
+            if let Some(mark) = self.marks.get_mut(*variable as usize) {
+                *mark = false;
+            }
+        }
+    }
+
+    /// The gates of which what is listed is made, the nearest first, as many at most. The list grows by what they read.
+    fn gates(
+        &mut self,
+        alloc: Global,
+        list: &mut Vec<u32>,
+        most: usize,
+    ) -> Result<Vec<AndGate>, Refused> {
+        let mut gates = Vec::new(alloc);
+        'walking: for next in 0..self.marks.len() {
+            if next >= list.len() || gates.len() >= most {
+                return Ok(gates);
+            }
+            if let Some(gate) = self.table.gate_of(list[next]) {
+                push(&mut gates, and_gate(self.truth, gate))?;
+                self.mark(list, gate.rhs0.variable())?;
+                self.mark(list, gate.rhs1.variable())?;
+            }
+        }
+        Ok(gates)
+    }
+
+    /// The part of the gates of which these variables are made, the nearest first, as many at most, in which these literals
+    /// are true. It costs this part. After a refusal the marks are worth nothing.
+    pub fn part(
+        &mut self,
+        alloc: Global,
+        variables: &[u32],
+        wanted: &[Lit],
+        most: usize,
+    ) -> Result<Part, Refused> {
+        let mut list = Vec::new(alloc);
+        let mut literals = Vec::new(alloc);
+        push(&mut literals, self.truth)?;
+        'wanting: for lit in wanted {
+            push(&mut literals, unit(self.truth, *lit))?;
+            self.mark(&mut list, lit.variable())?;
+        }
+        'marking: for variable in variables {
+            self.mark(&mut list, *variable)?;
+        }
+        let gates = self.gates(alloc, &mut list, most)?;
+        self.unmark(list.as_slice());
+        Ok(Part { gates, literals })
+    }
+}
