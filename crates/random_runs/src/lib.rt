@@ -8,9 +8,9 @@
 #![tactic(auto)]
 
 mod drawing;
-mod opened;
+mod opening;
 mod runs;
 
 pub use drawing::{Bias, draw_biases, draw_row, rare, uniform};
-pub use opened::opened;
+pub use opening::opened;
 pub use runs::Runs;

@@ -82,11 +82,13 @@ impl<'a> Runs<'a> {
         true
     }
 
-    /// The values of a literal at the time that was stepped last.
+    /// The values of a literal at the time that was stepped last, or false of a variable that the circuit does not have.
     pub fn value(&self, lit: Lit) -> u64x4
-        requires stepped { IsSome self.now.wide.now }
-        requires in_range { variable lit ≤ self.now.circuit.max_var }
+        requires { IsSome self.now.wide.now }
     {
+        if lit.variable() > self.circuit.max_var() {
+            return all(false);
+        }
         self.wide.value(lit)
     }
 

@@ -1,7 +1,7 @@
 //! Latches that clauses say are equal.
 
 use base::{Refused, filled, filled_like, insert_key};
-use graph::{Latch, Lit, Model, Seq};
+use graph::{Lit, Model, Seq};
 use std::alloc::Global;
 use std::collections::BTreeSet;
 
@@ -33,17 +33,18 @@ fn negated(lit: Lit) -> Lit {
 
 /// The literal, negated where the other one is.
 fn negated_as(lit: Lit, other: Lit) -> Lit {
-    if other.is_negated() { negated(lit) } else { lit }
+    if other.is_negated() {
+        negated(lit)
+    } else {
+        lit
+    }
 }
 
 /// For each variable the position of its latch, or 0.
-fn positions_of(
-    alloc: Global,
-    max_var: u32,
-    latches: &[Latch],
-) -> Result<Vec<usize>, Refused> {
-    let mut positions = filled(alloc, 0, max_var as usize + 1)?;
-    for (position, latch) in latches.iter().enumerate() {
+fn positions_of(alloc: Global, circuit: &Model) -> Result<Vec<usize>, Refused> {
+    circuit.well_formed();
+    let mut positions = filled(alloc, 0, circuit.max_var() as usize + 1)?;
+    for (position, latch) in circuit.latches().iter().enumerate() {
         if let Some(place) = positions.get_mut(latch.lit.variable() as usize) {
             *place = position;
         }
@@ -54,9 +55,8 @@ fn positions_of(
 impl EqualLatches {
     /// Nothing is said of the circuit's latches.
     fn new(alloc: Global, circuit: &Model) -> Result<EqualLatches, Refused> {
-        circuit.well_formed();
         Ok(EqualLatches {
-            positions: positions_of(alloc, circuit.max_var(), circuit.latches())?,
+            positions: positions_of(alloc, circuit)?,
             equal: filled_like(alloc, None, circuit.latches())?,
             pairs: BTreeSet::new(alloc),
         })

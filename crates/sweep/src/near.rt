@@ -14,11 +14,11 @@ pub struct Near {
     /// a mark for each variable, of which none is set between two calls
     marks: Vec<bool>,
     /// the literal of what is true
-    truth: i32,
+    truth: u32,
 }
 
 /// The gate as a part has it.
-fn and_gate(truth: i32, gate: Gate) -> AndGate {
+fn and_gate(truth: u32, gate: Gate) -> AndGate {
     AndGate {
         lhs: unit(truth, gate.lhs),
         rhs0: unit(truth, gate.rhs0),
@@ -32,7 +32,7 @@ impl Near {
         circuit.well_formed();
         let table = GateTable::new(alloc, circuit)?;
         let marks = filled(alloc, false, circuit.max_var() as usize + 1)?;
-        let truth = (circuit.max_var() + 1) as i32;
+        let truth = circuit.max_var() + 1;
         Ok(Near {
             table,
             marks,
@@ -92,7 +92,7 @@ impl Near {
     ) -> Result<Part, Refused> {
         let mut list = Vec::new(alloc);
         let mut literals = Vec::new(alloc);
-        push(&mut literals, self.truth)?;
+        push(&mut literals, unit(self.truth, Lit(1)))?;
         'wanting: for lit in wanted {
             push(&mut literals, unit(self.truth, *lit))?;
             self.mark(&mut list, lit.variable())?;

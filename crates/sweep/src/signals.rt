@@ -1,10 +1,9 @@
 //! The signals of a circuit in random states.
 
-ghost use Rattle.std.specs.Prelude.{◌≡◌, ◌≤◌, All, IfOk, IsSome, OnOk};
-ghost use Rattle.graph.specs.Valuation.{variable};
+ghost use Rattle.std.specs.Prelude.{◌<◌, IsSome};
 
 use base::{Refused, filled, filled_like, push};
-use graph::{Latch, Lit, Model};
+use graph::{Lit, Model};
 use rand_core::SeedableRng;
 use rand_pcg::Lcg128Xsl64;
 use random_runs::{Runs, opened, uniform};
@@ -36,10 +35,7 @@ fn mixed(number: u64, values: u64x4) -> u64 {
 }
 
 /// The circuit's signals, each behind what it is made of.
-fn lits_of(alloc: Global, circuit: &Model) -> Result<Vec<Lit>, Refused>
-    ensures { IfOk result (λ v. All (λ a. variable a ≤ circuit.now.max_var) v.items) }
-{
-    circuit.well_formed();
+fn lits_of(alloc: Global, circuit: &Model) -> Result<Vec<Lit>, Refused> {
     let mut lits = Vec::new(alloc);
     push(&mut lits, Lit(0))?;
     for input in circuit.inputs() {
@@ -48,24 +44,25 @@ fn lits_of(alloc: Global, circuit: &Model) -> Result<Vec<Lit>, Refused>
     for latch in circuit.latches() {
         push(&mut lits, latch.lit)?;
     }
-    let gates = circuit.gates();
     for place in circuit.order() {
-        push(&mut lits, gates[*place as usize].lhs)?;
+        if let Some(gate) = circuit.gates().get(*place as usize) {
+            push(&mut lits, gate.lhs)?;
+        }
     }
     Ok(lits)
 }
 
-/// A random state in which the latches are equal that are said to be.
+/// Random states in which the latches are equal that are said to be.
 fn states(
     alloc: Global,
-    max_var: u32,
-    latches: &[Latch],
+    circuit: &Model,
     equal: &[Option<Lit>],
     generator: &mut Lcg128Xsl64,
 ) -> Result<Vec<u64x4>, Refused> {
-    let mut values = filled(alloc, all(false), max_var as usize + 1)?;
+    circuit.well_formed();
+    let mut values = filled(alloc, all(false), circuit.max_var() as usize + 1)?;
     let mut states = Vec::new(alloc);
-    for (position, latch) in latches.iter().enumerate() {
+    for (position, latch) in circuit.latches().iter().enumerate() {
         let same = equal.get(position).copied().unwrap_or(None);
         let drawn = match same {
             Some(lit) => match values.get(lit.variable() as usize) {
@@ -97,9 +94,7 @@ fn inputs(
 
 impl Signals {
     /// No state yet.
-    fn new(alloc: Global, circuit: &Model) -> Result<Signals, Refused>
-        ensures { IfOk result (λ s. All (λ a. variable a ≤ circuit.now.max_var) s.lits.items) }
-    {
+    fn new(alloc: Global, circuit: &Model) -> Result<Signals, Refused> {
         let lits = lits_of(alloc, circuit)?;
         let numbers = filled_like(alloc, 0, lits.as_slice())?;
         Ok(Signals {
@@ -113,8 +108,6 @@ impl Signals {
     fn turn(&mut self, runs: &Runs<'_>, run: u32)
         requires run { run < 256 }
         requires stepped { IsSome runs.now.wide.now }
-        requires in_range { All (λ a. variable a ≤ runs.now.circuit.max_var) self.old.lits.items }
-        ensures { All (λ a. variable a ≤ runs.now.circuit.max_var) self.new.lits.items }
     {
         for lit in self.lits.as_mut_slice() {
             if value(runs.value(*lit), run) {
@@ -126,8 +119,6 @@ impl Signals {
     /// Notes the values in the runs that are in.
     fn add(&mut self, runs: &Runs<'_>)
         requires stepped { IsSome runs.now.wide.now }
-        requires in_range { All (λ a. variable a ≤ runs.now.circuit.max_var) self.old.lits.items }
-        ensures { All (λ a. variable a ≤ runs.now.circuit.max_var) self.new.lits.items }
     {
         let Some(first) = lowest(runs.running()) else {
             return;
@@ -152,12 +143,8 @@ fn draw(
     equal: &[Option<Lit>],
     generator: &mut Lcg128Xsl64,
     signals: &mut Signals,
-) -> Result<bool, Refused>
-    requires same { opened.now.max_var ≡ circuit.now.max_var }
-    requires in_range { All (λ a. variable a ≤ circuit.now.max_var) signals.old.lits.items }
-    ensures { OnOk result (All (λ a. variable a ≤ circuit.now.max_var) signals.new.lits.items) }
-{
-    let states = states(alloc, circuit.max_var(), circuit.latches(), equal, generator)?;
+) -> Result<bool, Refused> {
+    let states = states(alloc, circuit, equal, generator)?;
     let inputs = inputs(alloc, circuit, generator)?;
     let Some(mut runs) = Runs::begin(alloc, opened, states.as_slice())? else {
         return Ok(false);
@@ -174,9 +161,7 @@ pub(crate) fn signals_of(
     alloc: Global,
     circuit: &Model,
     equal: &[Option<Lit>],
-) -> Result<Signals, Refused>
-    ensures { IfOk result (λ s. All (λ a. variable a ≤ circuit.now.max_var) s.lits.items) }
-{
+) -> Result<Signals, Refused> {
     let mut signals = Signals::new(alloc, circuit)?;
     let Some(opened) = opened(alloc, circuit)? else {
         return Ok(signals);

@@ -33,19 +33,31 @@ pub struct Question {
 pub struct Sweep {
     near: Near,
     pairs: Vec<Pair>,
-    truth: i32,
+    truth: u32,
+}
+
+impl std::marker::Model for Sweep {
+    ghost use Rattle.std.specs.Prelude.{ℕ, ◌<◌, ◌≤◌};
+
+    ghost Value = { ℕ };
+
+    ghost view = { λ s. s.truth };
+
+    ghost invariant = { λ s. (0 < s.truth) × (s.truth ≤ 2147483647) };
 }
 
 impl Sweep {
     /// The pairs of the circuit's signals that may be equal, where the latches are equal that the clauses say are so.
-    pub fn new(alloc: Global, circuit: &Model, clauses: &[Seq<Lit>]) -> Result<Sweep, Refused> {
+    pub fn new(alloc: Global, circuit: &Model, clauses: &[Seq<Lit>]) -> Result<Sweep, Refused>
+        ensures { IfOk result (λ s. s ≡ circuit.now.max_var + 1) }
+    {
         circuit.well_formed();
         let latches = EqualLatches::of(alloc, circuit, clauses)?;
         let signals = signals_of(alloc, circuit, latches.equal.as_slice())?;
         Ok(Sweep {
             near: Near::new(alloc, circuit)?,
             pairs: pairs_of(alloc, &signals)?,
-            truth: (circuit.max_var() + 1) as i32,
+            truth: circuit.max_var() + 1,
         })
     }
 
@@ -61,17 +73,24 @@ impl Sweep {
         alloc: Global,
         pair: usize,
         is_turned: bool,
-    ) -> Result<Option<Question>, Refused> {
+    ) -> Result<Option<Question>, Refused>
+        ensures same { self.new ≡ self.old }
+        ensures units { IfOk result (λ r. IfSome r (λ q. All (IsLiteral self.old) q.units.items)) }
+    {
         let Some(found) = self.pairs.get(pair) else {
             return Ok(None);
         };
         let Pair { one, other } = *found;
-        let (high, low) = if is_turned { (other, one) } else { (one, other) };
+        let (high, low) = if is_turned {
+            (other, one)
+        } else {
+            (one, other)
+        };
         let variables = [one.variable(), other.variable()];
         let part = self.near.part(alloc, &variables, &[], GATES)?;
         let mut units = Vec::new(alloc);
         push(&mut units, unit(self.truth, high))?;
-        push(&mut units, unit(self.truth, low).wrapping_neg())?;
+        push(&mut units, unit(self.truth, Lit(low.0 ^ 1)))?;
         Ok(Some(Question { part, units }))
     }
 }
