@@ -52,6 +52,29 @@ fn lits_of(alloc: Global, circuit: &Model) -> Result<Vec<Lit>, Refused> {
     Ok(lits)
 }
 
+/// What a latch is said to be equal to.
+fn equal_to(equal: &[Option<Lit>], position: usize) -> Option<Lit> {
+    match equal.get(position) {
+        Some(same) => *same,
+        None => None,
+    }
+}
+
+/// The values of the literal, of which those of its variable are known.
+fn values_of(values: &[u64x4], lit: Lit) -> u64x4 {
+    match values.get(lit.variable() as usize) {
+        Some(values) => negated_if(*values, lit.is_negated()),
+        None => all(false),
+    }
+}
+
+/// Notes the values of a variable.
+fn note(values: &mut [u64x4], variable: u32, drawn: u64x4) {
+    if (variable as usize) < values.len() {
+        values[variable as usize] = drawn;
+    }
+}
+
 /// Random states in which the latches are equal that are said to be.
 fn states(
     alloc: Global,
@@ -63,17 +86,11 @@ fn states(
     let mut values = filled(alloc, all(false), circuit.max_var() as usize + 1)?;
     let mut states = Vec::new(alloc);
     for (position, latch) in circuit.latches().iter().enumerate() {
-        let same = equal.get(position).copied().unwrap_or(None);
-        let drawn = match same {
-            Some(lit) => match values.get(lit.variable() as usize) {
-                Some(values) => negated_if(*values, lit.is_negated()),
-                None => all(false),
-            },
+        let drawn = match equal_to(equal, position) {
+            Some(lit) => values_of(values.as_slice(), lit),
             None => uniform(generator),
         };
-        if let Some(place) = values.get_mut(latch.lit.variable() as usize) {
-            *place = drawn;
-        }
+        note(values.as_mut_slice(), latch.lit.variable(), drawn);
         push(&mut states, drawn)?;
     }
     Ok(states)
