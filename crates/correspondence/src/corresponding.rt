@@ -8,17 +8,17 @@ ghost use Rattle.correspondence.specs.Answered.{IsAnswered};
 use crate::finding::correspond;
 use engine::{Engine, EngineError, Finding};
 use graph::{Budget, Model};
-use solver::Sat;
+use solver::PartSat;
 use std::alloc::Global;
 
 /// Looks for an invariant of equal latches first, and asks another engine where there is none.
 #[derive(Drop)]
-pub struct Corresponding<S: Sat, E: Engine> {
+pub struct Corresponding<S: PartSat, E: Engine> {
     solver: S,
     inner: E,
 }
 
-impl<S: Sat, E: Engine> Corresponding<S, E> {
+impl<S: PartSat, E: Engine> Corresponding<S, E> {
     /// An engine that asks this solver, and then that engine.
     pub fn new(solver: S, inner: E) -> Corresponding<S, E>
         ensures solver { result.solver ≡ solver }
@@ -28,7 +28,7 @@ impl<S: Sat, E: Engine> Corresponding<S, E> {
     }
 }
 
-impl<S: Sat, E: Engine> Engine for Corresponding<S, E> {
+impl<S: PartSat, E: Engine> Engine for Corresponding<S, E> {
     ghost honest = { λ c. E.honest c.inner };
 
     ghost answers = { λ c m before r after. IsAnswered (E.answers c.inner) m before r after };

@@ -13,8 +13,8 @@
 //! classes at once. A round that splits none ends this. Where the classes of a round don't exclude the bad literal,
 //! no later ones do, and none are answered.
 //!
-//! Nothing of that is trusted: that each clause holds at first is seen by the resets, and all else is asked anew by
-//! `inductive_subset`, which answers the clauses that are needed.
+//! Before a round asks, SAT sweeping (`sweep`) has the solver learn which signals are equal at one time. That each clause holds
+//! at first is seen by the resets; that it holds after a step, and that all exclude the bad literal, by the last round's answers.
 //!
 //! A simulated step costs a pass over the gates and latches, and takes one step of the budget for 64 of them and one more.
 //! A round costs a pass and a query for each clause, which takes what the solver spends.
@@ -26,6 +26,7 @@ mod equalities;
 mod finding;
 mod rounds;
 mod search;
+mod sweeping;
 
 pub use corresponding::Corresponding;
 pub use finding::correspond;

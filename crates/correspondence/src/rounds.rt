@@ -1,45 +1,69 @@
 //! Rounds of induction.
 
-ghost use Rattle.std.specs.Prelude.{◌≡◌, ◌≤◌, ◌+◌, ◌++◌, All, Contains, OnOk, length};
+ghost use Rattle.std.specs.Prelude.{◌≡◌, ◌<◌, ◌≤◌, ◌+◌, ◌++◌, [], true, All, Contains, IfOk, IfSome, IsTrue, List, OnOk, Some, length, slice_index_or};
 ghost use Rattle.base.specs.Budget.{Spends};
+ghost use Rattle.graph.specs.declared.circuit.Lit.{Lit as Literal};
 ghost use Rattle.graph.specs.WellFormed.{used};
 ghost use Rattle.lrat.specs.Literals.{IsLiteral};
+ghost use Rattle.lrat.specs.Shared.{unit_clauses};
+ghost use Rattle.cnf.specs.Clauses.{bad_units, shared_clauses, step_clauses, step_units as step_units_of};
+ghost use Rattle.cnf.specs.Formulas.{bad_literal};
+ghost use Rattle.cnf.specs.Invariants.{AreContradictory};
+ghost use Rattle.cnf.specs.NextTables.{IsTableOf};
+ghost use Rattle.engine.specs.Findings.{IsForBad, IsInvariant};
 ghost use Rattle.correspondence.specs.Equal.{IsEquality};
+ghost use Rattle.correspondence.specs.declared.rounds.Reply.TheVariants.{Holds};
+ghost use Rattle.correspondence.specs.declared.rounds.Round.TheVariants.{Fixed};
 
 use crate::equalities::{Equalities, Member};
 use crate::search::{Search, Situation};
+use crate::sweeping::sweep_pairs;
 use base::{Refused, push};
 use cnf::{NextTable, bad_unit, shared_base, step_units};
 use graph::{Budget, Lit, Model, Seq};
 use lrat::Clause;
-use solver::{Answer, Sat, SatError};
+use solver::{Answer, Part, PartSat, Sat, SatError};
 use std::alloc::Global;
+use sweep::{Near, ask};
 
 /// The greatest number of clauses of an invariant.
 const GREATEST: usize = 4_194_303;
 
 /// What a round says of the classes.
-#[derive(Clone, Copy, PartialEq, Eq)]
-pub(crate) enum Outcome {
-    /// Latches that are equal stay equal.
-    Fixed,
+#[derive(Drop)]
+pub(crate) enum Round {
+    /// Latches that are equal stay equal: these clauses say so, and exclude the bad literal.
+    Fixed(Seq<Seq<Lit>>),
     /// A class was split.
     Split,
     /// The classes don't exclude the bad literal, or the budget is exhausted.
     Over,
 }
 
-/// Whether a clause holds after a step: what it is about, and the units of its step case.
+/// What is found of a clause after a step.
+#[derive(Clone, Copy, PartialEq, Eq)]
+enum Reply {
+    /// It holds.
+    Holds,
+    /// Its class was split.
+    Split,
+    /// The budget is exhausted.
+    Spent,
+}
+
+/// Whether a clause holds after a step: what it is about, the units of its step case, and the gates that say what they are.
 #[derive(Drop)]
 struct Question {
     member: Member,
     units: Vec<i32>,
+    part: Part,
 }
 
 /// Adds clauses.
 fn add_clauses<S: Sat>(solver: &mut S, alloc: Global, clauses: &[Clause]) -> Result<(), SatError>
     requires { All (All (IsLiteral (S.vars solver.old))) clauses.now }
-    ensures { S.vars solver.new ≡ S.vars solver.old }
+    ensures vars { S.vars solver.new ≡ S.vars solver.old }
+    ensures clauses { OnOk result (S.clauses solver.new ≡ S.clauses solver.old ++ clauses.now) }
 {
     for clause in clauses {
         solver.add(alloc, clause.as_slice())?;
@@ -56,7 +80,8 @@ fn load<S: Sat>(
 ) -> Result<(), SatError>
     requires all { All (IsEquality circuit.now) clauses.now }
     requires few { length clauses.now ≤ 4194303 }
-    ensures { OnOk result (S.vars solver.new ≡ circuit.now.max_var + 1) }
+    ensures vars { OnOk result (S.vars solver.new ≡ circuit.now.max_var + 1) }
+    ensures clauses { OnOk result (S.clauses solver.new ≡ shared_clauses circuit.now clauses.now) }
 {
     circuit.well_formed();
     let base = shared_base(alloc, circuit, clauses)?;
@@ -125,61 +150,100 @@ impl<'a> Search<'a> {
     }
 
     /// Asks whether a clause holds after a step from the states that satisfy all of them, and splits the classes where
-    /// it does not. False where the budget is exhausted.
-    fn ask_step<S: Sat>(
+    /// it does not.
+    fn ask_step<S: PartSat>(
         &mut self,
         solver: &mut S,
         alloc: Global,
         circuit: &Model,
         question: Question,
         budget: &mut Budget,
-    ) -> Result<bool, SatError>
+    ) -> Result<Reply, SatError>
         requires vars { S.vars solver.old ≡ circuit.now.max_var + 1 }
         requires units { All (IsLiteral (circuit.now.max_var + 1)) question.units.items }
         ensures vars { S.vars solver.new ≡ S.vars solver.old }
+        ensures clauses { S.clauses solver.new ≡ S.clauses solver.old }
         ensures spends { Spends budget.old budget.new }
+        ensures holds { IfOk result (λ r. r ≡ Holds → AreContradictory (S.clauses solver.old ++ unit_clauses question.units.items)) }
     {
-        match solver.solve(alloc, question.units.as_slice(), budget)? {
-            Answer::Core(_) => Ok(true),
+        let Question { member, units, part } = question;
+        match ask(solver, alloc, &part, units.as_slice(), budget)? {
+            Answer::Core(_) => Ok(Reply::Holds),
             Answer::Model(values) => {
-                self.split_by(alloc, circuit, question.member, values.as_slice(), budget)?;
-                Ok(true)
+                self.split_by(alloc, circuit, member, values.as_slice(), budget)?;
+                Ok(Reply::Split)
             }
-            Answer::Spent => Ok(false),
+            Answer::Spent => Ok(Reply::Spent),
         }
     }
 
-    /// Asks so of each clause whose latch is still in its class. False where the budget is exhausted.
-    fn ask_steps<S: Sat>(
+    /// The question about the clause at a place, where its latch is still in its class.
+    fn question(
+        &self,
+        alloc: Global,
+        circuit: &Model,
+        table: &NextTable,
+        near: &mut Near,
+        equalities: &Equalities,
+        place: usize,
+    ) -> Result<Option<Question>, Refused>
+        requires table { IsTableOf circuit.now.latches table.now }
+        requires all { All (IsEquality circuit.now) equalities.now.clauses }
+        ensures { IfOk result (λ r. IfSome r (λ q. (q.units.items ≡ step_units_of circuit.now (slice_index_or equalities.now.clauses place [])) × All (IsLiteral (circuit.now.max_var + 1)) q.units.items × (place < length equalities.now.clauses))) }
+    {
+        let Some(member) = self.member_at(equalities, place) else {
+            return Ok(None);
+        };
+        let clauses = equalities.clauses.as_slice();
+        if place >= clauses.len() {
+            return Ok(None);
+        }
+        let units = step_units(alloc, circuit, table, clauses[place].as_slice())?;
+        let part = near.part_of(alloc, circuit, units.as_slice())?;
+        Ok(Some(Question {
+            member,
+            units,
+            part,
+        }))
+    }
+
+    /// Asks so of each clause whose latch is still in its class. Answers whether each holds, where the budget is not exhausted
+    /// before.
+    fn ask_steps<S: PartSat>(
         &mut self,
         solver: &mut S,
         alloc: Global,
         circuit: &Model,
         equalities: &Equalities,
         budget: &mut Budget,
-    ) -> Result<bool, SatError>
+    ) -> Result<Option<bool>, SatError>
         requires vars { S.vars solver.old ≡ circuit.now.max_var + 1 }
         requires all { All (IsEquality circuit.now) equalities.now.clauses }
+        requires loaded { S.clauses solver.old ≡ shared_clauses circuit.now equalities.now.clauses }
         ensures spends { Spends budget.old budget.new }
+        ensures hold { IfOk result (λ r. r ≡ Some true → All (λ c. AreContradictory (step_clauses circuit.now equalities.now.clauses c)) equalities.now.clauses) }
     {
         let table = NextTable::new(alloc, circuit)?;
-        let clauses = equalities.clauses.as_slice();
-        'asking: for place in 0..clauses.len() {
-            if let Some(member) = self.member_at(equalities, place) {
-                let clause = clauses[place].as_slice();
-                let units = step_units(alloc, circuit, &table, clause)?;
-                let question = Question { member, units };
-                if !self.ask_step(solver, alloc, circuit, question, budget)? {
-                    return Ok(false);
-                }
+        let mut near = Near::new(alloc, circuit)?;
+        let mut all_hold = true;
+        'asking: for place in 0..equalities.clauses.len() {
+            let question = self.question(alloc, circuit, &table, &mut near, equalities, place)?;
+            let reply = match question {
+                Some(question) => self.ask_step(solver, alloc, circuit, question, budget)?,
+                None => Reply::Split,
+            };
+            match reply {
+                Reply::Holds => {}
+                Reply::Split => all_hold = false,
+                Reply::Spent => return Ok(None),
             }
         }
-        Ok(true)
+        Ok(Some(all_hold))
     }
 }
 
 /// Whether the clauses, which are loaded, exclude the bad literal.
-fn excludes<S: Sat>(
+fn excludes<S: PartSat>(
     solver: &mut S,
     alloc: Global,
     circuit: &Model,
@@ -189,44 +253,67 @@ fn excludes<S: Sat>(
     requires vars { S.vars solver.old ≡ circuit.now.max_var + 1 }
     requires bad { Contains (used circuit.now) bad }
     ensures vars { S.vars solver.new ≡ S.vars solver.old }
+    ensures clauses { S.clauses solver.new ≡ S.clauses solver.old }
     ensures spends { Spends budget.old budget.new }
+    ensures excluded { IfOk result (λ yes. IsTrue yes → AreContradictory (S.clauses solver.old ++ unit_clauses (bad_units circuit.now bad))) }
 {
     let units = [bad_unit(circuit, bad)];
-    match solver.solve(alloc, &units, budget)? {
+    let part = Near::new(alloc, circuit)?.part_of(alloc, circuit, &units)?;
+    match ask(solver, alloc, &part, &units, budget)? {
         Answer::Core(_) => Ok(true),
         _ => Ok(false),
     }
 }
 
 impl<'a> Search<'a> {
+    /// Asks whether the classes, whose clauses are loaded, exclude the bad literal, and whether equal latches stay equal.
+    fn ask_all<S: PartSat>(
+        &mut self,
+        solver: &mut S,
+        alloc: Global,
+        circuit: &Model,
+        bad: Lit,
+        equalities: Equalities,
+        budget: &mut Budget,
+    ) -> Result<Round, SatError>
+        requires for_bad { IsForBad circuit.now }
+        requires bad { bad ≡ bad_literal circuit.now 0 }
+        requires vars { S.vars solver.old ≡ circuit.now.max_var + 1 }
+        requires all { All (IsEquality circuit.now) equalities.clauses }
+        requires loaded { S.clauses solver.old ≡ shared_clauses circuit.now equalities.clauses }
+        ensures spends { Spends budget.old budget.new }
+        ensures fixed { IfOk result (λ r. (cs : List (List Literal)) → r ≡ Fixed cs → IsInvariant circuit.now cs) }
+    {
+        sweep_pairs(solver, alloc, circuit, equalities.clauses.as_slice(), budget)?;
+        if !excludes(solver, alloc, circuit, bad, budget)? {
+            return Ok(Round::Over);
+        }
+        match self.ask_steps(solver, alloc, circuit, &equalities, budget)? {
+            Some(true) => Ok(Round::Fixed(equalities.clauses)),
+            Some(false) => Ok(Round::Split),
+            None => Ok(Round::Over),
+        }
+    }
+
     /// One round: asks whether the classes exclude the bad literal, and whether equal latches stay equal.
-    pub(crate) fn round<S: Sat>(
+    pub(crate) fn round<S: PartSat>(
         &mut self,
         solver: &mut S,
         alloc: Global,
         circuit: &Model,
         bad: Lit,
         budget: &mut Budget,
-    ) -> Result<Outcome, SatError>
-        requires { Contains (used circuit.now) bad }
-        ensures { Spends budget.old budget.new }
+    ) -> Result<Round, SatError>
+        requires for_bad { IsForBad circuit.now }
+        requires bad { bad ≡ bad_literal circuit.now 0 }
+        ensures spends { Spends budget.old budget.new }
+        ensures fixed { IfOk result (λ r. (cs : List (List Literal)) → r ≡ Fixed cs → IsInvariant circuit.now cs) }
     {
-        let before = self.classes.count();
         let equalities = Equalities::of(alloc, circuit, &self.classes)?;
         if equalities.clauses.len() > GREATEST {
-            return Ok(Outcome::Over);
+            return Ok(Round::Over);
         }
         load(solver, alloc, circuit, equalities.clauses.as_slice())?;
-        if !excludes(solver, alloc, circuit, bad, budget)? {
-            return Ok(Outcome::Over);
-        }
-        if !self.ask_steps(solver, alloc, circuit, &equalities, budget)? {
-            return Ok(Outcome::Over);
-        }
-        if self.classes.count() == before {
-            Ok(Outcome::Fixed)
-        } else {
-            Ok(Outcome::Split)
-        }
+        self.ask_all(solver, alloc, circuit, bad, equalities, budget)
     }
 }

@@ -104,4 +104,19 @@ impl Near {
         self.unmark(list.as_slice());
         Ok(Part { gates, literals })
     }
+
+    /// The part that these units and the constraints of the circuit are made of.
+    pub fn part_of(
+        &mut self,
+        alloc: Global,
+        circuit: &Model,
+        units: &[i32],
+    ) -> Result<Part, Refused> {
+        let mut variables = Vec::new(alloc);
+        for unit in units {
+            push(&mut variables, unit.unsigned_abs())?;
+        }
+        let constraints = circuit.constraints();
+        self.part(alloc, variables.as_slice(), constraints, usize::MAX)
+    }
 }
