@@ -1,5 +1,5 @@
 -- Clauses that say that latches are equal, and an invariant of them.
-use Rattle.std.proofs.Common.{◌≡◌, ◌≢◌, ◌∙◌, ℕ, zero, suc, ◌+◌, ◌*◌, ◌/◌, ◌%◌, ◌<◌, ◌≤◌, ◌==◌, if◌then◌else◌, inl, inr, List, [], ◌∷◌, map, length, get_or, All, AllPairs, Contains, Option, Some, None, Result, Ok, Err, IfOk, IfSome, refl, sym, ap, subst, arith}
+use Rattle.std.proofs.Common.{◌≡◌, ◌≢◌, ◌∙◌, ℕ, zero, suc, ◌+◌, ◌*◌, ◌/◌, ◌%◌, ◌<◌, ◌≤◌, ◌==◌, if◌then◌else◌, inl, inr, List, [], ◌∷◌, map, length, get_or, All, AllPairs, Contains, refl, sym, ap, subst, arith}
 use Rattle.std.proofs.lemmas.Bool.{cases_eq, eq-eqb, ne_eqb}
 use Rattle.std.proofs.lemmas.List.{get_or-map, length-map}
 use Rattle.std.proofs.lemmas.List.Kept.{AllPairs-cons}
@@ -11,13 +11,11 @@ use Rattle.graph.specs.Valuation.{variable}
 use Rattle.graph.specs.WellFormed.{IsWellFormed, used}
 use Rattle.graph.proofs.Evaluation.{latches_even}
 use Rattle.graph.proofs.Tabled.{holds_of_used}
-use Rattle.cnf.specs.Clauses.{init_clauses}
+use Rattle.cnf.specs.Clauses.{init_clauses, bad_clauses, step_clauses}
 use Rattle.cnf.specs.Formulas.{IsOverLatches, bad_literal}
 use Rattle.cnf.specs.Formulas as formulas
-use Rattle.cnf.specs.Invariants.{AreContradictory, IsInductive}
-use Rattle.solver.specs.declared.sat_error.SatError.{SatError}
+use Rattle.cnf.specs.Invariants.{AreContradictory}
 use Rattle.engine.specs.Findings.{IsForBad, IsProper, IsInvariant}
-use Rattle.inductive_subset.specs.Subsets.{HoldAtFirst}
 use Rattle.correspondence.specs.Equal.{high_of, low_of, IsEquality}
 use Rattle.correspondence.proofs.First.{first_holds}
 
@@ -79,9 +77,6 @@ implication_is m l k well l_in k_in fixed differ =
 pub clauses_over : (m : Parts) (cs : List (List Lit)) → All (IsEquality m) cs → All (IsOverLatches m) cs
 clauses_over m cs all k d k_in = (all k d k_in).proper.over
 
-pub clauses_first : (m : Parts) (cs : List (List Lit)) → All (IsEquality m) cs → HoldAtFirst m cs
-clauses_first m cs all k d k_in = (all k d k_in).first
-
 -- as many as the limits allow
 pub clauses_fit : (m : Parts) (cs : List (List Lit)) → All (IsEquality m) cs → length cs ≤ 4194303 → formulas.IsInvariant m cs
 clauses_fit m cs all few = record {
@@ -96,17 +91,14 @@ bad_used m bads for_bad are =
     let same : bad_literal m 0 ≡ get_or bads 0 (record { 0 = 0 }) = ap (λ (xs : List Lit). get_or xs 0 (record { 0 = 0 })) (sym are) in
     subst (Contains (used m)) same ((holds_of_used (Contains (used m)) m (All-contains_itself (used m))).bad 0 (record { 0 = 0 }) some)
 
--- clauses of them that are inductive are an invariant
-pub subset_is : (m : Parts) (inv cs : List (List Lit)) (bad : Lit) → bad ≡ bad_literal m 0 → All (IsEquality m) inv → All (Contains inv) cs →
-    (HoldAtFirst m inv → IsInductive m cs bad) → IsInvariant m cs
-subset_is m inv cs bad same all among shown = record {
-  clauses = λ k d k_in. (All-contains (IsEquality m) inv (get_or cs k d) all (among k d k_in)).proper;
-  inductive = subst (IsInductive m cs) same (shown (clauses_first m inv all));
+-- clauses of them that are asked about are an invariant
+pub invariant_is : (m : Parts) (cs : List (List Lit)) (bad : Lit) → bad ≡ bad_literal m 0 → All (IsEquality m) cs → AreContradictory (bad_clauses m cs bad) →
+    All (λ c. AreContradictory (step_clauses m cs c)) cs → IsInvariant m cs
+invariant_is m cs bad same all excluded goes = record {
+  clauses = λ k d k_in. (all k d k_in).proper;
+  inductive = record {
+    begins = λ k d k_in. (all k d k_in).first;
+    goes_on = goes;
+    excludes = subst (λ (a : Lit). AreContradictory (bad_clauses m cs a)) same excluded;
+  };
 }
-
--- and so is an answer that says so
-pub answer_is : (m : Parts) (inv : List (List Lit)) (bad : Lit) → bad ≡ bad_literal m 0 → All (IsEquality m) inv → (r : Result (Option (List (List Lit))) SatError) →
-    IfOk r (λ o. IfSome o (λ cs. All (Contains inv) cs)) → IfOk r (λ o. IfSome o (λ cs. HoldAtFirst m inv → IsInductive m cs bad)) → IfOk r (λ o. IfSome o (IsInvariant m))
-answer_is m inv bad same all (Ok None) among shown = tt
-answer_is m inv bad same all (Ok (Some cs)) among shown = subset_is m inv cs bad same all among shown
-answer_is m inv bad same all (Err e) among shown = tt

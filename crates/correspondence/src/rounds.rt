@@ -1,19 +1,18 @@
 //! Rounds of induction.
 
-ghost use Rattle.std.specs.Prelude.{◌≡◌, ◌<◌, ◌≤◌, ◌+◌, ◌++◌, [], true, All, Contains, IfOk, IfSome, IsTrue, List, OnOk, Some, length, slice_index_or};
+ghost use Rattle.std.specs.Prelude.{◌≡◌, ◌<◌, ◌≤◌, ◌+◌, ◌++◌, [], true, All, Contains, IfOk, IfSome, IsTrue, OnOk, Some, length, slice_index_or};
 ghost use Rattle.base.specs.Budget.{Spends};
-ghost use Rattle.graph.specs.declared.circuit.Lit.{Lit as Literal};
 ghost use Rattle.graph.specs.WellFormed.{used};
 ghost use Rattle.lrat.specs.Literals.{IsLiteral};
 ghost use Rattle.lrat.specs.Shared.{unit_clauses};
 ghost use Rattle.cnf.specs.Clauses.{bad_units, shared_clauses, step_clauses, step_units as step_units_of};
 ghost use Rattle.cnf.specs.Formulas.{bad_literal};
 ghost use Rattle.cnf.specs.Invariants.{AreContradictory};
-ghost use Rattle.cnf.specs.NextTables.{IsTableOf};
-ghost use Rattle.engine.specs.Findings.{IsForBad, IsInvariant};
+ghost use Rattle.cnf.specs.Tables.{IsTableOf};
+ghost use Rattle.engine.specs.Findings.{IsForBad};
 ghost use Rattle.correspondence.specs.Equal.{IsEquality};
 ghost use Rattle.correspondence.specs.declared.rounds.Reply.TheVariants.{Holds};
-ghost use Rattle.correspondence.specs.declared.rounds.Round.TheVariants.{Fixed};
+ghost use Rattle.correspondence.specs.Rounds.{IsRound};
 
 use crate::equalities::{Equalities, Member};
 use crate::search::{Search, Situation};
@@ -166,7 +165,11 @@ impl<'a> Search<'a> {
         ensures spends { Spends budget.old budget.new }
         ensures holds { IfOk result (λ r. r ≡ Holds → AreContradictory (S.clauses solver.old ++ unit_clauses question.units.items)) }
     {
-        let Question { member, units, part } = question;
+        let Question {
+            member,
+            units,
+            part,
+        } = question;
         match ask(solver, alloc, &part, units.as_slice(), budget)? {
             Answer::Core(_) => Ok(Reply::Holds),
             Answer::Model(values) => {
@@ -282,9 +285,15 @@ impl<'a> Search<'a> {
         requires all { All (IsEquality circuit.now) equalities.clauses }
         requires loaded { S.clauses solver.old ≡ shared_clauses circuit.now equalities.clauses }
         ensures spends { Spends budget.old budget.new }
-        ensures fixed { IfOk result (λ r. (cs : List (List Literal)) → r ≡ Fixed cs → IsInvariant circuit.now cs) }
+        ensures fixed { IfOk result (IsRound circuit.now) }
     {
-        sweep_pairs(solver, alloc, circuit, equalities.clauses.as_slice(), budget)?;
+        sweep_pairs(
+            solver,
+            alloc,
+            circuit,
+            equalities.clauses.as_slice(),
+            budget,
+        )?;
         if !excludes(solver, alloc, circuit, bad, budget)? {
             return Ok(Round::Over);
         }
@@ -307,7 +316,7 @@ impl<'a> Search<'a> {
         requires for_bad { IsForBad circuit.now }
         requires bad { bad ≡ bad_literal circuit.now 0 }
         ensures spends { Spends budget.old budget.new }
-        ensures fixed { IfOk result (λ r. (cs : List (List Literal)) → r ≡ Fixed cs → IsInvariant circuit.now cs) }
+        ensures fixed { IfOk result (IsRound circuit.now) }
     {
         let equalities = Equalities::of(alloc, circuit, &self.classes)?;
         if equalities.clauses.len() > GREATEST {
