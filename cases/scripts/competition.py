@@ -80,7 +80,7 @@ def odd(scratch):
     make(scratch / "words", "no circuit\n")
     expect(answer(place, "--", "-d.aag", "60"), (b"0\nb0\n.\n", 20), "-d.aag")
     expect(answer(place, b"n\xff.aag"), (b"0\nb0\n.\n", 20), "a name that is not UTF-8")
-    for words in ("", "words", "none", "-d.aag", "-- -d.aag 0", "-- -d.aag 1m", "-- -d.aag 1 2", "-p b0"):
+    for words in ("", "words", "none", ".", "-d.aag", "-- -d.aag 0", "-- -d.aag 1m", "-- -d.aag 1 2", "-p b0"):
         expect(answer(place, *words.split()), (b"", 3), repr(words))
 
 
@@ -127,3 +127,5 @@ def properties(scratch):
     expect(place.call("properties", "--", "-d.aag").out, b"b0\n", "a file whose name begins with -")
     for words in ((), ("none",), ("-d.aag",), ("a", "b")):
         expect(place.call("properties", *words).status, 3, repr(words))
+    for name, why in ((".", b"it is a folder"), ("/dev/zero", b"it is no file"), ("none", b"No such file or directory")):
+        expect(place.call("properties", name).told, b"properties: %s: %s\n" % (name.encode(), why), f"what is said of {name}")

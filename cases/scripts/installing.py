@@ -113,6 +113,10 @@ def helps(scratch):
         with open("/dev/full", "wb") as device:
             status = call(TOP / "bin" / name, "--help", cwd=scratch, stdout=device, **more).status
         expect(status != 0, True, f"whether {name} --help fails on a full device")
+    for path in (path for path in sorted((TOP / "cases").iterdir()) if path.is_file() and os.access(path, os.X_OK)):
+        done = call(path, "--help", cwd=scratch)
+        is_said = len(done.out.splitlines()) > 5
+        expect((done.status, done.told, is_said), (0, b"", True), f"cases/{path.name} --help")
 
 
 @case("each option of a script's help is in its man page")

@@ -58,7 +58,8 @@ def reason(error):
     """Why something failed, in words."""
     if not getattr(error, "strerror", None):
         return str(error)
-    return f"{os.fsdecode(error.filename)}: {error.strerror}" if error.filename is not None else error.strerror
+    is_named = isinstance(error.filename, (str, bytes, os.PathLike))
+    return f"{os.fsdecode(error.filename)}: {error.strerror}" if is_named else error.strerror
 
 
 def expect_streams():

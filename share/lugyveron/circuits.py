@@ -23,9 +23,11 @@ class NoCircuit(Exception):
 def read(path):
     """The bytes of a circuit's file."""
     source = os.open(path, os.O_RDONLY | os.O_NONBLOCK | os.O_CLOEXEC)
+    kind = os.fstat(source).st_mode
+    if not stat.S_ISREG(kind):
+        os.close(source)
+        raise NoCircuit("it is a folder" if stat.S_ISDIR(kind) else "it is no file")
     with open(source, "rb") as file:
-        if not stat.S_ISREG(os.fstat(source).st_mode):
-            raise NoCircuit("it is no file")
         text = file.read(MOST_BYTES + 1)
     if len(text) > MOST_BYTES:
         raise NoCircuit(f"it is longer than {MOST_BYTES} bytes")
