@@ -1,4 +1,5 @@
 pub mod Closed
+mod Made
 pub mod Pairs
 pub mod Stopped
 mod Shown

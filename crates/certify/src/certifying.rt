@@ -9,7 +9,7 @@ ghost use Rattle.cnf.specs.Invariants.{IsInductive};
 ghost use Rattle.checker.specs.Accepted.{circuit_of, bad_of};
 ghost use Rattle.live_safe.specs.Shadow.{shadow_of};
 ghost use Rattle.certify.specs.Causes.{HasCause, HasCauseFor, IsUnspent};
-ghost use Rattle.certify.specs.Outcomes.{IsCertified, IsCertifiedFor};
+ghost use Rattle.certify.specs.Outcomes.{IsCertified, IsCertifiedFor, of_proofs};
 ghost use Rattle.certify.specs.declared.certified.Certified.TheVariants.{NotInvariant};
 ghost use Rattle.certify.specs.declared.counterexample.Counterexample.{Counterexample};
 
@@ -17,7 +17,7 @@ use crate::certified::Certified;
 use crate::certify_error::CertifyError;
 use crate::examining::examine;
 use crate::halt::Halt;
-use crate::proving::prove_cases;
+use crate::proving::{Proofs, prove_cases};
 use base::{Budget, Refused};
 use certificate::Certificate;
 use graph::{Lit, Model, Property, Seq};
@@ -33,6 +33,28 @@ fn copied(alloc: Global, invariant: &[Seq<Lit>]) -> Result<Seq<Seq<Lit>>, Refuse
         copy.push(Seq::from_slice(alloc, clause.as_slice())?)?;
     }
     Ok(copy)
+}
+
+/// What comes of the clauses' cases: a certificate where each has its proof, or else why there is none.
+fn certified_of(
+    property: Property,
+    invariant: Seq<Seq<Lit>>,
+    proved: Result<Proofs, Halt>,
+) -> Result<Certified, CertifyError>
+    ensures { result ≡ of_proofs property invariant proved }
+{
+    match proved {
+        Ok(proofs) => Ok(Certified::Certificate(Certificate {
+            property,
+            invariant,
+            lemmas: Some(proofs.lemmas),
+            sections: proofs.sections,
+        })),
+        Err(Halt::NotInvariant(found)) => Ok(Certified::NotInvariant(found)),
+        Err(Halt::Spent) => Ok(Certified::Spent),
+        Err(Halt::IdsTaken(full)) => Err(CertifyError::IdsTaken(full)),
+        Err(Halt::OutOfMemory(refused)) => Err(CertifyError::OutOfMemory(refused)),
+    }
 }
 
 /// A certificate of the property by clauses about this one of the circuit's literals, which no run is
@@ -54,18 +76,8 @@ fn certify_for(
     examine(alloc, circuit, invariant)?;
     let copy = copied(alloc, invariant)?;
     circuit.well_formed();
-    match prove_cases(alloc, circuit, invariant, bad, budget) {
-        Ok(proofs) => Ok(Certified::Certificate(Certificate {
-            property,
-            invariant: copy,
-            lemmas: Some(proofs.lemmas),
-            sections: proofs.sections,
-        })),
-        Err(Halt::NotInvariant(found)) => Ok(Certified::NotInvariant(found)),
-        Err(Halt::Spent) => Ok(Certified::Spent),
-        Err(Halt::IdsTaken(full)) => Err(CertifyError::IdsTaken(full)),
-        Err(Halt::OutOfMemory(refused)) => Err(CertifyError::OutOfMemory(refused)),
-    }
+    let proved = prove_cases(alloc, circuit, invariant, bad, budget);
+    certified_of(property, copy, proved)
 }
 
 /// A certificate of the justice property at position `n`, as `certify` makes it, for a caller that has the

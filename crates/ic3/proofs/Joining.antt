@@ -13,7 +13,7 @@ use Rattle.engine.specs.Findings.{IsForBad}
 use Rattle.ic3_step.specs.declared.state.StateLit.{StateLit}
 use Rattle.ic3_step.specs.declared.state.Assignment.{Assignment}
 use Rattle.ic3_step.specs.declared.reply.Reply.TheVariants.{Found, Core}
-use Rattle.ic3_step.specs.States.{Guarded, Holds, IsAt, AllSet}
+use Rattle.ic3_step.specs.States.{Guarded, Holds, IsAt, AllSet, IsPartOf}
 use Rattle.ic3_step.specs.Replies.{IsReply, IsUsable}
 use Rattle.ic3_frames.specs.declared.frames.Entry.{Entry}
 use Rattle.ic3_frames.specs.Frames.{InFrame, AreFrames, Levels, Excludes}
@@ -31,6 +31,14 @@ all_more P old new e only all newest k d k_in = elim (only (get_or new k d) (Con
 -- an entry's clause holds in the frame of its level
 pub entry_holds : (es : List Entry) (c : List StateLit) (level : ℕ) (s : List Bool) → Contains es (record { clause = c; level = level }) → InFrame es level s → Holds s c
 entry_holds es c level s found inside = All-contains (λ (e : Entry). level ≤ e.level → Holds s e.clause) es (record { clause = c; level = level }) inside found (omega arith)
+
+-- a frame is within those behind it
+pub frame_from : (es : List Entry) (j k : ℕ) (s : List Bool) → j ≤ k → InFrame es j s → InFrame es k s
+frame_from es j k s le inside i d i_in above = inside i d i_in (omega (arith, le, above))
+
+-- a clause holds where a part of it does
+pub holds_part : (s : List Bool) (part c : List StateLit) → IsPartOf part c → Holds s part → Holds s c
+holds_part s part c wide holds = (holds.0, wide holds.0 holds.1, holds.2)
 
 -- an entry that was raised, where it is then
 pub raised_found : (es fs : List Entry) (place p k : ℕ) (d : Entry) (c : List StateLit) →

@@ -16,6 +16,7 @@ use Rattle.stimulus.specs.Shown.{Begins, last_of}
 use Rattle.engine.specs.declared.finding.Finding.TheVariants.{Run}
 use Rattle.engine.specs.Findings.{IsForBad}
 use Rattle.ic3_step.specs.States.{Denies, latch_at}
+use Rattle.ic3_frames.specs.Frames.{Levels}
 use Rattle.ic3_frames.specs.Resets.{HasResets}
 use Rattle.ic3.specs.declared.obligation.Obligation.{Obligation}
 use Rattle.ic3.specs.Cubes.{ReachBad}
@@ -95,10 +96,10 @@ bad_there : (m : Parts) → IsForBad m → slice_get m.bad 0 ≡ Some (bad_liter
 bad_there m one = let are = one.one in rw are refl
 
 -- the obligations' run shows the bad literal
-pub run_found : (m : Parts) (order : List ℕ) (o : Obligation) (os : List Obligation) (s : List Bool) (lines : List (List Bool)) (after : Spent) → IsModel m order → IsForBad m →
+pub run_found : (m : Parts) (order : List ℕ) (o : Obligation) (os : List Obligation) (s : List Bool) (lines : List (List Bool)) (f : Levels) (after : Spent) → IsModel m order → IsForBad m →
     All (IsObligation m) (o ∷ os) → ReachBad m (o ∷ os) → length s ≡ length m.latches → HasResets m.latches s → Denies s o.clause → lines ≡ map (λ (p : Obligation). p.inputs) (o ∷ os) →
-    IsFound m after (Run s lines)
-run_found m order o os s lines after model one obligations leads long resets first are =
+    IsFound m f after (Run s lines)
+run_found m order o os s lines f after model one obligations leads long resets first are =
     let run = played m order (o ∷ os) s model long (λ k d k_in. (obligations k d k_in).inputs) leads first in
     let h = run.1 in
     record {

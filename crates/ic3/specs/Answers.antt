@@ -1,5 +1,5 @@
 -- What the search's queries are answered (Bradley 2011).
-use Rattle.std.specs.Prelude.{◌≡◌, ℕ, ◌<◌, ◌≤◌, Bool, true, List, [], ◌∷◌, filter, length, map, slice_index_or, All}
+use Rattle.std.specs.Prelude.{◌≡◌, ◌≢◌, ℕ, ◌<◌, ◌≤◌, Bool, true, List, [], ◌∷◌, filter, length, map, slice_index_or, All}
 use Rattle.base.specs.Budget.{Steps}
 use Rattle.graph.specs.declared.circuit.Property.TheVariants.{Bad}
 use Rattle.graph.specs.declared.parts.Parts.{Parts}
@@ -18,7 +18,7 @@ use Rattle.ic3_step.specs.States.{Denies, IsPartOf, IsAt}
 use Rattle.ic3_step.specs.Steps.{denials_of}
 use Rattle.ic3_frames.specs.declared.frames.Entry.{Entry}
 use Rattle.ic3_frames.specs.Clauses.{IsResetLit}
-use Rattle.ic3_frames.specs.Frames.{IsStateClause, HoldsInitially, HoldsAfter, HoldsToward, HoldsOnward, Excludes}
+use Rattle.ic3_frames.specs.Frames.{IsStateClause, HoldsInitially, HoldsAfter, HoldsToward, HoldsOnward, Excludes, AreFrames, Levels}
 use Rattle.ic3.specs.declared.bad.AtBad.{AtBad}
 use Rattle.ic3.specs.declared.bad.AtBad.TheVariants.{Set, Excluded, Spent}
 use Rattle.ic3.specs.declared.blocking.Blocking.{Blocking}
@@ -49,9 +49,9 @@ IsRelative m entries k c after (Held part) = IsPartOf part c × HoldsToward m en
 IsRelative m entries k c after (Broken t) = (w : Valuation) × IsAt m (denials_of m.latches c) w t × Denies (next_state m w) c
 IsRelative m entries k c after Spent = after.left ≡ 0
 
--- whether the clause is inductive from frame k, and then, which part of it is
+-- whether the clause is inductive from frame k, and then, which part of it is, no longer than itself
 abbrev pub IsInductiveAnswer : Parts → List Entry → ℕ → List StateLit → Steps → Consecution → Type 0
-IsInductiveAnswer m entries k c after (Held part) = IsInductiveFrom m entries k part
+IsInductiveAnswer m entries k c after (Held part) = IsInductiveFrom m entries k part × IsPartOf part c
 IsInductiveAnswer m entries k c after (Broken t) = (w : Valuation) × IsAt m (denials_of m.latches c) w t × Denies (next_state m w) c
 IsInductiveAnswer m entries k c after Spent = after.left ≡ 0
 
@@ -89,15 +89,29 @@ pub record IsDeep (m : Parts) (steps : ℕ) : Type 0 where
   pub clear : IsClear m (Bad 0) steps
   pub many : 1000000000 ≤ steps
 
--- a run, an invariant, that the budget is exhausted, or a depth of a thousand million steps or more
-abbrev pub IsDecided : Finding → Type 0
-IsDecided (Run initial inputs) = Unit {0}
-IsDecided (Invariant inv) = Unit {0}
-IsDecided (Unknown Budget) = Unit {0}
-IsDecided (Unknown (Depth steps)) = 1000000000 ≤ steps
-IsDecided (Unknown NoEvidence) = ⊥
+-- no frame is the same as the next, but the first may be: a clause ends at each level between the first and the last
+abbrev pub AreApart : Levels → Type 0
+AreApart f = (k : ℕ) → 0 < k → k < f.top → All (λ e. e.level ≢ k) f.entries → ⊥
 
--- what is found is so, and no other unknown
-pub record IsFound (m : Parts) (after : Steps) (found : Finding) : Type 0 where
+-- a thousand million frames or more that keep their laws, of which none is the same as the next
+pub record AreExhausted (m : Parts) (f : Levels) : Type 0 where
+  pub laws : AreFrames m (bad_literal m 0) f
+  pub apart : AreApart f
+  pub many : 1000000000 ≤ f.top
+
+-- what frames come to: a run, an invariant, that the budget is exhausted, or as many steps as there are frames, where no more can be opened
+abbrev pub ComesOf : Parts → Levels → Finding → Type 0
+ComesOf m f (Run initial inputs) = Unit {0}
+ComesOf m f (Invariant inv) = Unit {0}
+ComesOf m f (Unknown Budget) = Unit {0}
+ComesOf m f (Unknown (Depth steps)) = (steps ≡ f.top) × AreExhausted m f
+ComesOf m f (Unknown NoEvidence) = ⊥
+
+-- frames come to it
+abbrev pub IsDecided : Parts → Finding → Type 0
+IsDecided m found = (f : Levels) × ComesOf m f found
+
+-- what is found of frames is so, and no other unknown
+pub record IsFound (m : Parts) (f : Levels) (after : Steps) (found : Finding) : Type 0 where
   pub so : IsSo m after found
-  pub decided : IsDecided found
+  pub decided : ComesOf m f found

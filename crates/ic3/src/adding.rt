@@ -1,6 +1,8 @@
 //! Clauses that join the frames.
 
-ghost use Rattle.std.specs.Prelude.{◌≡◌, ◌<◌, OnOk};
+ghost use Rattle.std.specs.Prelude.{◌≡◌, ◌+◌, ◌<◌, Bool, List, OnOk};
+ghost use Rattle.ic3_step.specs.States.{Holds};
+ghost use Rattle.ic3_frames.specs.Frames.{InFrame};
 ghost use Rattle.ic3.specs.Sound.{IsSound};
 ghost use Rattle.ic3.specs.Answers.{IsInductiveFrom};
 
@@ -25,6 +27,7 @@ impl<S: PartSat> FrameSolver<S> {
         requires inductive { IsInductiveFrom circuit.now frames.old.entries level clause }
         ensures top { frames.new.top ≡ frames.old.top }
         ensures sound { OnOk result (IsSound circuit.now self.new frames.new) }
+        ensures held { OnOk result ((s : List Bool) → InFrame frames.new.entries (level + 1) s → Holds s clause) }
     {
         let alloc = frames.allocator();
         self.add_clause(alloc, circuit, level + 1, clause.as_slice())?;

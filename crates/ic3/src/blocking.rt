@@ -1,10 +1,12 @@
 //! States that the frames are to exclude.
 
-ghost use Rattle.std.specs.Prelude.{◌≡◌, ◌<◌, ◌≤◌, IfOk, OnOk};
+ghost use Rattle.std.specs.Prelude.{◌≡◌, ◌+◌, ◌<◌, ◌≤◌, Bool, List, IfOk, OnOk};
 ghost use Rattle.base.specs.Budget.{Spends};
-ghost use Rattle.ic3_frames.specs.Frames.{IsStateClause};
+ghost use Rattle.ic3_step.specs.States.{Holds, IsPartOf};
+ghost use Rattle.ic3_frames.specs.Frames.{InFrame, IsStateClause};
 ghost use Rattle.ic3.specs.Sound.{IsSound};
 ghost use Rattle.ic3.specs.Answers.{IsInductiveFrom, IsBlocking};
+ghost use Rattle.ic3.specs.declared.blocking.Blocking.TheVariants.{Blocked};
 
 use crate::frame_solver::FrameSolver;
 use crate::reset::reset_literal;
@@ -43,9 +45,11 @@ impl<S: PartSat> FrameSolver<S> {
         requires sound { IsSound circuit.now self.old frames.old }
         requires below { level < frames.old.top }
         requires inductive { IsInductiveFrom circuit.now frames.old.entries level clause }
+        requires part { IsPartOf clause whole.now }
         ensures top { frames.new.top ≡ frames.old.top }
         ensures spends { Spends budget.old budget.new }
         ensures sound { OnOk result (IsSound circuit.now self.new frames.new) }
+        ensures held { OnOk result ((s : List Bool) → InFrame frames.new.entries (level + 1) s → Holds s whole.now) }
     {
         let alloc = frames.allocator();
         let needed = match frames.longest_part(alloc, level, whole)? {
@@ -58,7 +62,7 @@ impl<S: PartSat> FrameSolver<S> {
     }
 
     /// Blocks the states in which the clause is false in the frame at `level`, or finds a predecessor of
-    /// one of them.
+    /// one of them. They are blocked only where the frame excludes them, but in the first one.
     pub(crate) fn block(
         &mut self,
         circuit: &Model,
@@ -74,11 +78,15 @@ impl<S: PartSat> FrameSolver<S> {
         ensures spends { Spends budget.old budget.new }
         ensures sound { OnOk result (IsSound circuit.now self.new frames.new) }
         ensures lawful { IfOk result (IsBlocking circuit.now clause.now budget.new) }
+        ensures blocked { IfOk result (λ r. r ≡ Blocked → 0 < level → (s : List Bool) → InFrame frames.new.entries level s → Holds s clause.now) }
     {
         let Some(first) = reset_literal(circuit.latches(), clause) else {
             return Ok(Blocking::Initial);
         };
-        if level == 0 || frames.implies(frames.allocator(), level, clause)? {
+        if level == 0 {
+            return Ok(Blocking::Blocked);
+        }
+        if frames.implies(frames.allocator(), level, clause)? {
             return Ok(Blocking::Blocked);
         }
         let before = level - 1;

@@ -70,10 +70,11 @@ impl<S: PartSat, P: Progress> Ic3<S, P> {
 impl<S: PartSat, P: Progress> Engine for Ic3<S, P> {
     ghost honest = { λ _. Unit {0} };
 
-    ghost answers = { λ _ m _ r after. IfOk r (IsSo m after) × IfOk r IsDecided };
+    ghost answers = { λ _ m _ r after. IfOk r (IsSo m after) × IfOk r (IsDecided m) };
 
     /// Looks for an invariant that excludes the bad literal, or for a run that sets it. It knows
-    /// nothing only where the budget is exhausted, or no run of a thousand million steps sets it. Each candidate, each frame that is opened, each time
+    /// nothing only where the budget is exhausted, or where there are a thousand million frames, of which none is the same as the
+    /// next: then no run of as many steps sets it. Each candidate, each frame that is opened, each time
     /// that is blocked, each clause that is looked at and each query takes from the budget, besides
     /// what the solver spends.
     fn find(
@@ -85,7 +86,7 @@ impl<S: PartSat, P: Progress> Engine for Ic3<S, P> {
         requires { IsForBad circuit.now }
         ensures spends { Spends budget.old budget.new }
         ensures so { IfOk result (IsSo circuit.now budget.new) }
-        ensures known { IfOk result IsDecided }
+        ensures known { IfOk result (IsDecided circuit.now) }
     {
         let candidates = match &self.candidates {
             Some(clauses) => clauses.as_slice(),

@@ -1,7 +1,8 @@
 //! Clauses that hold at first, and after each step from a frame in which they hold.
 
-ghost use Rattle.std.specs.Prelude.{◌≡◌, ◌<◌, true, Contains, IfOk, IfSome, OnOk};
+ghost use Rattle.std.specs.Prelude.{◌≡◌, ◌<◌, ◌≤◌, true, Contains, IfOk, IfSome, OnOk};
 ghost use Rattle.base.specs.Budget.{Spends};
+ghost use Rattle.ic3_step.specs.States.{IsPartOf};
 ghost use Rattle.ic3_frames.specs.Clauses.{IsResetLit};
 ghost use Rattle.ic3_frames.specs.Frames.{IsStateClause, HoldsOnward};
 ghost use Rattle.ic3.specs.Sound.{IsSound};
@@ -64,7 +65,7 @@ impl<S: PartSat> FrameSolver<S> {
         requires clause { IsStateClause circuit.now clause.now }
         ensures spends { Spends budget.old budget.new }
         ensures sound { OnOk result (IsSound circuit.now self.new frames.now) }
-        ensures lawful { IfOk result (λ r. IfSome r (IsInductiveFrom circuit.now frames.now.entries level)) }
+        ensures lawful { IfOk result (λ r. IfSome r (λ part. IsInductiveFrom circuit.now frames.now.entries level part × IsPartOf part clause.now)) }
     {
         if !clause.iter().any(|lit| lit.latch == latch) {
             return Ok(None);
@@ -97,6 +98,7 @@ impl<S: PartSat> FrameSolver<S> {
         ensures spends { Spends budget.old budget.new }
         ensures sound { OnOk result (IsSound circuit.now self.new frames.now) }
         ensures inductive { IfOk result (IsInductiveFrom circuit.now frames.now.entries level) }
+        ensures part { IfOk result (λ part. IsPartOf part clause) }
     {
         let latches = rarest_first(frames.allocator(), frames.uses(), clause.as_slice(), needed)?;
         let mut kept = clause;
@@ -152,6 +154,7 @@ impl<S: PartSat> FrameSolver<S> {
         ensures frames { frames.new ≡ frames.old }
         ensures spends { Spends budget.old budget.new }
         ensures sound { OnOk result (IsSound circuit.now self.new frames.new) }
+        ensures no_less { IfOk result (λ k. level ≤ k) }
         ensures below { IfOk result (λ k. k < frames.new.top) }
         ensures inductive { IfOk result (λ k. IsInductiveFrom circuit.now frames.new.entries k clause.now) }
     {

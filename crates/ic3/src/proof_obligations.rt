@@ -42,10 +42,11 @@ impl<S: PartSat> FrameSolver<S> {
         requires sound { IsSound circuit.now self.old frames.old }
         requires ready { IsReady circuit.now lifting.old }
         requires at { (w : Valuation) × IsAt circuit.now (bad_literal circuit.now 0 ∷ []) w time × (value_of w (bad_literal circuit.now 0) ≡ true) }
+        ensures top { frames.new.top ≡ frames.old.top }
         ensures spends { Spends budget.old budget.new }
         ensures sound { OnOk result (IsSound circuit.now self.new frames.new) }
         ensures ready { OnOk result (IsReady circuit.now lifting.new) }
-        ensures lawful { IfOk result (λ r. IfSome r (IsFound circuit.now budget.new)) }
+        ensures lawful { IfOk result (λ r. IfSome r (IsFound circuit.now frames.new budget.new)) }
     {
         let alloc = frames.allocator();
         let mut found: Vec<Obligation> = Vec::new(alloc);

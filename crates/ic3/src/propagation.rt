@@ -1,16 +1,35 @@
 //! Clauses that are propagated to the next frame.
 
-ghost use Rattle.std.specs.Prelude.{◌≡◌, ◌<◌, ◌≤◌, length, IfOk, IfSome, OnOk};
+ghost use Rattle.std.specs.Prelude.{◌≡◌, ◌<◌, ◌≤◌, length, None, IfOk, IfSome, OnOk};
 ghost use Rattle.base.specs.Budget.{Spends};
+ghost use Rattle.cnf.specs.Formulas.{bad_literal};
 ghost use Rattle.engine.specs.Findings.{IsInvariant};
+ghost use Rattle.ic3_frames.specs.Frames.{AreFrames};
+ghost use Rattle.ic3.specs.Answers.{AreApart};
 ghost use Rattle.ic3.specs.Sound.{IsSound};
 
 use crate::frame_solver::FrameSolver;
+use base::Refused;
 use engine::EngineError;
 use graph::{Budget, Lit, Model, Seq};
 use ic3_frames::Frames;
 use ic3_step::Consecution;
 use solver::PartSat;
+
+/// The invariant that the first frame is, of those behind the initial states, that is the same as the next one.
+pub(crate) fn repeated(circuit: &Model, frames: &Frames) -> Result<Option<Seq<Seq<Lit>>>, Refused>
+    requires { AreFrames circuit.now (bad_literal circuit.now 0) frames.now }
+    ensures invariant { IfOk result (λ r. IfSome r (IsInvariant circuit.now)) }
+    ensures none { IfOk result (λ r. r ≡ None → AreApart frames.now) }
+{
+    'comparing: for level in 1..frames.top() {
+        match frames.invariant_at(frames.allocator(), circuit, level)? {
+            Some(clauses) => return Ok(Some(clauses)),
+            None => {}
+        }
+    }
+    Ok(None)
+}
 
 impl<S: PartSat> FrameSolver<S> {
     /// Propagates the clause at a place to the next frame, if it ends at the level and holds after
@@ -82,7 +101,7 @@ impl<S: PartSat> FrameSolver<S> {
     }
 
     /// Propagates clauses to the next frames, until one frame is the same as the next: that one is an
-    /// invariant.
+    /// invariant. Where a clause that is propagated subsumes all that end at a level before, that frame is one too.
     pub(crate) fn propagate(
         &mut self,
         circuit: &Model,
@@ -90,9 +109,11 @@ impl<S: PartSat> FrameSolver<S> {
         budget: &mut Budget,
     ) -> Result<Option<Seq<Seq<Lit>>>, EngineError>
         requires sound { IsSound circuit.now self.old frames.old }
+        ensures top { frames.new.top ≡ frames.old.top }
         ensures spends { Spends budget.old budget.new }
         ensures sound { OnOk result (IsSound circuit.now self.new frames.new) }
         ensures invariant { IfOk result (λ r. IfSome r (IsInvariant circuit.now)) }
+        ensures none { IfOk result (λ r. r ≡ None → AreApart frames.new) }
     {
         'propagating: for level in 1..frames.top() {
             self.propagate_level(circuit, frames, level, budget)?;
@@ -101,6 +122,6 @@ impl<S: PartSat> FrameSolver<S> {
                 None => {}
             }
         }
-        Ok(None)
+        Ok(repeated(circuit, frames)?)
     }
 }

@@ -6,6 +6,7 @@ ghost use Rattle.engine.specs.Findings.{IsForBad};
 ghost use Rattle.ic3_step.specs.declared.state.StateLit.{StateLit as Literal};
 ghost use Rattle.ic3_step.specs.States.{Denies};
 ghost use Rattle.ic3_frames.specs.Clauses.{IsResetLit};
+ghost use Rattle.ic3_frames.specs.Frames.{Levels};
 ghost use Rattle.ic3_frames.specs.Resets.{HasResets};
 ghost use Rattle.graph.specs.declared.parts.Parts.{Parts};
 ghost use Rattle.ic3.specs.declared.obligation.Obligation.{Obligation};
@@ -75,7 +76,7 @@ pub(crate) fn run_of(
     requires from { from < length found.now }
     requires obligations { AreObligations circuit.now found.now }
     requires initial { (d : Obligation) → All (λ a. IsResetLit circuit.now.latches a → ⊥) (slice_index_or found.now from d).clause }
-    ensures { (after : Steps) → IfOk result (IsFound circuit.now after) }
+    ensures { (f : Levels) (after : Steps) → IfOk result (IsFound circuit.now f after) }
 {
     circuit.well_formed();
     circuit.order();

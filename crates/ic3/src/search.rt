@@ -1,17 +1,19 @@
 //! The search through the frames.
 
-ghost use Rattle.std.specs.Prelude.{◌≡◌, false, IfOk, IfSome, OnOk};
-ghost use Rattle.base.specs.Budget.{Spends};
+ghost use Rattle.std.specs.Prelude.{◌≡◌, ◌⊎◌, ◌+◌, false, true, None, IfOk, IfSome, OnOk};
+ghost use Rattle.base.specs.Budget.{Spends, Steps};
 ghost use Rattle.cnf.specs.Formulas.{bad_literal};
-ghost use Rattle.engine.specs.Findings.{IsForBad, IsInvariant};
-ghost use Rattle.ic3_frames.specs.Frames.{Excludes};
+ghost use Rattle.engine.specs.Findings.{IsForBad, IsInvariant, IsSo};
+ghost use Rattle.ic3_frames.specs.Frames.{AreFrames, Excludes};
 ghost use Rattle.ic3.specs.Sound.{IsSound};
 ghost use Rattle.ic3.specs.Cubes.{IsReady};
-ghost use Rattle.ic3.specs.Answers.{IsDeep, IsFound};
+ghost use Rattle.ic3.specs.Answers.{AreApart, IsDecided, IsDeep, IsFound};
 
 use crate::bad::AtBad;
 use crate::frame_solver::FrameSolver;
 use crate::lift::Lifting;
+use crate::propagation::repeated;
+use base::Refused;
 use engine::{EngineError, Finding, Progress, Reason};
 use graph::{Budget, Lit, Model, Seq};
 use ic3_frames::Frames;
@@ -24,6 +26,18 @@ const LEVELS: u32 = 32;
 /// With more levels than this there are no guards for twice as many.
 const MOST_DOUBLED: u32 = 1_000_000_000;
 
+/// What frames come to of which no more can be opened: an invariant, where one is the same as the next, and else their number.
+fn last_finding(circuit: &Model, frames: &Frames) -> Result<Finding, Refused>
+    requires laws { AreFrames circuit.now (bad_literal circuit.now 0) frames.now }
+    requires deep { IsDeep circuit.now frames.now.top }
+    ensures { (after : Steps) → IfOk result (IsFound circuit.now frames.now after) }
+{
+    match repeated(circuit, frames)? {
+        Some(clauses) => Ok(Finding::Invariant(clauses)),
+        None => Ok(Finding::Unknown(Reason::Depth(frames.top()))),
+    }
+}
+
 impl<S: PartSat> FrameSolver<S> {
     /// Opens the next frame. Where it has no guard, the circuit is loaded again, for twice as many
     /// levels. With a thousand million frames there are no more: then it changes nothing and answers false.
@@ -31,6 +45,7 @@ impl<S: PartSat> FrameSolver<S> {
         requires sound { IsSound circuit.now self.old frames.old }
         requires excluded { Excludes circuit.now (bad_literal circuit.now 0) frames.old.entries frames.old.top }
         ensures sound { OnOk result (IsSound circuit.now self.new frames.new) }
+        ensures opened { IfOk result (λ opened. opened ≡ true → frames.new.top ≡ frames.old.top + 1) }
         ensures deep { IfOk result (λ opened. opened ≡ false → IsDeep circuit.now frames.new.top) }
     {
         if frames.top() + 1 < self.levels {
@@ -56,13 +71,77 @@ impl<S: PartSat> FrameSolver<S> {
         budget: &mut Budget,
     ) -> Result<Option<Seq<Seq<Lit>>>, EngineError>
         requires sound { IsSound circuit.now self.old frames.old }
+        ensures top { frames.new.top ≡ frames.old.top }
         ensures spends { Spends budget.old budget.new }
         ensures sound { OnOk result (IsSound circuit.now self.new frames.new) }
         ensures invariant { IfOk result (λ r. IfSome r (IsInvariant circuit.now)) }
+        ensures none { IfOk result (λ r. r ≡ None → AreApart frames.new) }
     {
         progress.frame_opened(frames.top(), frames.entries().len(), budget);
         self.try_candidates(circuit, frames, candidates, budget)?;
         self.propagate(circuit, frames, budget)
+    }
+
+    /// Opens the next frame, and propagates clauses to it. It answers the invariant that is found then, without the clauses that its
+    /// proof does not need, or what the frames come to where no more can be opened; and nothing only where no frame is the same as
+    /// the next.
+    fn deepen<P: Progress>(
+        &mut self,
+        circuit: &Model,
+        frames: &mut Frames,
+        candidates: &[Seq<Lit>],
+        progress: &mut P,
+        budget: &mut Budget,
+    ) -> Result<Option<Finding>, EngineError>
+        requires for_bad { IsForBad circuit.now }
+        requires sound { IsSound circuit.now self.old frames.old }
+        requires excluded { Excludes circuit.now (bad_literal circuit.now 0) frames.old.entries frames.old.top }
+        ensures spends { Spends budget.old budget.new }
+        ensures sound { IfOk result (λ r. r ≡ None → IsSound circuit.now self.new frames.new) }
+        ensures found { IfOk result (λ r. IfSome r (IsFound circuit.now frames.new budget.new)) }
+        ensures opened { IfOk result (λ r. r ≡ None → frames.new.top ≡ frames.old.top + 1) }
+        ensures apart { IfOk result (λ r. r ≡ None → AreApart frames.new) }
+    {
+        if !self.open_next(circuit, frames)? {
+            return Ok(Some(last_finding(circuit, frames)?));
+        }
+        match self.propagation_phase(circuit, frames, candidates, progress, budget)? {
+            Some(clauses) => {
+                let needed = self.reduced(frames.allocator(), circuit, clauses, budget)?;
+                Ok(Some(Finding::Invariant(needed)))
+            }
+            None => Ok(None),
+        }
+    }
+
+    /// Asks for the bad literal in the last frame, and then blocks what sets it, or opens the next frame. It answers what is found,
+    /// and nothing only where no frame was opened, or where none is the same as the next.
+    fn search_step<P: Progress>(
+        &mut self,
+        circuit: &Model,
+        frames: &mut Frames,
+        lifting: &mut Lifting,
+        candidates: &[Seq<Lit>],
+        progress: &mut P,
+        budget: &mut Budget,
+    ) -> Result<Option<Finding>, EngineError>
+        requires for_bad { IsForBad circuit.now }
+        requires sound { IsSound circuit.now self.old frames.old }
+        requires ready { IsReady circuit.now lifting.old }
+        ensures spends { Spends budget.old budget.new }
+        ensures sound { IfOk result (λ r. r ≡ None → IsSound circuit.now self.new frames.new) }
+        ensures ready { OnOk result (IsReady circuit.now lifting.new) }
+        ensures found { IfOk result (λ r. IfSome r (IsFound circuit.now frames.new budget.new)) }
+        ensures going { IfOk result (λ r. r ≡ None → (frames.new.top ≡ frames.old.top) ⊎ ((frames.new.top ≡ frames.old.top + 1) × AreApart frames.new)) }
+    {
+        progress.query_asked(budget);
+        match self.at_bad(circuit, frames, budget)? {
+            AtBad::Set(time) => {
+                self.block_obligations(circuit, frames, lifting, time, progress, budget)
+            }
+            AtBad::Excluded => self.deepen(circuit, frames, candidates, progress, budget),
+            AtBad::Spent => Ok(Some(Finding::Unknown(Reason::Budget))),
+        }
     }
 
     /// Looks for an invariant that excludes the bad literal, or for a run that sets it, from frames
@@ -80,37 +159,12 @@ impl<S: PartSat> FrameSolver<S> {
         requires sound { IsSound circuit.now self.old frames.old }
         requires ready { IsReady circuit.now lifting.old }
         ensures spends { Spends budget.old budget.new }
-        ensures found { IfOk result (IsFound circuit.now budget.new) }
+        ensures found { IfOk result (IsFound circuit.now frames.new budget.new) }
     {
         'searching: while budget.tick() {
-            progress.query_asked(budget);
-            match self.at_bad(circuit, frames, budget)? {
-                AtBad::Set(time) => {
-                    match self.block_obligations(
-                        circuit, frames, lifting, time, progress, budget,
-                    )? {
-                        Some(finding) => return Ok(finding),
-                        None => {}
-                    }
-                }
-                AtBad::Excluded => {
-                    if !self.open_next(circuit, frames)? {
-                        return Ok(Finding::Unknown(Reason::Depth(frames.top())));
-                    }
-                    match self.propagation_phase(circuit, frames, candidates, progress, budget)? {
-                        Some(clauses) => {
-                            let needed = self.reduced(
-                                frames.allocator(),
-                                circuit,
-                                clauses,
-                                budget,
-                            )?;
-                            return Ok(Finding::Invariant(needed));
-                        }
-                        None => {}
-                    }
-                }
-                AtBad::Spent => return Ok(Finding::Unknown(Reason::Budget)),
+            match self.search_step(circuit, frames, lifting, candidates, progress, budget)? {
+                Some(finding) => return Ok(finding),
+                None => {}
             }
         }
         Ok(Finding::Unknown(Reason::Budget))
@@ -128,7 +182,8 @@ impl<S: PartSat> FrameSolver<S> {
     ) -> Result<Finding, EngineError>
         requires { IsForBad circuit.now }
         ensures spends { Spends budget.old budget.new }
-        ensures found { IfOk result (IsFound circuit.now budget.new) }
+        ensures so { IfOk result (IsSo circuit.now budget.new) }
+        ensures decided { IfOk result (IsDecided circuit.now) }
     {
         let mut frames = Frames::first(alloc, circuit)?;
         self.load(circuit, &frames, LEVELS)?;

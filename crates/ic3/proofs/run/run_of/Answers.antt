@@ -11,7 +11,7 @@ use Rattle.ic3.proofs.Shown.{run_found}
 use Rattle.ic3.proofs.run.run_of.Goals as goal
 
 pub returns : goal.returns
-returns c = λ after.
+returns c = λ f after.
     let m = c.args.circuit.now in
     let o = c.index-found-from.result in
     let s = c.in_ok-initial.initial in
@@ -23,5 +23,5 @@ returns c = λ after.
     subst (λ (ls : List Latch). All (λ (a : StateLit). IsResetLit ls a → ⊥) o.clause) (sym c.latches.ensures) set in
     let first : Denies s o.clause = c.in_ok-initial.ensures.denies o.clause (subst (λ (q : List Bool). Denies q o.clause) (sym c.as_slice.ensures) here.denies) inside free in
     let way : IsWay m o c.in_ok-inputs.inputs = subst (λ (p : Obligation). IsWay m p c.in_ok-inputs.inputs) (sym c.index-found-from.is) (c.in_ok-inputs.ensures m o c.requires.obligations) in
-    run_found m c.order.result.now o way.0 s c.in_ok-inputs.inputs after model c.requires.for_bad way.2 way.3
+    run_found m c.order.result.now o way.0 s c.in_ok-inputs.inputs f after model c.requires.for_bad way.2 way.3
     (c.in_ok-initial.ensures.long ∙ ap length c.latches.ensures) (subst (λ (ls : List Latch). HasResets ls s) c.latches.ensures c.in_ok-initial.ensures.resets) first way.1

@@ -37,3 +37,6 @@ returns-clause-sound g c =
       below = all_more (λ (e : Entry). e.level < c.add_clause.new.self.levels) old new level added.only
           (subst (λ n. All (λ (e : Entry). e.level < n) old) same sound.below) (omega (arith, top, same, c.requires.below));
     }
+
+pub returns-clause-held : goal.returns-clause-held
+returns-clause-held g c = λ s inside. entry_holds c.add.new.self.entries c.args.clause (c.args.level + 1) s c.in_ok-add.ensures.newest inside

@@ -1,4 +1,5 @@
 use Rattle.base.specs.Budget.{Spends}
+use Rattle.ic3_step.specs.States.{IsPartOf}
 use Rattle.ic3.specs.Sound.{IsSound}
 use Rattle.ic3.specs.Answers.{IsInductiveFrom}
 use Rattle.ic3.proofs.frame_solver.FrameSolver.generalize.Given as goal
@@ -8,4 +9,5 @@ invariant-dropping g l = record {
   spends : Spends l.initial.budget l.budget;
   sound : IsSound l.circuit l.self l.frames;
   inductive : IsInductiveFrom l.circuit l.frames.entries l.level l.kept;
+  part : IsPartOf l.kept l.fn.clause;
 }

@@ -5,6 +5,7 @@ use Rattle.ic3_step.specs.States.{IsPartOf}
 use Rattle.ic3_frames.specs.Clauses.{IsResetLit}
 use Rattle.ic3.specs.Answers.{IsRelative}
 use Rattle.ic3.proofs.Inductions.{reset_of, kept_inductive}
+use Rattle.ic3.proofs.Literals.{picked_part}
 use Rattle.ic3.proofs.frame_solver.FrameSolver.inductive.Goals as goal
 
 pub with_part-requires : goal.with_part-requires
@@ -32,7 +33,9 @@ returns-in_ok-kept-in-Held-clause-lawful g c =
     let law = subst (IsRelative m es k clause c.relative.new.budget) c.in-Held.is c.in_ok-part.ensures.lawful in
     let inside = subst (λ part. IsPartOf part clause) (sym c.as_slice.ensures) law.0 in
     let own = subst (λ (latches : List Latch). IsResetLit latches c.args.first) (sym c.latches.ensures) c.requires.reset in
-    let reset = reset_of c.latches.result.now c.as_slice.result.now clause c.reset_literal.result c.args.first c.reset_literal.ensures.some inside c.requires.among own in
-    kept_inductive m es k part kept clause first c.relative.new.budget c.requires.clause law c.in_ok-kept-in-Held.ensures.picked
-    (subst (λ xs. IsPartOf xs kept) c.as_slice-in-Held.ensures c.in_ok-kept-in-Held.ensures.part) c.in_ok-kept-in-Held.ensures.more
-    (subst (λ (latches : List Latch). IsResetLit latches first) c.latches.ensures (subst (IsResetLit c.latches.result.now) {x = unwrap_or c.reset_literal.result c.args.first} (sym c.unwrap_or-first.ensures) reset.1))
+    let reset = reset_of c.latches.result.now c.as_slice.result.now clause c.reset_literal.result c.args.first c.reset_literal.ensures.some inside c.requires.among own in (
+      kept_inductive m es k part kept clause first c.relative.new.budget c.requires.clause law c.in_ok-kept-in-Held.ensures.picked
+          (subst (λ xs. IsPartOf xs kept) c.as_slice-in-Held.ensures c.in_ok-kept-in-Held.ensures.part) c.in_ok-kept-in-Held.ensures.more
+          (subst (λ (latches : List Latch). IsResetLit latches first) c.latches.ensures (subst (IsResetLit c.latches.result.now) {x = unwrap_or c.reset_literal.result c.args.first} (sym c.unwrap_or-first.ensures) reset.1)),
+      picked_part kept clause c.in_ok-kept-in-Held.ensures.picked,
+    )
