@@ -16,13 +16,14 @@ ghost use Rattle.lrat.specs.Limits.{IsFormula};
 ghost use Rattle.lrat.specs.Literals.{IsLiteral};
 ghost use Rattle.lrat.specs.Proofs.{IsAcceptedProof};
 ghost use Rattle.solver.specs.Answers.{IsLawful};
+ghost use Rattle.solver.specs.Parts.{IsLawfulPart};
 
 use crate::refuted::Refuted;
 use base::Budget;
 use cdcl_log::{Closing, Lemmas, LoggedKernel, Shown, opposed_closing};
 use cdcl_search::{Guide, search};
 use lrat::{Formula, Proof};
-use solver::{Answer, SatError};
+use solver::{Answer, Part, SatError};
 use std::alloc::Global;
 use std::marker::Model;
 
@@ -112,6 +113,60 @@ impl Refuter {
         }
     }
 
+    /// As `show`, but that the part is asked about first. Where nothing satisfies the formula with the units, it mostly costs the
+    /// part alone.
+    pub fn show_part(
+        &mut self,
+        alloc: Global,
+        part: &Part,
+        units: &[i32],
+        budget: &mut Budget,
+    ) -> Result<Shown, SatError>
+        requires { All (IsLiteral self.old.formula.vars) units.now }
+        ensures formula { self.new.formula ≡ self.old.formula }
+        ensures room { self.new.room ≡ self.old.room }
+        ensures stays { StaysShown self.old self.new }
+        ensures spends { Spends budget.old budget.new }
+        ensures lawful { IfOk result (IsShown self.new units.now budget.new) }
+    {
+        match searched_part(
+            alloc,
+            &mut self.kernel,
+            &mut self.guide,
+            part,
+            units,
+            budget,
+        )? {
+            Answer::Model(_) => self.show(alloc, units, budget),
+            Answer::Core(_) => Ok(Shown::Closing(closing(alloc, &mut self.kernel, units)?)),
+            Answer::Spent => Ok(Shown::Spent),
+        }
+    }
+
+    /// Asks about the part with these units, for what is learned of it: whether they are shown to be opposed. Nothing is made of
+    /// the answer.
+    pub fn learn(
+        &mut self,
+        alloc: Global,
+        part: &Part,
+        units: &[i32],
+        budget: &mut Budget,
+    ) -> Result<bool, SatError>
+        requires { All (IsLiteral self.old.formula.vars) units.now }
+        ensures same { self.new ≡ self.old }
+        ensures spends { Spends budget.old budget.new }
+    {
+        let answer = searched_part(
+            alloc,
+            &mut self.kernel,
+            &mut self.guide,
+            part,
+            units,
+            budget,
+        )?;
+        Ok(matches!(answer, Answer::Core(_)))
+    }
+
     /// The lines of the log that these closings rest on through hints, in their order, as lemmas of
     /// the formula: over what they lead to, the section of each closing is accepted, with the units
     /// that it was shown for. It costs the lines that it takes and their hints, whatever the
@@ -141,6 +196,29 @@ fn searched(
     ensures limit { IfErr result (λ e. e ≡ Limit full → IsFull kernel.new) }
 {
     let answer = search(kernel, guide, None, units, budget);
+    if answer.is_err() {
+        guide.renew(alloc);
+    }
+    answer
+}
+
+/// What a search about a part comes to under the units. After a refusal nothing guides the next one.
+fn searched_part(
+    alloc: Global,
+    kernel: &mut LoggedKernel,
+    guide: &mut Guide,
+    part: &Part,
+    units: &[i32],
+    budget: &mut Budget,
+) -> Result<Answer, SatError>
+    requires { All (IsLiteral kernel.old.vars) units.now }
+    ensures keeps { Keeps kernel.old kernel.new }
+    ensures spends { Spends budget.old budget.new }
+    ensures lawful { IfOk result (IsLawfulPart kernel.old.vars kernel.old.clauses part.now units.now budget.new) }
+    ensures ends { IfOk result (EndsWith kernel.old kernel.new units.now) }
+    ensures limit { IfErr result (λ e. e ≡ Limit full → IsFull kernel.new) }
+{
+    let answer = search(kernel, guide, Some(part), units, budget);
     if answer.is_err() {
         guide.renew(alloc);
     }

@@ -16,7 +16,7 @@ use base::Budget;
 use cdcl::{Closing, Refuter, Shown, section};
 use graph::Seq;
 use lrat::{Formula, Proof};
-use solver::{SatError, Taken};
+use solver::{Part, SatError, Taken};
 use std::alloc::Global;
 
 /// Cases that nothing satisfies. They share a formula, which a solver has loaded, and each has units
@@ -46,12 +46,13 @@ impl ClosedCases {
         })
     }
 
-    /// One more case, which has these units, where nothing satisfies it.
+    /// One more case, which has these units, where nothing satisfies it. The part is asked about first.
     pub fn close(
         &mut self,
         alloc: Global,
         case: Case,
         units: Seq<i32>,
+        part: &Part,
         budget: &mut Budget,
     ) -> Result<(), Halt>
         requires literals { All (IsLiteral self.old.refuter.formula.vars) units }
@@ -62,7 +63,10 @@ impl ClosedCases {
         ensures one_more { OnOk result (self.new.units ≡ self.old.units ++ units ∷ []) }
         ensures halted { IfErr result (IsHaltOf (with_units self.old.refuter.formula units) case budget.new) }
     {
-        match self.refuter.show(alloc, units.as_slice(), budget)? {
+        match self
+            .refuter
+            .show_part(alloc, part, units.as_slice(), budget)?
+        {
             Shown::Closing(closing) => {
                 self.units.push(units)?;
                 self.closings.push(closing)?;

@@ -19,6 +19,7 @@ mod counterexample;
 mod examining;
 mod halt;
 mod proving;
+mod sweeping;
 
 pub use certified::Certified;
 pub use certify_error::CertifyError;

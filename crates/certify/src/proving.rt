@@ -16,12 +16,14 @@ ghost use Rattle.certify.specs.Sections.{AreClosed, AreProofs, case_over};
 use crate::closed_cases::ClosedCases;
 use crate::counterexample::{Case, Counterexample};
 use crate::halt::Halt;
+use crate::sweeping::sweep_pairs;
 use base::Budget;
 use cdcl::{Refuted, Refuter};
 use cnf::{NextTable, bad_unit, init_units, shared_base, start_base, step_units};
 use graph::{Lit, Model, Seq};
 use lrat::Proof;
 use std::alloc::Global;
+use sweep::Near;
 
 /// The proofs of an invariant's cases.
 #[derive(Drop)]
@@ -119,10 +121,12 @@ fn close_steps(
     ensures halted { IfErr result (λ h. (a : Lit) → IsHalt circuit.now invariant.now a budget.new h) }
 {
     let table = NextTable::new(alloc, circuit)?;
+    let mut near = Near::new(alloc, circuit)?;
     for (place, clause) in invariant.iter().enumerate() {
         let units = step_units(alloc, circuit, &table, clause.as_slice())?;
+        let part = near.part_of(alloc, circuit, units.as_slice())?;
         let case = Case::Step(place as u64);
-        cases.close(alloc, case, Seq::from_vec(units), budget)?;
+        cases.close(alloc, case, Seq::from_vec(units), &part, budget)?;
     }
     Ok(())
 }
@@ -161,9 +165,11 @@ fn close_others(
     ensures proved { IfOk result (λ l. (b : Base) × IsShared circuit.now invariant.now (Some l) b × ((cs : List AnyCase) → AreProofs cs sections.old → AreProofs (cs ++ map (step_case circuit.now b) invariant.now ++ bad_case circuit.now b bad ∷ []) sections.new)) }
     ensures halted { IfErr result (IsHalt circuit.now invariant.now bad budget.new) }
 {
+    sweep_pairs(alloc, circuit, invariant, &mut cases.refuter, budget)?;
     close_steps(alloc, circuit, invariant, cases, budget)?;
     let units = Seq::from_slice(alloc, &[bad_unit(circuit, bad)])?;
-    cases.close(alloc, Case::Bad, units, budget)?;
+    let part = Near::new(alloc, circuit)?.part_of(alloc, circuit, units.as_slice())?;
+    cases.close(alloc, Case::Bad, units, &part, budget)?;
     Ok(cases.write(alloc, sections)?)
 }
 

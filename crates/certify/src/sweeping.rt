@@ -1,0 +1,67 @@
+//! What a refuter learns of signals.
+
+ghost use Rattle.std.specs.Prelude.{◌≡◌, ◌+◌};
+ghost use Rattle.base.specs.Budget.{Spends};
+
+use cdcl::Refuter;
+use graph::{Budget, Lit, Model, Seq};
+use solver::SatError;
+use std::alloc::Global;
+use sweep::{STEPS, Sweep};
+
+/// Spends so many steps, or all that are left.
+fn spend(budget: &mut Budget, steps: u64)
+    ensures { Spends budget.old budget.new }
+{
+    for _ in 0..steps {
+        let _ = budget.tick();
+    }
+}
+
+/// Whether a few steps show that the signals of a pair do not differ in this direction.
+fn is_shown(
+    alloc: Global,
+    sweep: &mut Sweep,
+    pair: usize,
+    is_turned: bool,
+    refuter: &mut Refuter,
+    budget: &mut Budget,
+) -> Result<bool, SatError>
+    requires { refuter.old.formula.vars ≡ sweep.old }
+    ensures sweep { sweep.new ≡ sweep.old }
+    ensures same { refuter.new ≡ refuter.old }
+    ensures spends { Spends budget.old budget.new }
+{
+    let Some(question) = sweep.question(alloc, pair, is_turned)? else {
+        return Ok(false);
+    };
+    let mut piece = Budget::new(budget.left().min(STEPS));
+    let units = question.units.as_slice();
+    let is_shown = refuter.learn(alloc, &question.part, units, &mut piece)?;
+    spend(budget, piece.spent());
+    Ok(is_shown)
+}
+
+/// Asks of pairs of signals whether they can differ, for what the refuter learns of it: the lemmas of which short proofs are made.
+pub(crate) fn sweep_pairs(
+    alloc: Global,
+    circuit: &Model,
+    invariant: &[Seq<Lit>],
+    refuter: &mut Refuter,
+    budget: &mut Budget,
+) -> Result<(), SatError>
+    requires { refuter.old.formula.vars ≡ circuit.now.max_var + 1 }
+    ensures same { refuter.new ≡ refuter.old }
+    ensures spends { Spends budget.old budget.new }
+{
+    let mut sweep = Sweep::new(alloc, circuit, invariant)?;
+    'sweeping: for pair in 0..sweep.len() {
+        if budget.left() == 0 {
+            return Ok(());
+        }
+        if is_shown(alloc, &mut sweep, pair, false, refuter, budget)? {
+            is_shown(alloc, &mut sweep, pair, true, refuter, budget)?;
+        }
+    }
+    Ok(())
+}
