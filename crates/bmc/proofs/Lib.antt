@@ -13,3 +13,4 @@ pub mod Unrolled
 pub mod Opening
 pub mod Found
 pub mod Lined
+mod Answering

@@ -12,6 +12,8 @@ use Rattle.engine.specs.Bounds.{IsUnsetFor}
 use Rattle.engine.specs.declared.finding.Finding.{Finding}
 use Rattle.engine.specs.declared.finding.Finding.TheVariants.{Invariant, Run, Unknown}
 use Rattle.engine.specs.declared.finding.Reason.TheVariants.{Budget, Depth, NoEvidence}
+use Rattle.solver.specs.declared.answer.Answer.{Answer}
+use Rattle.solver.specs.declared.answer.Answer.TheVariants.{Model, Core, Spent}
 
 -- what a bounded search is seen as: its depth, and its solver
 pub record Bounded (S : Type 0) : Type 0 where
@@ -49,3 +51,16 @@ EndsAt m steps after (Unknown NoEvidence) = ⊥
 abbrev pub IsOfSteps : Parts → ℕ → Steps → Option Finding → Type 0
 IsOfSteps m steps after (Some finding) = EndsAt m steps after finding
 IsOfSteps m steps after None = IsUnsetAfter m steps
+
+-- what is found by the solver's answer: by a model a run of this number of steps that shows the bad literal, by a core nothing, and else
+-- that the budget is exhausted
+abbrev pub IsFoundBy : Parts → ℕ → Answer → Option Finding → Type 0
+IsFoundBy m steps (Model b) found = (f : Finding) × (found ≡ Some f) × ((after : Steps) → EndsAt m steps after f)
+IsFoundBy m steps (Core core) found = found ≡ None
+IsFoundBy m steps Spent found = found ≡ Some (Unknown Budget)
+
+-- what the solver's answer says: by a core no run of this number of steps sets the bad literal, or the budget is exhausted
+abbrev pub IsAnswerOf : Parts → ℕ → Steps → Answer → Type 0
+IsAnswerOf m steps after (Model b) = Unit {0}
+IsAnswerOf m steps after (Core core) = IsUnsetAfter m steps
+IsAnswerOf m steps after Spent = after.left ≡ 0

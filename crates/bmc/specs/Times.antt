@@ -10,6 +10,8 @@ use Rattle.lrat.specs.Literals.{is_true}
 use Rattle.cnf.specs.Formulas.{bad_literal}
 use Rattle.cones.specs.Marks.{IsMarked}
 use Rattle.solver.specs.Answers.{IsModel}
+use Rattle.solver.specs.declared.answer.Answer.{Answer}
+use Rattle.solver.specs.declared.answer.Answer.TheVariants.{Model, Core, Spent}
 use Rattle.bmc.specs.Encodings.{Told, told, AreKept}
 use Rattle.bmc.specs.Demands.{AreGiven}
 use Rattle.bmc.specs.Unrollings.{Leaves, Follows, IsUnrolled}
@@ -44,3 +46,9 @@ pub record IsBadModel (m : Parts) (c : Cone) (u : Unrolling) (steps : ℕ) (b : 
   pub marked : IsMarked u.given.items (unsigned_abs literal)
   pub stands : StandsForBad m c (leaves_of u) (told u.encoder clauses) steps literal
   pub model : IsModel vars clauses (literal ∷ []) b
+
+-- the answer's model, where it is one, is such a model
+abbrev pub IsBadAnswer : Parts → Cone → Unrolling → ℕ → Answer → Type 0
+IsBadAnswer m c u steps (Model b) = IsBadModel m c u steps b.items
+IsBadAnswer m c u steps (Core core) = Unit {0}
+IsBadAnswer m c u steps Spent = Unit {0}

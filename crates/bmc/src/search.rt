@@ -5,8 +5,8 @@ ghost use Rattle.base.specs.Budget.{Spends, Steps};
 ghost use Rattle.cnf.specs.Tables.{IsTableOf};
 ghost use Rattle.engine.specs.Findings.{IsForBad, IsSo};
 ghost use Rattle.bmc.specs.Cones.{IsConeOf};
-ghost use Rattle.bmc.specs.Depths.{EndsAt, IsOfSteps, IsShortest, IsWithinDepth};
-ghost use Rattle.bmc.specs.Times.{IsAt, HasRoom, IsBadModel};
+ghost use Rattle.bmc.specs.Depths.{EndsAt, IsFoundBy, IsOfSteps, IsShortest, IsWithinDepth};
+ghost use Rattle.bmc.specs.Times.{IsAt, HasRoom, IsBadAnswer, IsBadModel};
 ghost use Rattle.engine.specs.declared.engine_error.EngineError.TheVariants.{Limit};
 ghost use Rattle.solver.specs.Full.{full};
 
@@ -63,6 +63,31 @@ fn run_of(
     Ok(Finding::Run { initial, inputs })
 }
 
+/// What the solver's answer says of the runs of this number of steps: a model is one that sets the bad literal at its last time, and by
+/// a core there is none.
+fn found_by(
+    alloc: Global,
+    circuit: &Model,
+    cone: &Cone,
+    unrolling: &Unrolling,
+    answer: Answer,
+    steps: u32,
+) -> Result<Option<Finding>, Refused>
+    requires for_bad { IsForBad circuit.now }
+    requires cone { IsConeOf circuit.now cone.now }
+    requires model { IsBadAnswer circuit.now cone.now unrolling.now steps answer }
+    ensures { IfOk result (IsFoundBy circuit.now steps answer) }
+{
+    match answer {
+        Answer::Model(values) => {
+            let run = run_of(alloc, circuit, cone, unrolling, values.as_slice(), steps)?;
+            Ok(Some(run))
+        }
+        Answer::Core(_) => Ok(None),
+        Answer::Spent => Ok(Some(Finding::Unknown(Reason::Budget))),
+    }
+}
+
 /// Looks for a run of one step more that sets the bad literal at its last time.
 fn reach<S: Sat>(
     solver: &mut S,
@@ -98,13 +123,8 @@ fn reach<S: Sat>(
     let alloc = unrolling.allocator();
     unrolling.encode(solver, circuit, cone, nexts)?;
     let bad = literal(unrolling.table.as_slice(), circuit.bad()[0]);
-    match solver.solve(alloc, &[bad], budget)? {
-        Answer::Model(values) => {
-            Ok(Some(run_of(alloc, circuit, cone, unrolling, values.as_slice(), steps)?))
-        },
-        Answer::Core(_) => Ok(None),
-        Answer::Spent => Ok(Some(Finding::Unknown(Reason::Budget))),
-    }
+    let answer = solver.solve(alloc, &[bad], budget)?;
+    Ok(found_by(alloc, circuit, cone, unrolling, answer, steps)?)
 }
 
 /// Looks through runs of 0 steps, 1 step, up to `depth` steps.

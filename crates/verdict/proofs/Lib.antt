@@ -1,3 +1,4 @@
 mod Asked
 mod Answered
 mod OnlyBad
+mod Certifying

@@ -4,12 +4,14 @@ use Rattle.base.specs.Witness.{witness}
 use Rattle.graph.specs.declared.circuit.Property.{Property}
 use Rattle.graph.specs.declared.parts.Parts.{Parts}
 use Rattle.graph.specs.Properties.{position_of, HasProperty}
-use Rattle.engine.specs.declared.finding.Reason.TheVariants.{NoEvidence}
+use Rattle.engine.specs.declared.finding.Reason.TheVariants.{Budget, NoEvidence}
 use Rattle.solver.specs.Full.{full}
+use Rattle.certify.specs.declared.certified.Certified.{Certified}
+use Rattle.certify.specs.declared.certified.Certified.TheVariants.{Certificate, NotInvariant, Spent}
 use Rattle.certify.specs.declared.certify_error.CertifyError.{CertifyError}
 use Rattle.certify.specs.declared.certify_error.CertifyError.TheVariants as certify
 use Rattle.verdict.specs.declared.verdict.Verdict.{Verdict}
-use Rattle.verdict.specs.declared.verdict.Verdict.TheVariants.{Unknown}
+use Rattle.verdict.specs.declared.verdict.Verdict.TheVariants.{Safe, Unknown}
 use Rattle.verdict.specs.declared.decide_error.DecideError.{DecideError}
 use Rattle.verdict.specs.declared.decide_error.DecideError.TheVariants.{NoProperty, Limit, IdsTaken, OutOfMemory}
 
@@ -29,3 +31,10 @@ of_certify (certify.OutOfMemory refused) = Err (OutOfMemory witness)
 of_certify (certify.NoProperty n) = Ok (Unknown NoEvidence)
 of_certify (certify.NotLatch k) = Ok (Unknown NoEvidence)
 of_certify (certify.Repeated k) = Ok (Unknown NoEvidence)
+
+-- what comes of a certificate of clauses, or of why there is none: what something satisfies is no evidence
+abbrev pub verdict_on : Result Certified CertifyError → Result Verdict DecideError
+verdict_on (Ok (Certificate c)) = Ok (Safe c)
+verdict_on (Ok (NotInvariant c)) = Ok (Unknown NoEvidence)
+verdict_on (Ok Spent) = Ok (Unknown Budget)
+verdict_on (Err e) = of_certify e

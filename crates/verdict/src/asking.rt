@@ -15,7 +15,7 @@ ghost use Rattle.certify.specs.Outcomes.{IsCertified};
 ghost use Rattle.certify.specs.declared.certified.Certified.TheVariants.{NotInvariant};
 ghost use Rattle.certify.specs.declared.counterexample.Counterexample.{Counterexample as ACounterexample};
 ghost use Rattle.verdict.specs.Asked.{IsVerdictOf, IsOfClauses, IsOfReplay, Stops};
-ghost use Rattle.verdict.specs.Causes.{HasCause, of_certify};
+ghost use Rattle.verdict.specs.Causes.{HasCause, of_certify, verdict_on};
 ghost use Rattle.verdict.specs.Verdicts.{IsAsked, IsBacked, IsMeant, IsUnsafe, IsViolation};
 ghost use Rattle.verdict.specs.declared.decide_error.DecideError.TheVariants.{OutOfMemory};
 
@@ -144,7 +144,14 @@ fn of_clauses(
     ensures refused { IfErr result (HasCause circuit.now property) }
 {
     circuit.well_formed();
-    match certificate_of(alloc, circuit, property, asked, invariant, budget) {
+    of_certified(certificate_of(alloc, circuit, property, asked, invariant, budget))
+}
+
+/// What comes of a certificate of clauses, or of why there is none.
+fn of_certified(certified: Result<Certified, CertifyError>) -> Result<Verdict, DecideError>
+    ensures { result ≡ verdict_on certified }
+{
+    match certified {
         Ok(Certified::Certificate(certificate)) => Ok(Verdict::Safe(certificate)),
         Ok(Certified::NotInvariant(_)) => Ok(Verdict::Unknown(Reason::NoEvidence)),
         Ok(Certified::Spent) => Ok(Verdict::Unknown(Reason::Budget)),

@@ -3,11 +3,11 @@ use Rattle.std.proofs.lemmas.List.Elements.{All-cons, All-nil}
 use Rattle.graph.specs.Valuation.{variable}
 use Rattle.lrat.specs.Literals.{IsLiteral}
 use Rattle.cnf.specs.Formulas.{bad_literal}
-use Rattle.solver.specs.Answers.{IsModel, IsCore}
 use Rattle.bmc.specs.Encodings.{told}
 use Rattle.bmc.specs.Unrollings.{literal_of}
 use Rattle.bmc.specs.Times.{StandsForBad, leaves_of}
 use Rattle.bmc.proofs.Depths.{bad_range, some_bad}
+use Rattle.bmc.proofs.Answering.{answer_of, bad_answer, found_of}
 use Rattle.bmc.proofs.Found.{core_unset}
 use Rattle.bmc.proofs.Added.{read_as}
 use Rattle.bmc.proofs.Negated.{literal_up}
@@ -35,8 +35,8 @@ solve-requires g c =
     let room : n ≤ vars = omega (arith, c.in_ok-encode.ensures.few, c.requires.room, c.in_ok-encode.ensures.vars) in
     subst (λ (q : ℤ). All (IsLiteral vars) (q ∷ [])) (sym (read_as _ _ f l_is)) (All-cons (IsLiteral vars) l [] (literal_up n vars l l_in room) (All-nil (IsLiteral vars)))
 
-pub run_of-requires-clause-model : goal.run_of-requires-clause-model
-run_of-requires-clause-model g c =
+pub found_by-requires-clause-model : goal.found_by-requires-clause-model
+found_by-requires-clause-model g c =
     let m = c.args.circuit.now in
     let cone = c.args.cone.now in
     let u = c.encode.new.self in
@@ -52,8 +52,8 @@ run_of-requires-clause-model g c =
     let table = rw c.requires.times at c.in_ok-encode.ensures.stands in
     let stands : StandsForBad m cone (leaves_of u) (told u.encoder cs) steps l =
     literal_stands m cone (leaves_of u) (told u.encoder cs) steps n (length cone.inputs.items) (length cone.latches.items) (length cone.cells.items) u.table.items (bad_literal m 0) table (c.requires.cone.bad 0 (record { 0 = 0 }) (some_bad m c.requires.for_bad)) inside in
-    let model : IsModel vars cs (l ∷ []) c.in-Model.values.items = rw (c.in-Model.is, read_as _ _ f l_is) at c.in_ok-values.ensures.lawful in
-    record {
+    bad_answer m cone u steps vars cs (l ∷ []) c.solve.new.budget _
+    (λ b model. record {
       clauses = cs;
       vars = vars;
       literal = l;
@@ -63,16 +63,17 @@ run_of-requires-clause-model g c =
       given = c.in_ok-encode.ensures.at.given;
       marked = c.in_ok-encode.ensures.bad 0 (record { 0 = 0 }) (some_bad m c.requires.for_bad);
       stands = stands;
-      model = rw c.as_slice-in-Model.ensures.value model;
-    }
+      model = model;
+    }) (rw (read_as _ _ f l_is) at c.in_ok-answer.ensures.lawful)
 
-pub returns-in-Core-clause-lawful : goal.returns-in-Core-clause-lawful
-returns-in-Core-clause-lawful g c =
+pub returns-clause-lawful : goal.returns-clause-lawful
+returns-clause-lawful g c =
     let m = c.args.circuit.now in
     let cone = c.args.cone.now in
     let u = c.encode.new.self in
     let n : ℕ = u.encoder.variables in
     let cs = g.S.Sat.clauses c.encode.new.solver in
+    let vars : ℕ = g.S.Sat.vars c.encode.new.solver in
     let steps : ℕ = c.args.steps in
     let l : ℤ = literal_of u.table.items (bad_literal m 0) in
     let f : SFits w32 c.literal-bad.result = search rules in
@@ -82,5 +83,7 @@ returns-in-Core-clause-lawful g c =
     let table = rw c.requires.times at c.in_ok-encode.ensures.stands in
     let stands : StandsForBad m cone (leaves_of u) (told u.encoder cs) steps l =
     literal_stands m cone (leaves_of u) (told u.encoder cs) steps n (length cone.inputs.items) (length cone.latches.items) (length cone.cells.items) u.table.items (bad_literal m 0) table (c.requires.cone.bad 0 (record { 0 = 0 }) (some_bad m c.requires.for_bad)) inside in
-    let core : IsCore cs (l ∷ []) c.in-Core.field-0.items = rw (c.in-Core.is, read_as _ _ f l_is) at c.in_ok-values.ensures.lawful in
-    core_unset m cone (leaves_of u) u.state.items u.encoder cs steps l c.in-Core.field-0.items c.in_ok-encode.ensures.at.unrolled (c.in_ok-encode.ensures.more ∙ ap (λ q. q + 1) c.requires.times) stands core
+    found_of m steps c.solve.new.budget _ _
+    (answer_of m steps vars cs (l ∷ []) c.solve.new.budget _
+    (λ core is. core_unset m cone (leaves_of u) u.state.items u.encoder cs steps l core c.in_ok-encode.ensures.at.unrolled (c.in_ok-encode.ensures.more ∙ ap (λ q. q + 1) c.requires.times) stands is)
+    (rw (read_as _ _ f l_is) at c.in_ok-answer.ensures.lawful)) c.in_ok-found_by.ensures
