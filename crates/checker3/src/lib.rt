@@ -14,6 +14,8 @@ mod lines;
 mod refusal;
 mod sections;
 mod text;
+#[cfg(test)]
+mod worked;
 
 pub use refusal::Refusal;
 pub use text::{Outcome, check_source};
