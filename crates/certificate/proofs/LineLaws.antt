@@ -45,7 +45,7 @@ digit_inner d lt =
     let high : leb (48 + d) 57 ≡ true = le-leb (48 + d) 57 (omega arith) in
     rw (low, high) refl
 
-goes_decimal : (n : ℕ) → n < 2 ^ 64 → GoesOn (decimal n)
+pub goes_decimal : (n : ℕ) → n < 2 ^ 64 → GoesOn (decimal n)
 goes_decimal n lt =
     decimal_by_steps (λ n ds. GoesOn ds)
     (λ n lt. goes_one (48 + n) (digit_inner n lt))
@@ -57,14 +57,14 @@ goes_signed : (z : ℤ) → unsigned_abs z < 4294967296 → GoesOn (signed_decim
 goes_signed (pos n) lt = goes_decimal n (omega (arith, lt))
 goes_signed (negsuc n) lt = goes_append (45 ∷ []) (decimal (suc n)) (goes_one 45 refl) (goes_decimal (suc n) (omega (arith, lt)))
 
-goes_each : {A : Type 0} (P : A → Type 0) (text : A → List ℕ) → ((x : A) → P x → GoesOn (text x)) → (xs : List A) → All P xs → GoesOn (flat_map text xs)
+pub goes_each : {A : Type 0} (P : A → Type 0) (text : A → List ℕ) → ((x : A) → P x → GoesOn (text x)) → (xs : List A) → All P xs → GoesOn (flat_map text xs)
 goes_each P text goes [] all = goes_nil
 goes_each P text goes (x ∷ xs) all = goes_append (text x) (flat_map text xs) (goes x (All-head P x xs all)) (goes_each P text goes xs (All-tail P x xs all))
 
 goes_spaced : {A : Type 0} (P : A → Type 0) (text : A → List ℕ) → ((x : A) → P x → GoesOn (text x)) → (xs : List A) → All P xs → GoesOn (spaced text xs)
 goes_spaced P text goes xs all = goes_each P (λ x. text x ++ codes " ") (λ x p. goes_append (text x) (32 ∷ []) (goes x p) (goes_one 32 refl)) xs all
 
-goes_property : (p : AProperty) → position_of p < 4294967296 → GoesOn (property_text p)
+pub goes_property : (p : AProperty) → position_of p < 4294967296 → GoesOn (property_text p)
 goes_property (Bad n) lt = goes_append (98 ∷ []) (decimal n) (goes_one 98 refl) (goes_decimal n (omega (arith, lt)))
 goes_property (Justice n) lt = goes_append (106 ∷ []) (decimal n) (goes_one 106 refl) (goes_decimal n (omega (arith, lt)))
 goes_property (Output n) lt = goes_append (111 ∷ []) (decimal n) (goes_one 111 refl) (goes_decimal n (omega (arith, lt)))
@@ -73,7 +73,7 @@ abbrev all_inner : List ℕ → Bool
 all_inner [] = true
 all_inner (c ∷ cs) = is_inner c && all_inner cs
 
-goes_all : (cs : List ℕ) → all_inner cs ≡ true → GoesOn cs
+pub goes_all : (cs : List ℕ) → all_inner cs ≡ true → GoesOn cs
 goes_all [] e = goes_nil
 goes_all (c ∷ cs) e = let p = and_parts (is_inner c) (all_inner cs) e in goes_append (c ∷ []) cs (goes_one c p.0) (goes_all cs p.1)
 
@@ -178,7 +178,7 @@ none_of : {A : Type 0} (o : Option A) → ((x : A) → o ≡ Some x → ⊥) →
 none_of None f = refl
 none_of (Some x) f = absurd (f x refl)
 
-of_piece : {A : Type 0} {p : List ℕ → Read A} {R : List ℕ → A → Type 0} → Reads p R → ((t : List ℕ) (x : A) → R t x → IsLineText t) → IsOfPiece p
+pub of_piece : {A : Type 0} {p : List ℕ → Read A} {R : List ℕ → A → Type 0} → Reads p R → ((t : List ℕ) (x : A) → R t x → IsLineText t) → IsOfPiece p
 of_piece {A} {p} {R} law lines = record {
   from_piece = piece_reads law lines;
   takes = none_of (ended (p [])) (λ x e. let (body, goes, is) = lines [] x (ended_takes law [] x e) in not_empty body is);

@@ -96,7 +96,7 @@ section_from letter t lines (whole, all) =
     let rest : List ℕ = proof_text lines ++ 46 ∷ 10 ∷ [] in
     (10 ∷ rest, (rest, (proof_text lines, 46 ∷ 10 ∷ [], each_from IsLine line_text SpellsLine line_from lines all, refl, refl), refl), whole)
 
-section_reads : (letter : ℕ) → Reads (section_at letter) (IsSection letter)
+pub section_reads : (letter : ℕ) → Reads (section_at letter) (IsSection letter)
 unfolding section_at
 section_reads letter =
     reads_as (IsSection letter) (reads_after (skips_byte letter) (reads_after (skips_byte 10) (items_reads item_reads item_takes))) (section_to letter) (section_from letter)

@@ -11,6 +11,7 @@
 //!   memory can keep it from one. A text that spells none is refused at its first fault, by the
 //!   byte.
 //! - `Reader` reads the same texts line by line, as a source gives their bytes, however it cuts them.
+//!   `Reader::line` reads lines of other kinds, for texts that have some of these lines.
 //! - `write` puts the text of a certificate that has one, and nothing of any other.
 #![tactic(auto)]
 
@@ -31,10 +32,11 @@ mod writing;
 pub use cert_error::CertError;
 pub use cert_write_error::CertWriteError;
 pub use certificate::Certificate;
-pub use head::Version;
+pub use head::{GREATEST, Version};
 pub use kinds::SectionKind;
 pub use reader::Reader;
 pub use reader_error::ReaderError;
 pub use reading::read;
+pub use refusal::{IN_LINE, IN_PROPERTY, IN_VERSION, Refusal};
 pub use streaming::{read_clauses, skip_lines, skip_section, skip_sections};
 pub use writing::write;

@@ -196,6 +196,24 @@ impl Reader {
         clause_from::<S>(alloc, &mut self.pieces, &mut self.before, clause, from)
     }
 
+    /// The next line, of a kind that is read from one piece.
+    pub fn line<L: LineKind<Refusal = Refusal>, S: Source>(
+        &mut self,
+        alloc: Global,
+        context: L::Context,
+        from: &mut S,
+    ) -> Result<L::Item, ReaderError>
+        requires allows { L.allows context }
+        requires line { IsOfPiece (L.at context) }
+        requires source { S.failed from.old < 2 ^ 64 - 1 }
+        ensures says { Reads (S.leaves from.old) (S.leaves from.new) (λ ys zs. Finds (L.at context (self.old ++ ys)) result self.new zs) }
+        ensures given { IfOk result (λ x. (text : List ℕ) × (ended (L.at context text) ≡ Some x)) }
+        ensures device { IsErrOf result Device ↔ (S.failed from.new ≡ S.failed from.old + 1) }
+        ensures others { (IsErrOf result Device → ⊥) → S.failed from.new ≡ S.failed from.old }
+    {
+        line_from::<L, S>(alloc, &mut self.pieces, &mut self.before, context, from)
+    }
+
     /// Reads the line with which a section of this kind begins.
     #[tactic(auto, using(crate::proofs::LineLaws::letter_of_piece))]
     pub fn section<S: Source>(

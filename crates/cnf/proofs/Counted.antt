@@ -1,8 +1,8 @@
 -- The formula of an unrolling has literals of its variables, and few clauses.
-use Rattle.std.proofs.Common.{◌≡◌, ◌≢◌, ℕ, zero, suc, ◌+◌, ◌*◌, ◌<◌, ◌≤◌, List, [], ◌∷◌, ◌++◌, map, length, get_or, AllPairs, Contains, ℤ, refl, sym, ◌∙◌, ap, subst, arith, length-append}
+use Rattle.std.proofs.Common.{◌≡◌, ◌≢◌, ℕ, zero, suc, ◌+◌, ◌*◌, ◌<◌, ◌≤◌, List, [], ◌∷◌, ◌++◌, map, length, get_or, All, not, AllPairs, Contains, ℤ, refl, sym, ◌∙◌, ap, subst, arith, length-append}
 use Rattle.std.specs.Prelude.{flat_map}
 use Rattle.std.proofs.lemmas.List.{length-map}
-use Rattle.std.proofs.lemmas.List.Elements.{All-nil, All-cons, All-append, All-contains, Contains-get_or, Contains-append_left, Contains-append_right}
+use Rattle.std.proofs.lemmas.List.Elements.{All-nil, All-cons, All-append, All-map, All-contains, Contains-get_or, Contains-append_left, Contains-append_right}
 use Rattle.std.proofs.lemmas.List.Kept.{AllPairs-cons}
 use Rattle.std.proofs.lemmas.Bool.{eqb-true}
 use Rattle.std.proofs.lemmas.Bool.Decides.{Decides-eqb}
@@ -11,6 +11,7 @@ use Rattle.std.proofs.lemmas.Map.Steps.{length-le_from_distinct_below}
 use Rattle.std.proofs.lemmas.Map.Views.{Contains-from_any}
 use Rattle.std.proofs.lemmas.Nat.{mul-le}
 use Rattle.graph.specs.declared.circuit.Latch.{Latch}
+use Rattle.graph.specs.declared.circuit.Lit.{Lit}
 use Rattle.graph.specs.declared.parts.Parts.{Parts}
 use Rattle.graph.specs.Valuation.{variable, defined}
 use Rattle.graph.specs.WellFormed.{IsWellFormed}
@@ -18,12 +19,12 @@ use Rattle.graph.proofs.Evaluation.{held, defined_nonzero}
 use Rattle.graph.proofs.Gates.{left}
 use Rattle.graph.proofs.Shape.{All-flat_map}
 use Rattle.graph.proofs.Tabled.{holds_of_used}
-use Rattle.cnf.specs.Clauses.{literal, denial, truth_clause, frame_at, time_clauses, reset_clauses}
+use Rattle.cnf.specs.Clauses.{is_negated, literal, denial, truth_clause, frame_at, time_clauses, reset_clauses, bad_units}
 use Rattle.lrat.specs.Shared.{unit_clauses}
 use Rattle.lrat.specs.Limits.{IsFormula}
-use Rattle.cnf.specs.Formulas.{IsOfTimes, IsOver}
+use Rattle.cnf.specs.Formulas.{IsInRange, IsOfTimes, IsOver, bad_formula}
 use Rattle.cnf.specs.Unrolled.{join_clauses, times_from, unroll_clauses, unroll_formula}
-use Rattle.cnf.proofs.Formed.{IsKnown, IsClauseFrom, AreFrom, Allows, literal_from, denial_from, two, latches_known, time_from, resets_from, allows_time, allows_to, defined_small, variables_of, time_length, resets_length}
+use Rattle.cnf.proofs.Formed.{IsKnown, IsFrom, chosen_from, IsClauseFrom, AreFrom, Allows, literal_from, denial_from, two, latches_known, time_from, resets_from, allows_time, allows_to, defined_small, variables_of, time_length, resets_length}
 
 join_from : (Q : ℕ → Type 0) (m : Parts) (o : ℕ) (l : Latch) → Allows Q m o → Allows Q m (o + m.max_var + 1) → IsKnown m l.lit → IsKnown m l.next →
     AreFrom Q (join_clauses m.max_var o l)
@@ -148,4 +149,57 @@ unroll_formed m k well small =
           (let top : (t + 1) * (m.max_var + 1) ≤ (k + 1) * (m.max_var + 1) = mul-le (t + 1) (m.max_var + 1) (k + 1) (m.max_var + 1) (omega arith) (omega arith) in omega (arith, top)));
       small = omega (arith, vars);
       few = unroll_length m k well small;
+    }
+
+-- a literal in range is of the variables up to a number
+pub literal_below : (n o top : ℕ) (a : Lit) → IsInRange n a → o + n + 1 ≤ top → IsFrom (λ u. u ≤ top) (literal n o a)
+literal_below n o top a range high =
+    chosen_from (λ u. u ≤ top) (not (is_negated a)) (is_negated a) (variable a) o (o + n + 1) (λ e. omega arith) high (λ nz. omega (arith, range, high))
+
+-- the literals of a clause in range are of them
+pub clause_below : (n o top : ℕ) (c : List Lit) → All (IsInRange n) c → o + n + 1 ≤ top → IsClauseFrom (λ u. u ≤ top) (map (literal n o) c)
+clause_below n o top c over high =
+    All-map (IsFrom (λ u. u ≤ top)) (literal n o) c (λ i e i_in. literal_below n o top (get_or c i e) (over i e i_in) high)
+
+pub clauses_below : (n o top : ℕ) (inv : List (List Lit)) → All (All (IsInRange n)) inv → o + n + 1 ≤ top → AreFrom (λ u. u ≤ top) (map (map (literal n o)) inv)
+clauses_below n o top inv over high =
+    All-map (IsClauseFrom (λ u. u ≤ top)) (map (literal n o)) inv (λ k d k_in. clause_below n o top (get_or inv k d) (over k d k_in) high)
+
+pub begin_formed : (m : Parts) → IsWellFormed m → IsFormula (record { vars = m.max_var + 1; clauses = unroll_clauses m 0 })
+begin_formed m well =
+    let same : (0 + 1) * (m.max_var + 1) ≡ m.max_var + 1 = omega arith in
+    subst (λ n. IsFormula (record { vars = n; clauses = unroll_clauses m 0 })) same (unroll_formed m 0 well (omega arith))
+
+pub pair_formed : (m : Parts) (inv : List (List Lit)) → IsWellFormed m → All (All (IsInRange m.max_var)) inv → length inv ≤ 4194303 →
+    IsFormula (record { vars = 2 * (m.max_var + 1); clauses = times_from m 1 0 ++ map (map (literal m.max_var 0)) inv })
+pair_formed m inv well over few_clauses =
+    let top : ℕ = 2 * (m.max_var + 1) in
+    let Q : ℕ → Type 0 = λ u. u ≤ top in
+    let cs : List (List ℤ) = map (map (literal m.max_var 0)) inv in
+    let greatest = well.limits.max_var in let constraints = well.limits.constraints in
+    let bound : (1 + 1) * at_time m ≤ 2 * 16777213 = mul-le (1 + 1) (at_time m) 2 16777213 (omega arith) (omega (arith, few_variables m well)) in
+    record {
+      are_literals = All-append (IsClauseFrom Q) (times_from m 1 0) cs
+          (times_are_from Q m 1 0 well (λ t t_in. allows_to m (0 + t * (m.max_var + 1)) top well
+          (let high : (t + 1) * (m.max_var + 1) ≤ 2 * (m.max_var + 1) = mul-le (t + 1) (m.max_var + 1) 2 (m.max_var + 1) (omega arith) (omega arith) in omega (arith, high))))
+          (clauses_below m.max_var 0 top inv over (omega arith));
+      small = omega arith;
+      few = omega (arith, bound, times_length m 1 0, length-append (times_from m 1 0) cs, length-map inv (map (literal m.max_var 0)));
+    }
+
+pub claim_formed : (m : Parts) (inv : List (List Lit)) (a : Lit) → IsWellFormed m → All (All (IsInRange m.max_var)) inv → length inv ≤ 4194303 → IsInRange m.max_var a →
+    IsFormula (bad_formula m inv a)
+claim_formed m inv a well over few_clauses range =
+    let top : ℕ = m.max_var + 1 in
+    let Q : ℕ → Type 0 = λ u. u ≤ top in
+    let cs : List (List ℤ) = map (map (literal m.max_var 0)) inv in
+    let us : List (List ℤ) = unit_clauses (bad_units m a) in
+    let greatest = well.limits.max_var in let gates = well.limits.gates in let constraints = well.limits.constraints in
+    record {
+      are_literals = All-append (IsClauseFrom Q) (time_clauses m 0 ++ cs) us
+          (All-append (IsClauseFrom Q) (time_clauses m 0) cs (time_from Q m 0 well (allows_to m 0 top well (omega arith))) (clauses_below m.max_var 0 top inv over (omega arith)))
+          (All-cons (IsClauseFrom Q) (literal m.max_var 0 a ∷ []) []
+          (All-cons (IsFrom Q) (literal m.max_var 0 a) [] (literal_below m.max_var 0 top a range (omega arith)) (All-nil (IsFrom Q))) (All-nil (IsClauseFrom Q)));
+      small = omega arith;
+      few = omega (arith, time_length m 0, length-append (time_clauses m 0 ++ cs) us, length-append (time_clauses m 0) cs, length-map inv (map (literal m.max_var 0)));
     }

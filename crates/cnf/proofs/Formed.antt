@@ -45,7 +45,7 @@ signed_from Q b zero ne q = absurd (ne refl)
 signed_from Q true (suc u) ne q = (λ e. cc, q)
 signed_from Q false (suc u) ne q = (λ e. let z : suc u ≡ 0 = cc in ne z, q)
 
-chosen_from : (Q : ℕ → Type 0) (b c : Bool) (k o top : ℕ) → top ≢ 0 → Q top → (k ≢ 0 → Q (o + k)) → IsFrom Q (if k == 0 then signed b top else signed c (o + k))
+pub chosen_from : (Q : ℕ → Type 0) (b c : Bool) (k o top : ℕ) → top ≢ 0 → Q top → (k ≢ 0 → Q (o + k)) → IsFrom Q (if k == 0 then signed b top else signed c (o + k))
 chosen_from Q b c k o top ne q inside = elim (cases_eq k 0) [
   | inl z ↦ rw (eq-eqb k 0 z) (signed_from Q b top ne q)
   | inr nz ↦ rw (ne_eqb k 0 nz) (signed_from Q c (o + k) (λ e. omega arith) (inside nz))

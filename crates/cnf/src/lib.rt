@@ -7,6 +7,8 @@
 //! - `start_base` and `shared_base` are what cases begin with, and `init_units`, `step_units` and
 //!   `bad_unit` the literals that follow, each as a clause of its own. So all cases can be checked
 //!   over two formulas.
+//! - `begin_row`, `pair_row` and `bad_row` are the same for clauses over any variables of the
+//!   circuit, gates and inputs too: over one time, over two times and over one.
 //! - `unroll` is satisfied exactly by the runs of a number of steps that keep the constraints, and
 //!   `extension` is what it has beyond that of one step less.
 //!
@@ -21,6 +23,7 @@ mod cases;
 mod error;
 mod next_table;
 mod push;
+mod rows;
 mod time_frame;
 mod units;
 mod unrolling;
@@ -29,6 +32,7 @@ pub use bases::{frame, shared_base, shared_row, start_base, start_row};
 pub use cases::{bad_case, init_case, step_case};
 pub use error::CnfError;
 pub use next_table::NextTable;
+pub use rows::{bad_row, begin_row, clause_into, pair_row};
 pub use time_frame::TimeFrame;
 pub use units::{bad_unit, init_units, init_units_into, step_units, step_units_into};
 pub use unrolling::{extension, unroll};

@@ -14,22 +14,22 @@ use crate::push::{push, push_constraints, push_gates, push_resets};
 use crate::time_frame::TimeFrame;
 use base::Refused;
 use graph::{Latch, Model, Seq};
-use lrat::{Clause, Formula};
+use lrat::{AddClause, Clause, Formula};
 use std::alloc::Global;
 
 /// The greatest number of steps.
 const GREATEST: u32 = 255;
 
 /// Truth, gates and constraints of one time.
-fn push_time(
+fn push_time<C: AddClause>(
     alloc: Global,
-    clauses: &mut Seq<Clause>,
+    clauses: &mut C,
     circuit: &Model,
     time: TimeFrame,
 ) -> Result<(), Refused>
     requires max_var { time.max_var ≡ circuit.now.max_var }
     requires fits { time.offset + time.max_var + 1 < 2 ^ 31 }
-    ensures { OnOk result (clauses.new ≡ clauses.old ++ time_clauses circuit.now time.offset) }
+    ensures { OnOk result (C.clauses clauses.new ≡ C.clauses clauses.old ++ time_clauses circuit.now time.offset) }
 {
     circuit.well_formed();
     push(alloc, clauses, &[time.truth()])?;
@@ -39,16 +39,16 @@ fn push_time(
 }
 
 /// A latch at the next time has the value of its next literal at this one.
-fn push_join(
+fn push_join<C: AddClause>(
     alloc: Global,
-    clauses: &mut Seq<Clause>,
+    clauses: &mut C,
     time: TimeFrame,
     latch: Latch,
 ) -> Result<(), Refused>
     requires fits { time.offset + 2 * (time.max_var + 1) < 2 ^ 31 }
     requires lit { IsInRange time.max_var latch.lit }
     requires next { IsInRange time.max_var latch.next }
-    ensures { OnOk result (clauses.new ≡ clauses.old ++ join_clauses time.max_var time.offset latch) }
+    ensures { OnOk result (C.clauses clauses.new ≡ C.clauses clauses.old ++ join_clauses time.max_var time.offset latch) }
 {
     let after = time.next();
     push(
@@ -65,16 +65,16 @@ fn push_join(
 }
 
 /// Each latch gets the value of its next literal.
-fn push_joins(
+fn push_joins<C: AddClause>(
     alloc: Global,
-    clauses: &mut Seq<Clause>,
+    clauses: &mut C,
     time: TimeFrame,
     latches: &[Latch],
 ) -> Result<(), Refused>
     requires fits { time.offset + 2 * (time.max_var + 1) < 2 ^ 31 }
     requires lits { All (λ l. IsInRange time.max_var l.lit) latches.now }
     requires nexts { All (λ l. IsInRange time.max_var l.next) latches.now }
-    ensures { OnOk result (clauses.new ≡ clauses.old ++ flat_map (join_clauses time.max_var time.offset) latches.now) }
+    ensures { OnOk result (C.clauses clauses.new ≡ C.clauses clauses.old ++ flat_map (join_clauses time.max_var time.offset) latches.now) }
 {
     for latch in latches {
         push_join(alloc, clauses, time, *latch)?;
@@ -83,14 +83,14 @@ fn push_joins(
 }
 
 /// The first time and `steps` more.
-fn push_times(
+pub fn push_times<C: AddClause>(
     alloc: Global,
-    clauses: &mut Seq<Clause>,
+    clauses: &mut C,
     circuit: &Model,
     steps: u32,
 ) -> Result<(), Refused>
     requires { steps ≤ 255 }
-    ensures { OnOk result (clauses.new ≡ clauses.old ++ times_from circuit.now steps 0) }
+    ensures { OnOk result (C.clauses clauses.new ≡ C.clauses clauses.old ++ times_from circuit.now steps 0) }
 {
     circuit.well_formed();
     let mut time = TimeFrame::first(circuit);

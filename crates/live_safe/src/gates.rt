@@ -93,7 +93,7 @@ fn push_watches(
 }
 
 /// Joins the literals in turn to the first one, and gives the chain's end.
-fn push_chain(gates: &mut Vec<Gate>, rest: &[Lit], first: Lit, v: u32) -> Result<Lit, Refused>
+pub fn push_chain(gates: &mut Vec<Gate>, rest: &[Lit], first: Lit, v: u32) -> Result<Lit, Refused>
     requires fits { v + length rest.now < 2 ^ 31 }
     ensures gates { OnOk result (gates.new.items ≡ gates.old.items ++ chain_gates rest.now first v) }
     ensures end { IfOk result (λ a. a ≡ chain_end rest.now first v) }

@@ -1,19 +1,22 @@
 //! Proofs, checked line by line.
 
 ghost use Rattle.base.specs.Witness.{witness};
-ghost use Rattle.std.specs.Prelude.{◌≡◌, ◌≢◌, ◌+◌, ◌≤◌, ◌<◌, ◌^◌, ◌⊎◌, ◌↔◌, true, false, [], None, Some, length, All, IfOk, IfErr, IfSome, IsTrue, OnOk};
+ghost use Rattle.std.specs.Prelude.{◌≡◌, ◌≢◌, ◌+◌, ◌≤◌, ◌<◌, ◌^◌, ◌⊎◌, ◌↔◌, pos, true, false, [], None, Some, length, All, IfOk, IfErr, IfSome, IsTrue, OnOk};
 ghost use Rattle.lrat.specs.Buffered.{lent_line};
 ghost use Rattle.lrat.specs.Courses.{at_formula, at_units};
 ghost use Rattle.lrat.specs.Halts.{Halts, LacksOne};
 ghost use Rattle.lrat.specs.Lemmas.{AddsEmpty, IsNoLemma, base_at};
 ghost use Rattle.lrat.specs.Limits.{IsFormula, IsHint, IsLine};
+ghost use Rattle.lrat.specs.Lines.{IsAcceptedLine};
+ghost use Rattle.lrat.specs.Refusals.{IsRefusedLine};
+ghost use Rattle.std.specs.FinMap as fin;
 ghost use Rattle.lrat.specs.Literals.{IsLiteral};
 ghost use Rattle.lrat.specs.Stages.{Stage, Goes, IsPositive, TakesOut};
 ghost use Rattle.lrat.specs.declared.fault.Fault.TheVariants.{OutOfMemory, NegativeHint, NoEmptyClause, NoIds, UnknownId};
 ghost use Rattle.lrat.specs.declared.line.Line.TheVariants.{Add};
 
 use crate::clause_row::ClauseRow;
-use crate::derivation::derive_hinted;
+use crate::derivation::{derive_hinted, derive_with};
 use crate::fault::Fault;
 use crate::formula::Formula;
 use crate::line_ref::LineRef;
@@ -172,6 +175,22 @@ impl Refuter {
             self.refusal = Some(fault);
         }
         answer
+    }
+
+    /// Checks that hints show a clause from the clauses that are present, and adds nothing: as a
+    /// line that adds it would be checked, but for its id, and also behind the empty clause.
+    pub fn shows(&mut self, clause: &[i32], hints: &[u32]) -> Result<(), Fault>
+        requires not_zero { All (λ l. l ≢ pos 0) clause.now }
+        ensures same { self.new ≡ self.old }
+        ensures stands { IfSome self.old.refusal (λ e. result ≡ Err e) }
+        ensures ok { OnOk result ((self.old.refusal ≡ None) × IsAcceptedLine self.old.base.vars (fin.get self.old.stage.present) clause.now hints.now) }
+        ensures refused { IfErr result (λ e. self.old.refusal ≡ None → IsRefusedLine self.old.base.vars (fin.get self.old.stage.present) clause.now hints.now e) }
+        ensures complete { IfErr result (λ e. self.old.refusal ≡ None → e ≢ OutOfMemory witness → IsAcceptedLine self.old.base.vars (fin.get self.old.stage.present) clause.now hints.now → ⊥) }
+    {
+        if let Some(fault) = self.refusal {
+            return Err(fault);
+        }
+        derive_with(&mut self.trail, &self.stack, clause, hints)
     }
 
     /// Says that no line is left. The empty clause must have been added.

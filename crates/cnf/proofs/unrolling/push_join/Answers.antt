@@ -5,7 +5,7 @@ use Rattle.cnf.proofs.Made.{join_made}
 use Rattle.cnf.proofs.unrolling.push_join.Goals as goal
 
 pub returns : goal.returns
-returns c =
+returns g c =
     let f1 : SFits w32 c.denial.result = search rules in
     let f2 : SFits w32 c.literal.result = search rules in
     let f3 : SFits w32 c.literal-2.result = search rules in

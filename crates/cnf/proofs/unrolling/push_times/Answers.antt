@@ -7,16 +7,16 @@ use Rattle.cnf.proofs.Made.{times_more}
 use Rattle.cnf.proofs.unrolling.push_times.Goals as goal
 
 pub push_joins-requires-clause-lits : goal.push_joins-requires-clause-lits
-push_joins-requires-clause-lits c = rw (c.latches.ensures, c.loop-step.invariant.max_var) (latches_in_range c.args.circuit.now c.well_formed-2.ensures)
+push_joins-requires-clause-lits g c = rw (c.latches.ensures, c.loop-step.invariant.max_var) (latches_in_range c.args.circuit.now c.well_formed-2.ensures)
 
 pub push_joins-requires-clause-nexts : goal.push_joins-requires-clause-nexts
-push_joins-requires-clause-nexts c = rw (c.latches.ensures, c.loop-step.invariant.max_var) (nexts_in_range c.args.circuit.now c.well_formed-2.ensures)
+push_joins-requires-clause-nexts g c = rw (c.latches.ensures, c.loop-step.invariant.max_var) (nexts_in_range c.args.circuit.now c.well_formed-2.ensures)
 
 pub loop-step-preserved : goal.loop-step-preserved
-loop-step-preserved c =
+loop-step-preserved g c =
     let m = c.args.circuit.now in
     let small = c.well_formed-2.ensures.limits.max_var in
-    let joins : c.push_joins.new.clauses ≡ c.push_time.new.clauses ++ flat_map (join_clauses m.max_var c.loop-step.time.offset) m.latches =
+    let joins : g.C.AddClause.clauses c.push_joins.new.clauses ≡ g.C.AddClause.clauses c.push_time.new.clauses ++ flat_map (join_clauses m.max_var c.loop-step.time.offset) m.latches =
     rw (c.loop-step.invariant.max_var, c.latches.ensures) at c.in_ok-push_joins.ensures in
     record {
       max_var = c.next-time.ensures.max_var ∙ c.loop-step.invariant.max_var;

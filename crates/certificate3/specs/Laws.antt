@@ -1,0 +1,13 @@
+-- What is read of a text, and what it spells.
+use Rattle.std.specs.Prelude.{◌≡◌, ◌↔◌, ℕ, List, Some}
+use Rattle.scan.specs.Reading.{ended}
+use Rattle.certificate3.specs.Reading.{certificate_at}
+use Rattle.certificate3.specs.Texts.{Certificate, SpellsCertificate}
+
+-- a certificate is read of a text, and nothing is left, exactly where the text spells it
+abbrev pub ReadLaw : Type 0
+ReadLaw = (text : List ℕ) (c : Certificate) → (ended (certificate_at text) ≡ Some c) ↔ SpellsCertificate text c
+
+-- no text spells two
+abbrev pub OneLaw : Type 0
+OneLaw = (text : List ℕ) (c d : Certificate) → SpellsCertificate text c → SpellsCertificate text d → c ≡ d

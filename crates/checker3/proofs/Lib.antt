@@ -1,0 +1,3 @@
+mod Claiming
+mod Feeding
+mod Judging

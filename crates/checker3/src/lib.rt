@@ -1,0 +1,21 @@
+//! Certificates of version 3, checked while they are read.
+//!
+//! - `check_source` reads the certificate that a source's bytes spell, and answers what it claims,
+//!   and the first cause where it is not accepted for a circuit (`IsJudged`, `specs/Judged.antt`).
+//!   Where there is none, the certificate is accepted, and the circuit upholds the property.
+//! - Lines and hints are checked one after the other, by a refuter for each of the three sections.
+//!   Beside the circuit it holds the extended one, the clauses, those of one section, and one line.
+#![tactic(auto)]
+
+mod clauses;
+mod evidence;
+mod growing;
+mod lines;
+mod refusal;
+mod sections;
+mod text;
+#[cfg(test)]
+mod worked;
+
+pub use refusal::Refusal;
+pub use text::{Outcome, check_source};
