@@ -11,3 +11,5 @@ pub mod ChangeLaws
 pub mod WaveLaws
 pub mod WidthLaws
 pub mod LoopLaws
+pub mod OpenLaws
+pub mod OpenReplayLaws

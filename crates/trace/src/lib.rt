@@ -18,6 +18,8 @@ mod lines;
 mod loops;
 mod names;
 mod numbers;
+mod open_replay;
+mod open_values;
 mod scopes;
 mod signal_values;
 mod signals;

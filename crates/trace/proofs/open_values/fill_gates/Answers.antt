@@ -1,0 +1,15 @@
+use Rattle.std.proofs.Common.{◌∙◌, arith, get_or, length-set}
+use Rattle.trace.proofs.OpenLaws.{stand_gate}
+use Rattle.trace.proofs.open_values.fill_gates.Goals as goal
+
+pub loop-place-preserved : goal.loop-place-preserved
+loop-place-preserved c =
+    let at_in = c.requires.ordered.in_range c.loop-place.place-index 0 (omega arith) in
+    let range = c.requires.in_range (get_or c.args.order.now c.loop-place.place-index 0) record { lhs = record { 0 = 0 }; rhs0 = record { 0 = 0 }; rhs1 = record { 0 = 0 } } at_in in
+    let even = c.requires.even (get_or c.args.order.now c.loop-place.place-index 0) record { lhs = record { 0 = 0 }; rhs0 = record { 0 = 0 }; rhs1 = record { 0 = 0 } } at_in in
+    record {
+      places = length-set c.loop-place.out c.variable.result _ ∙ c.loop-place.invariant.places;
+      stand = λ w h fires.
+          stand_gate c.loop-place.out w _ c.variable.result _ even c.variable.ensures (omega (arith, range.0, c.variable.ensures, c.loop-place.invariant.places)) c.conjunction.ensures
+          (fires (get_or c.args.order.now c.loop-place.place-index 0) record { lhs = record { 0 = 0 }; rhs0 = record { 0 = 0 }; rhs1 = record { 0 = 0 } } at_in) (c.loop-place.invariant.stand w h fires);
+    }
