@@ -13,3 +13,4 @@ pub mod WidthLaws
 pub mod LoopLaws
 pub mod OpenLaws
 pub mod OpenReplayLaws
+pub mod OpenOrderLaws

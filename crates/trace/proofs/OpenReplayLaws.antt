@@ -1,8 +1,8 @@
 -- A replay whose values may be open, time after time.
-use Rattle.std.proofs.Common.{◌≡◌, ℕ, ◌+◌, ◌-◌, ◌*◌, ◌<◌, ◌≤◌, Bool, List, [], ◌∷◌, ◌++◌, length, length-append, length-drop, length-set, get_or, set, map, take, drop, Option, None, Some, refl, sym, ap, ◌∙◌, arith, subst, below_more}
+use Rattle.std.proofs.Common.{◌≡◌, ℕ, suc, false, inl, inr, ◌+◌, ◌*◌, ◌<◌, ◌≤◌, Bool, List, [], ◌∷◌, ◌++◌, length, length-append, length-drop, length-set, get_or, set, map, take, drop, Option, None, Some, Result, Ok, Err, IfOk, refl, sym, ap, ◌∙◌, arith, subst, below_more}
 use Rattle.std.specs.List.{flat_map}
 use Rattle.std.proofs.lemmas.Grind.{flat_map-append}
-use Rattle.std.proofs.lemmas.List.{append-nil, drop_more, ext_get_or, get_or-map, get_or-set_same, get_or-set_other, length-map, take_all, take_more}
+use Rattle.std.proofs.lemmas.List.{append-nil, get_or_append_left, get_or_push, length_push, drop_more, ext_get_or, get_or-map, get_or-set_same, get_or-set_other, length-map, take_all, take_more}
 use Rattle.graph.specs.declared.circuit.Latch.{Latch}
 use Rattle.graph.specs.declared.parts.Parts.{Parts}
 use Rattle.graph.specs.Runs.{next_state}
@@ -13,8 +13,10 @@ use Rattle.witness.specs.Completions.{Completes, Keeps}
 use Rattle.witness.specs.Cleared.{CompleteAll}
 use Rattle.trace.specs.declared.bits.Bit.{Bit}
 use Rattle.trace.specs.Columns.{values_at}
-use Rattle.trace.specs.OpenValues.{Stand, open_place, open_value_of}
-use Rattle.trace.proofs.OpenLaws.{keeps_value}
+use Rattle.trace.specs.OpenValues.{Stand, open_first, open_place, open_reset, open_value_of}
+use Rattle.trace.proofs.OpenLaws.{completes_at, keeps_value}
+use Rattle.simulate.specs.Starts.{IsFine, Starts}
+use Rattle.std.proofs.lemmas.Bool.Decides.{eqb_tells}
 
 -- ---- the next state, latch by latch
 
@@ -149,3 +151,56 @@ open_all m bits initial lines i state rows is_i h st inputs r first all course =
     let now = h.played st inputs r first all course in
     let long : length r ≤ i = omega (arith, is_i, complete_length lines inputs all, course_length m st inputs r course) in
     subst (λ (x : List Valuation). Completes rows (flat_map (values_at bits) x)) (take_all i r long) now.shown
+
+-- ---- the first state
+
+keeps_reset : (l : Latch) (b : Bool) → IsFine l b → Keeps (open_reset l) b
+keeps_reset l b fine = elim (eqb_tells l.reset.0 0) [
+  | inl low ↦ rw low.0 (fine.low low.1)
+  | inr other ↦ elim (eqb_tells l.reset.0 1) [ inl high ↦ rw (other.0, high.0) (fine.high high.1) | inr none ↦ rw (other.0, none.0) tt ]
+]
+
+keeps_first : (l : Latch) (given : Option Bool) (b : Bool) → IsFine l b → Keeps given b → Keeps (open_first l given) b
+keeps_first l None b fine k = keeps_reset l b fine
+keeps_first l (Some v) b fine k = k
+
+completes_length : (given : List (Option Bool)) (st : List Bool) → Completes given st → length given ≡ length st
+completes_length [] [] c = refl
+completes_length [] (b ∷ st) c = absurd c
+completes_length (o ∷ given) [] c = absurd c
+completes_length (o ∷ given) (b ∷ st) c = ap suc (completes_length given st c.1)
+
+completes_each : (given : List (Option Bool)) (st : List Bool) → length given ≡ length st → ((k : ℕ) → k < length given → Keeps (open_place given k) (get_or st k false)) → Completes given st
+completes_each [] [] long h = tt
+completes_each [] (b ∷ st) long h = absurd (omega (arith, long))
+completes_each (o ∷ given) [] long h = absurd (omega (arith, long))
+completes_each (o ∷ given) (b ∷ st) long h = (h 0 (omega arith), completes_each given st (omega (arith, long)) (λ k k_in. h (suc k) (omega (arith, k_in))))
+
+-- the first n latches have their values
+pub record OpenBegun (latches : List Latch) (given state : List (Option Bool)) (n : ℕ) : Type 0 where
+  pub long : length state ≡ n
+  pub each : (k : ℕ) (d : Latch) → k < n → open_place state k ≡ open_first (get_or latches k d) (open_place given k)
+
+pub open_begun_more : (latches : List Latch) (given state after : List (Option Bool)) (n : ℕ) (x : Option Bool) → after ≡ state ++ x ∷ [] → ((d : Latch) → x ≡ open_first (get_or latches n d) (open_place given n)) → OpenBegun latches given state n →
+    OpenBegun latches given after (n + 1)
+open_begun_more latches given state after n x is is_x h = record {
+  long = omega (arith, ap (λ (xs : List (Option Bool)). length xs) is, length_push state x, h.long);
+  each = λ k d. below_more (λ q. open_place after q ≡ open_first (get_or latches q d) (open_place given q)) n
+      (λ q q_in. ap (λ (xs : List (Option Bool)). open_place xs q) is ∙ get_or_append_left state (x ∷ []) None q (omega (arith, h.long, q_in)) ∙ h.each q d q_in)
+      (ap (λ (xs : List (Option Bool)). open_place xs n) is ∙ get_or_push state x None n h.long ∙ is_x d) k;
+}
+
+pub open_begun_stands : (latches : List Latch) (given state : List (Option Bool)) (n : ℕ) → n ≡ length latches → length given ≡ length latches → OpenBegun latches given state n → (st : List Bool) → Starts latches st → Completes given st → Completes state st
+open_begun_stands latches given state n is_n long h st starts c =
+    let wide = completes_length given st c in
+    completes_each state st (omega (arith, h.long, is_n, long, wide)) (λ k k_in.
+    let blank : Latch = record { lit = record { 0 = 0 }; next = record { 0 = 0 }; reset = record { 0 = 0 } } in
+    let inside : k < length latches = omega (arith, h.long, is_n, k_in) in
+    let one = keeps_first (get_or latches k blank) (open_place given k) (get_or st k false) (starts k inside blank) (completes_at given st k false c (omega (arith, long, inside))) in
+    subst (λ (o : Option Bool). Keeps o (get_or st k false)) (sym (h.each k blank (omega (arith, is_n, inside)))) one)
+
+-- ---- the whole replay
+
+pub if_ok : {T E : Type 0} (P Q : T → Type 0) (r : Result T E) → ((x : T) → P x → Q x) → IfOk r P → IfOk r Q
+if_ok P Q (Ok x) h p = h x p
+if_ok P Q (Err e) h p = tt

@@ -2,6 +2,7 @@
 use Rattle.std.specs.Prelude.{◌≡◌, ℕ, ◌<◌, ◌%◌, Bool, true, false, not, ◌&&◌, ◌==◌, if◌then◌else◌, List, length, Option, None, Some, slice_index_or}
 use Rattle.graph.specs.declared.circuit.Lit.{Lit}
 use Rattle.graph.specs.declared.circuit.Gate.{Gate}
+use Rattle.graph.specs.declared.circuit.Latch.{Latch}
 use Rattle.graph.specs.Valuation.{Valuation, place, variable}
 use Rattle.witness.specs.Completions.{Keeps}
 
@@ -24,6 +25,19 @@ open_and (Some a) (Some b) = Some (a && b)
 -- the value of a literal
 abbrev pub open_value_of : List (Option Bool) → Lit → Option Bool
 open_value_of values a = if a.0 % 2 == 1 then open_not (open_place values (variable a)) else open_place values (variable a)
+
+-- the value that a latch begins with, where its reset tells
+abbrev pub open_reset : Latch → Option Bool
+open_reset l = if l.reset.0 == 0 then Some false else (if l.reset.0 == 1 then Some true else None)
+
+-- the value that a latch begins with: the one that is given, or else that of its reset
+abbrev pub open_first : Latch → Option Bool → Option Bool
+open_first l None = open_reset l
+open_first l (Some given) = Some given
+
+-- the gate's left side is the conjunction of its right sides
+abbrev pub OpenFires : List (Option Bool) → Gate → Type 0
+OpenFires values g = open_value_of values g.lhs ≡ open_and (open_value_of values g.rhs0) (open_value_of values g.rhs1)
 
 -- each value that is known is that of the valuation
 abbrev pub Stand : List (Option Bool) → Valuation → Type 0

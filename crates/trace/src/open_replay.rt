@@ -1,20 +1,55 @@
 //! A replay in three values: false, true and open.
 
-ghost use Rattle.std.specs.Prelude.{◌≡◌, ◌≤◌, ◌<◌, ◌*◌, ◌+◌, ◌++◌, List, Bool, All, length, map, IfOk, OnOk};
+ghost use Rattle.std.specs.Prelude.{◌≡◌, ◌≤◌, ◌<◌, ◌*◌, ◌+◌, ◌++◌, ℕ, slice_index_or, List, Bool, All, length, map, IfOk, OnOk};
 ghost use Rattle.std.specs.List.{flat_map};
+ghost use Rattle.graph.specs.declared.circuit.Latch.{Latch as ALatch};
 ghost use Rattle.graph.specs.Runs.{next_state};
 ghost use Rattle.graph.specs.Valuation.{Valuation, variable};
+ghost use Rattle.simulate.specs.Starts.{Starts};
 ghost use Rattle.stimulus.specs.Courses.{Course, IsAt};
+ghost use Rattle.stimulus.specs.Shown.{IsReplay};
 ghost use Rattle.witness.specs.Completions.{Completes};
 ghost use Rattle.witness.specs.Cleared.{CompleteAll};
 ghost use Rattle.trace.specs.Columns.{values_at};
-ghost use Rattle.trace.specs.OpenValues.{Stand, open_value_of};
+ghost use Rattle.trace.specs.OpenValues.{Stand, open_first, open_place, open_value_of};
 
 use crate::bits::{Bit, latch_literals};
 use crate::open_values::{evaluate, open_value};
 use base::{Refused, copied, filled, push};
 use graph::{Latch, Lit, Model, Seq};
 use std::alloc::Global;
+
+/// The value that a latch begins with: the one that is given, or else that of its reset.
+fn first_value(latch: Latch, given: Option<bool>) -> Option<bool>
+    ensures { result ≡ open_first latch given }
+{
+    match given {
+        Some(value) => Some(value),
+        None => match latch.reset.0 {
+            0 => Some(false),
+            1 => Some(true),
+            _ => None,
+        },
+    }
+}
+
+/// What is known of a first state of which this is given: an open value of a latch that is reset to 0 or to 1 is known too.
+fn first_state(
+    alloc: Global,
+    latches: &[Latch],
+    given: &[Option<bool>],
+) -> Result<Vec<Option<bool>>, Refused>
+    requires { length given.now ≡ length latches.now }
+    ensures each { IfOk result (λ v. (k : ℕ) (d : ALatch) → k < length latches.now → open_place v.items k ≡ open_first (slice_index_or latches.now k d) (open_place given.now k)) }
+    ensures stand { IfOk result (λ v. (st : List Bool) → Starts latches.now st → Completes given.now st → Completes v.items st) }
+    ensures long { IfOk result (λ v. length v.items ≡ length latches.now) }
+{
+    let mut state = Vec::new(alloc);
+    for (k, latch) in latches.iter().enumerate() {
+        push(&mut state, first_value(*latch, given[k]))?;
+    }
+    Ok(state)
+}
 
 /// Gives each latch what is known of its next literal.
 fn take_over(latches: &[Latch], values: &[Option<bool>], state: &mut [Option<bool>])
@@ -90,9 +125,9 @@ fn play_lines(
     Ok(rows)
 }
 
-/// What is known of the bits at each time of a replay of these lines, time after time: it is the value in each replay of lines that
+/// What is known of the bits at each time of a replay of these lines, time after time: it is the value in each course of lines that
 /// have what is known of these.
-pub fn play_open(
+fn play_open(
     alloc: Global,
     circuit: &Model,
     initial: &[Option<bool>],
@@ -118,4 +153,23 @@ pub fn play_open(
         &mut state,
         &mut values,
     )
+}
+
+/// What is known of the bits at each time of a replay of which this is given, time after time. What is known is the value in each
+/// replay of each first state and lines that have what is given. A step touches each gate once.
+pub fn open_rows(
+    alloc: Global,
+    circuit: &Model,
+    initial: &[Option<bool>],
+    lines: &[Seq<Option<bool>>],
+    bits: &[Bit<'_>],
+) -> Result<Vec<Option<bool>>, Refused>
+    requires initial { length initial.now ≡ length circuit.now.latches }
+    requires lines_fit { All (λ line. length line ≡ length circuit.now.inputs) lines.now }
+    requires in_range { All (λ b. variable b.lit ≤ circuit.now.max_var) bits.now }
+    ensures stand { IfOk result (λ v. (st : List Bool) (inputs : List (List Bool)) (r : List Valuation) → Starts circuit.now.latches st → Completes initial.now st → CompleteAll lines.now inputs → IsReplay circuit.now st inputs r → Completes v.items (flat_map (values_at bits.now) r)) }
+    ensures long { IfOk result (λ v. length v.items ≡ length lines.now * length bits.now) }
+{
+    let state = first_state(alloc, circuit.latches(), initial)?;
+    play_open(alloc, circuit, &state, lines, bits)
 }

@@ -1,11 +1,11 @@
 //! One time of a circuit in three values: false, true and open.
 
-ghost use Rattle.std.specs.Prelude.{◌≡◌, ◌≤◌, ◌<◌, ◌%◌, ◌+◌, ℕ, false, List, Bool, All, None, length, map};
+ghost use Rattle.std.specs.Prelude.{◌≡◌, ◌≤◌, ◌<◌, ◌%◌, ◌+◌, ◌≢◌, ℕ, false, List, Bool, All, AllPairs, None, length, map};
 ghost use Rattle.graph.specs.Valuation.{Fires, Valuation, place, variable};
 ghost use Rattle.graph.specs.WellFormed.{IsOrder};
 ghost use Rattle.stimulus.specs.Courses.{IsAt};
 ghost use Rattle.witness.specs.Completions.{Completes};
-ghost use Rattle.trace.specs.OpenValues.{AreGiven, Stand, open_and, open_place, open_value_of};
+ghost use Rattle.trace.specs.OpenValues.{AreGiven, OpenFires, Stand, open_and, open_place, open_value_of};
 
 use graph::{Gate, Latch, Lit, Model};
 
@@ -74,7 +74,9 @@ fn conjunction(gate: Gate, values: &[Option<bool>]) -> Option<bool>
 fn fill_gates(gates: &[Gate], order: &[u32], out: &mut [Option<bool>])
     requires in_range { All (λ g. (variable g.lhs < length out.old) × (variable g.rhs0 < length out.old) × (variable g.rhs1 < length out.old)) gates.now }
     requires even { All (λ g. g.lhs.0 % 2 ≡ 0) gates.now }
+    requires once { AllPairs (λ u v. u ≢ v) (map (λ g. variable g.lhs) gates.now) }
     requires ordered { IsOrder gates.now order.now }
+    ensures fires { All (OpenFires out.new) gates.now }
     ensures stand { (w : Valuation) → Stand out.old w → All (Fires w) gates.now → Stand out.new w }
     ensures places { length out.new ≡ length out.old }
 {
@@ -97,6 +99,7 @@ pub fn evaluate(
     requires state { length state.now ≡ length circuit.now.latches }
     requires inputs { length inputs.now ≡ length circuit.now.inputs }
     requires places { length out.old ≡ circuit.now.max_var + 1 }
+    ensures fires { All (OpenFires out.new) circuit.now.gates }
     ensures stand { (st line : List Bool) (w : Valuation) → Completes state.now st → Completes inputs.now line → IsAt circuit.now st line w → Stand out.new w }
     ensures places { length out.new ≡ length out.old }
 {

@@ -1,4 +1,4 @@
-use Rattle.std.proofs.Common.{◌≡◌, ℕ, ◌<◌, None, length}
+use Rattle.std.proofs.Common.{◌≡◌, ℕ, ◌<◌, None}
 use Rattle.trace.specs.OpenValues.{open_place}
 use Rattle.trace.proofs.open_values.clear.Given as goal
 

@@ -1,5 +1,7 @@
-use Rattle.std.proofs.Common.{◌≡◌, ◌≤◌, ◌+◌, ◌*◌, ◌%◌, arith, All}
-use Rattle.graph.proofs.Evaluation.{inputs_even, lefts_even, lefts_in_range, rights0, rights1}
+use Rattle.std.proofs.Common.{◌≡◌, ◌≤◌, ◌+◌, ◌*◌, ◌%◌, ◌++◌, map, arith, All}
+use Rattle.graph.specs.Valuation.{variable}
+use Rattle.graph.proofs.Gates.{left}
+use Rattle.graph.proofs.Evaluation.{held, inputs_even, lefts_even, lefts_in_range, once-right, rights0, rights1}
 use Rattle.trace.proofs.BitLaws.{inputs_in_range, latch_literals_in_range}
 use Rattle.trace.proofs.OpenLaws.{are_given, stand_open, states_given}
 use Rattle.trace.proofs.open_values.evaluate.Goals as goal
@@ -32,6 +34,14 @@ fill_gates-requires-clause-in_range c =
 pub fill_gates-requires-clause-even : goal.fill_gates-requires-clause-even
 fill_gates-requires-clause-even c =
     rw c.gates.ensures (λ k d k_in. let p = lefts_even c.args.circuit.now c.well_formed-2.ensures k d k_in in p.1)
+
+pub fill_gates-requires-clause-once : goal.fill_gates-requires-clause-once
+fill_gates-requires-clause-once c =
+    let m = c.args.circuit.now in
+    rw c.gates.ensures (once-right (map variable m.inputs ++ map held m.latches) (map left m.gates) c.well_formed-2.ensures.defined_once)
+
+pub returns-clause-fires : goal.returns-clause-fires
+returns-clause-fires c = rw c.gates.ensures at c.fill_gates.ensures.fires
 
 pub returns-clause-stand : goal.returns-clause-stand
 returns-clause-stand c = λ st line w state inputs at.
