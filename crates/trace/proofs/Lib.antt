@@ -14,3 +14,4 @@ pub mod LoopLaws
 pub mod OpenLaws
 pub mod OpenReplayLaws
 pub mod OpenOrderLaws
+pub mod OpenFillLaws

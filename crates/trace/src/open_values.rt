@@ -1,6 +1,7 @@
 //! One time of a circuit in three values: false, true and open.
 
-ghost use Rattle.std.specs.Prelude.{◌≡◌, ◌≤◌, ◌<◌, ◌%◌, ◌+◌, ◌≢◌, ℕ, false, List, Bool, All, AllPairs, None, length, map};
+ghost use Rattle.std.specs.Prelude.{◌≡◌, ◌≤◌, ◌<◌, ◌%◌, ◌+◌, ◌≢◌, ℕ, false, List, Bool, All, AllPairs, Contains, None, length, map, slice_index_or, ◌⊎◌};
+ghost use Rattle.graph.specs.declared.circuit.Lit.{Lit as ALit};
 ghost use Rattle.graph.specs.Valuation.{Fires, Valuation, place, variable};
 ghost use Rattle.graph.specs.WellFormed.{IsOrder};
 ghost use Rattle.stimulus.specs.Courses.{IsAt};
@@ -54,6 +55,9 @@ fn fill_constant(out: &mut [Option<bool>])
 fn fill(lits: &[Lit], given: &[Option<bool>], out: &mut [Option<bool>])
     requires lengths { length given.now ≡ length lits.now }
     requires in_range { All (λ a. variable a < length out.old) lits.now }
+    requires once { AllPairs (λ u v. u ≢ v) (map variable lits.now) }
+    ensures written { (k : ℕ) (d : ALit) → k < length lits.now → open_place out.new (variable (slice_index_or lits.now k d)) ≡ open_place given.now k }
+    ensures kept { (v : ℕ) → Contains (map variable lits.now) v ⊎ (open_place out.new v ≡ open_place out.old v) }
     ensures stand { (w : Valuation) → Stand out.old w → AreGiven lits.now given.now w → Stand out.new w }
     ensures places { length out.new ≡ length out.old }
 {
@@ -77,6 +81,7 @@ fn fill_gates(gates: &[Gate], order: &[u32], out: &mut [Option<bool>])
     requires once { AllPairs (λ u v. u ≢ v) (map (λ g. variable g.lhs) gates.now) }
     requires ordered { IsOrder gates.now order.now }
     ensures fires { All (OpenFires out.new) gates.now }
+    ensures kept { (v : ℕ) → Contains (map (λ g. variable g.lhs) gates.now) v ⊎ (open_place out.new v ≡ open_place out.old v) }
     ensures stand { (w : Valuation) → Stand out.old w → All (Fires w) gates.now → Stand out.new w }
     ensures places { length out.new ≡ length out.old }
 {
@@ -99,6 +104,8 @@ pub fn evaluate(
     requires state { length state.now ≡ length circuit.now.latches }
     requires inputs { length inputs.now ≡ length circuit.now.inputs }
     requires places { length out.old ≡ circuit.now.max_var + 1 }
+    ensures state { (k : ℕ) (d : ALit) → k < length latches.now → open_place out.new (variable (slice_index_or latches.now k d)) ≡ open_place state.now k }
+    ensures inputs { (k : ℕ) (d : ALit) → k < length circuit.now.inputs → open_place out.new (variable (slice_index_or circuit.now.inputs k d)) ≡ open_place inputs.now k }
     ensures fires { All (OpenFires out.new) circuit.now.gates }
     ensures stand { (st line : List Bool) (w : Valuation) → Completes state.now st → Completes inputs.now line → IsAt circuit.now st line w → Stand out.new w }
     ensures places { length out.new ≡ length out.old }

@@ -1,8 +1,12 @@
-use Rattle.std.proofs.Common.{◌≡◌, ◌≤◌, ◌+◌, ◌*◌, ◌%◌, ◌++◌, map, arith, All}
+use Rattle.std.proofs.Common.{◌≡◌, ◌≤◌, ◌+◌, ◌*◌, ◌%◌, ◌++◌, ◌∙◌, ◌≢◌, ℕ, List, AllPairs, Contains, ap, get_or, map, subst, sym, arith, All}
+use Rattle.std.proofs.lemmas.Simd.{map-map}
+use Rattle.std.proofs.lemmas.List.Elements.{Contains-append_left, Contains-append_right}
+use Rattle.graph.specs.declared.circuit.Latch.{Latch}
 use Rattle.graph.specs.Valuation.{variable}
 use Rattle.graph.proofs.Gates.{left}
-use Rattle.graph.proofs.Evaluation.{held, inputs_even, lefts_even, lefts_in_range, once-right, rights0, rights1}
+use Rattle.graph.proofs.Evaluation.{Contains-map, held, once-across, once-left, inputs_even, lefts_even, lefts_in_range, once-right, rights0, rights1}
 use Rattle.trace.proofs.BitLaws.{inputs_in_range, latch_literals_in_range}
+use Rattle.trace.proofs.OpenFillLaws.{open_kept_apart}
 use Rattle.trace.proofs.OpenLaws.{are_given, stand_open, states_given}
 use Rattle.trace.proofs.open_values.evaluate.Goals as goal
 
@@ -34,6 +38,41 @@ fill_gates-requires-clause-in_range c =
 pub fill_gates-requires-clause-even : goal.fill_gates-requires-clause-even
 fill_gates-requires-clause-even c =
     rw c.gates.ensures (λ k d k_in. let p = lefts_even c.args.circuit.now c.well_formed-2.ensures k d k_in in p.1)
+
+pub fill-requires-clause-once : goal.fill-requires-clause-once
+fill-requires-clause-once c =
+    let m = c.args.circuit.now in
+    rw c.inputs.ensures (once-left (map variable m.inputs) (map held m.latches) (once-left (map variable m.inputs ++ map held m.latches) (map left m.gates) c.well_formed-2.ensures.defined_once))
+
+pub fill-requires-2-clause-once : goal.fill-requires-2-clause-once
+fill-requires-2-clause-once c =
+    let m = c.args.circuit.now in
+    let same : map variable c.args.latches.now ≡ map held c.args.circuit.now.latches = ap (map variable) c.requires.latches ∙ map-map variable (λ (l : Latch). l.lit) m.latches in
+    subst (λ (vs : List ℕ). AllPairs (λ u v. u ≢ v) vs) (sym same) (once-right (map variable m.inputs) (map held m.latches) (once-left (map variable m.inputs ++ map held m.latches) (map left m.gates) c.well_formed-2.ensures.defined_once))
+
+pub returns-clause-state : goal.returns-clause-state
+returns-clause-state c = λ k d k_in.
+    let m = c.args.circuit.now in
+    let v = variable (get_or c.args.latches.now k d) in
+    let same : map variable c.args.latches.now ≡ map held c.args.circuit.now.latches = ap (map variable) c.requires.latches ∙ map-map variable (λ (l : Latch). l.lit) m.latches in
+    let here : Contains (map held m.latches) v = subst (λ (vs : List ℕ). Contains vs v) same (Contains-map variable c.args.latches.now k d k_in) in
+    let once = c.well_formed-2.ensures.defined_once in
+    open_kept_apart (map left m.gates) c.fill-2.new.out c.fill_gates.new.out v (rw c.gates.ensures at (c.fill_gates.ensures.kept v))
+    (once-across (map variable m.inputs ++ map held m.latches) (map left m.gates) v once (Contains-append_right (map variable m.inputs) (map held m.latches) v here)) ∙ c.fill-2.ensures.written k d k_in
+
+pub returns-clause-inputs : goal.returns-clause-inputs
+returns-clause-inputs c = λ k d k_in.
+    let m = c.args.circuit.now in
+    let v = variable (get_or m.inputs k d) in
+    let same : map variable c.args.latches.now ≡ map held c.args.circuit.now.latches = ap (map variable) c.requires.latches ∙ map-map variable (λ (l : Latch). l.lit) m.latches in
+    let here : Contains (map variable m.inputs) v = Contains-map variable m.inputs k d k_in in
+    let once = c.well_formed-2.ensures.defined_once in
+    let written = rw c.inputs.ensures at c.fill.ensures.written in
+    open_kept_apart (map left m.gates) c.fill-2.new.out c.fill_gates.new.out v (rw c.gates.ensures at (c.fill_gates.ensures.kept v))
+    (once-across (map variable m.inputs ++ map held m.latches) (map left m.gates) v once (Contains-append_left (map variable m.inputs) (map held m.latches) v here))
+    ∙ open_kept_apart (map variable c.args.latches.now) c.fill.new.out c.fill-2.new.out v (c.fill-2.ensures.kept v)
+    (λ found. once-across (map variable m.inputs) (map held m.latches) v (once-left (map variable m.inputs ++ map held m.latches) (map left m.gates) once) here (subst (λ (vs : List ℕ). Contains vs v) same found))
+    ∙ written k d k_in
 
 pub fill_gates-requires-clause-once : goal.fill_gates-requires-clause-once
 fill_gates-requires-clause-once c =
