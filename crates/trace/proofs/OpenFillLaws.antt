@@ -1,7 +1,7 @@
 -- What has been written into values that may be open so far.
-use Rattle.std.proofs.Common.{◌≡◌, ℕ, ◌+◌, ◌<◌, ◌≢◌, ◌⊎◌, Bool, List, ◌++◌, length, map, set, get_or, inl, inr, arith, AllPairs, Contains, Option, None, refl, ◌∙◌, sym, ap, below_more, subst}
+use Rattle.std.proofs.Common.{◌≡◌, ℕ, ◌+◌, ◌<◌, ◌≢◌, ◌⊎◌, Bool, List, length, map, set, get_or, inl, inr, arith, AllPairs, Contains, Option, None, refl, ◌∙◌, sym, ap, below_more, subst}
 use Rattle.std.proofs.lemmas.List.Elements.{Contains-get_or}
-use Rattle.std.proofs.lemmas.List.{get_or-map, get_or-set_same, get_or-set_other, length-map}
+use Rattle.std.proofs.lemmas.List.{get_or-map, get_or-set_same, get_or-set_other}
 use Rattle.graph.specs.declared.circuit.Gate.{Gate}
 use Rattle.graph.specs.declared.circuit.Lit.{Lit}
 use Rattle.graph.specs.Valuation.{variable}
