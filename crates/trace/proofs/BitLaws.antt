@@ -66,12 +66,12 @@ row_in_range m symbols kind lits row h in_range k d k_in =
     let one = h.each k d.lit d k_lits in
     subst (λ (a : Lit). variable a ≤ m) (sym one.lit_is) (in_range k d.lit k_lits)
 
-inputs_in_range : (m : Parts) → IsWellFormed m → All (λ a. variable a ≤ m.max_var) m.inputs
+pub inputs_in_range : (m : Parts) → IsWellFormed m → All (λ a. variable a ≤ m.max_var) m.inputs
 inputs_in_range m h k d k_in =
     let p = All-left (λ a. a.0 ≤ 2 * m.max_var + 1) m.inputs (map (λ l. l.lit) m.latches) (All-left (λ a. a.0 ≤ 2 * m.max_var + 1) (m.inputs ++ map (λ l. l.lit) m.latches) (map (λ g. g.lhs) m.gates) h.defining_in_range) k d k_in in
     omega (arith, p)
 
-latch_literals_in_range : (m : Parts) → IsWellFormed m → All (λ a. variable a ≤ m.max_var) (map (λ l. l.lit) m.latches)
+pub latch_literals_in_range : (m : Parts) → IsWellFormed m → All (λ a. variable a ≤ m.max_var) (map (λ l. l.lit) m.latches)
 latch_literals_in_range m h k d k_in =
     let p = All-right (λ a. a.0 ≤ 2 * m.max_var + 1) m.inputs (map (λ l. l.lit) m.latches) (All-left (λ a. a.0 ≤ 2 * m.max_var + 1) (m.inputs ++ map (λ l. l.lit) m.latches) (map (λ g. g.lhs) m.gates) h.defining_in_range) k d k_in in
     omega (arith, p)

@@ -11,3 +11,7 @@ pub mod ChangeLaws
 pub mod WaveLaws
 pub mod WidthLaws
 pub mod LoopLaws
+pub mod OpenLaws
+pub mod OpenReplayLaws
+pub mod OpenOrderLaws
+pub mod OpenFillLaws

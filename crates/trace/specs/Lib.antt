@@ -5,6 +5,7 @@ pub mod Columns
 pub mod Lines
 pub mod Loops
 pub mod Widths
+pub mod OpenValues
 pub mod SignalValues
 pub mod Traces
 pub mod Scopes

@@ -80,7 +80,7 @@ fn push_bits<'a>(
 }
 
 /// The literals of the latches.
-fn latch_literals(alloc: Global, latches: &[Latch]) -> Result<Vec<Lit>, Refused>
+pub fn latch_literals(alloc: Global, latches: &[Latch]) -> Result<Vec<Lit>, Refused>
     ensures { IfOk result (λ v. v.items ≡ map (λ l. l.lit) latches.now) }
 {
     let mut lits = Vec::new(alloc);

@@ -7,8 +7,8 @@
 //! - `put_vcd` puts the same replay as a waveform: a value change dump of IEEE 1364, with a variable for each signal (`wave_text`).
 //! - Both tell the time at which the loop of a lasso begins (`IsLoopStart`).
 //!
-//! Replaying costs the gates for each time, for a justice property at most twice that, and the order of the names n log n. The memory is that of the bits, and a value
-//! of each bit and a width at each time; a waveform's text is in memory too before it is put.
+//! Replaying costs the gates for each time, for a justice property at most twice that, and the order of the names n log n. The
+//! memory is that of the bits, and a value of each bit and a width at each time; a waveform's text is in memory too before it is put.
 #![tactic(auto)]
 
 mod bits;
@@ -18,6 +18,8 @@ mod lines;
 mod loops;
 mod names;
 mod numbers;
+mod open_replay;
+mod open_values;
 mod scopes;
 mod signal_values;
 mod signals;

@@ -81,8 +81,8 @@ fn wanted(alloc: Global, parts: &Parts, j: u32) -> Result<Vec<Lit>, Refused>
     Ok(wanted)
 }
 
-/// The first time of this state, where from there on each wanted literal is set. No later time is one
-/// where this is none: what is set from a later one is set from it.
+/// The first time of this state, where each wanted literal is set from there on. Where one is not, no later time has them all:
+/// what is set from a later time on is set from the first on.
 fn first_lasso(
     alloc: Global,
     circuit: &Model,

@@ -1,0 +1,12 @@
+use Rattle.std.proofs.Common.{◌≡◌, length, map}
+use Rattle.graph.specs.Valuation.{Valuation, variable}
+use Rattle.trace.specs.OpenValues.{AreGiven, Stand}
+use Rattle.trace.proofs.OpenFillLaws.{OpenWritten}
+use Rattle.trace.proofs.open_values.fill.Given as goal
+
+abbrev pub invariant-loop-i : goal.invariant-loop-i
+invariant-loop-i l = record {
+  places : length l.out ≡ length l.initial.out;
+  written : OpenWritten (map variable l.lits) l.given l.initial.out l.out l.i;
+  stand : (w : Valuation) → Stand l.initial.out w → AreGiven l.lits l.given w → Stand l.out w;
+}

@@ -1,0 +1,14 @@
+use Rattle.std.proofs.Common.{◌≡◌, ◌⊎◌, ℕ, All, Contains, length, map}
+use Rattle.graph.specs.Valuation.{Fires, Valuation}
+use Rattle.trace.specs.OpenValues.{Stand, open_place}
+use Rattle.graph.proofs.Gates.{left}
+use Rattle.trace.proofs.OpenOrderLaws.{OpenEvaluated}
+use Rattle.trace.proofs.open_values.fill_gates.Given as goal
+
+abbrev pub invariant-loop-place : goal.invariant-loop-place
+invariant-loop-place l = record {
+  places : length l.out ≡ length l.initial.out;
+  evaluated : OpenEvaluated l.gates l.order l.out l.place-index;
+  kept : (v : ℕ) → Contains (map left l.gates) v ⊎ (open_place l.out v ≡ open_place l.initial.out v);
+  stand : (w : Valuation) → Stand l.initial.out w → All (Fires w) l.gates → Stand l.out w;
+}
