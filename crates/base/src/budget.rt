@@ -1,6 +1,6 @@
 //! The steps that a search may still take.
 
-ghost use Rattle.std.specs.Prelude.{◌≡◌, ◌+◌, ◌<◌, true, false};
+ghost use Rattle.std.specs.Prelude.{◌≡◌, ◌+◌, ◌-◌, ◌<◌, true, false};
 
 use std::marker::Model;
 
@@ -44,6 +44,14 @@ impl Budget {
         } else {
             false
         }
+    }
+
+    /// Spends so many steps, or all that are left where these are fewer.
+    pub fn spend(&mut self, steps: u64)
+        ensures left { self.new.left ≡ self.old.left - steps }
+        ensures spends { Spends self.old self.new }
+    {
+        self.spent += steps.min(self.total - self.spent);
     }
 
     /// How many steps are spent.
