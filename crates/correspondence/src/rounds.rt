@@ -12,11 +12,11 @@ ghost use Rattle.cnf.specs.Tables.{IsTableOf};
 ghost use Rattle.engine.specs.Findings.{IsForBad};
 ghost use Rattle.correspondence.specs.Equal.{IsEquality};
 ghost use Rattle.correspondence.specs.declared.rounds.Reply.TheVariants.{Holds};
-ghost use Rattle.correspondence.specs.Rounds.{IsRound};
+ghost use Rattle.correspondence.specs.Rounds.{IsCoreOf, IsRound};
 
 use crate::equalities::{Equalities, Member};
 use crate::search::{Search, Situation};
-use crate::sweeping::sweep_pairs;
+use crate::sweeping::{spend, sweep_pairs};
 use base::{Refused, push};
 use cnf::{NextTable, bad_unit, shared_base, step_units};
 use graph::{Budget, Lit, Model, Seq};
@@ -27,6 +27,12 @@ use sweep::{Near, ask};
 
 /// The greatest number of clauses of an invariant.
 const GREATEST: usize = 4_194_303;
+
+/// How many steps a question may cost before signals are swept.
+const SOON: u64 = 300_000;
+
+/// What a question about the bad literal is about.
+const NO_MEMBER: Member = Member { place: 0, class: 0 };
 
 /// What a round says of the classes.
 #[derive(Drop)]
@@ -148,6 +154,61 @@ impl<'a> Search<'a> {
         Ok(())
     }
 
+    /// Has the solver learn which signals are equal.
+    fn sweep<S: PartSat>(
+        &mut self,
+        solver: &mut S,
+        alloc: Global,
+        circuit: &Model,
+        equalities: &Equalities,
+        budget: &mut Budget,
+    ) -> Result<(), SatError>
+        requires { S.vars solver.old ≡ circuit.now.max_var + 1 }
+        ensures vars { S.vars solver.new ≡ S.vars solver.old }
+        ensures clauses { S.clauses solver.new ≡ S.clauses solver.old }
+        ensures spends { Spends budget.old budget.new }
+    {
+        self.is_swept = true;
+        sweep_pairs(
+            solver,
+            alloc,
+            circuit,
+            equalities.clauses.as_slice(),
+            budget,
+        )
+    }
+
+    /// What the solver says of the units: with few steps, and where these are not enough behind a sweep.
+    fn answer<S: PartSat>(
+        &mut self,
+        solver: &mut S,
+        alloc: Global,
+        circuit: &Model,
+        equalities: &Equalities,
+        question: &Question,
+        budget: &mut Budget,
+    ) -> Result<Answer, SatError>
+        requires vars { S.vars solver.old ≡ circuit.now.max_var + 1 }
+        requires units { All (IsLiteral (circuit.now.max_var + 1)) question.now.units.items }
+        ensures vars { S.vars solver.new ≡ S.vars solver.old }
+        ensures clauses { S.clauses solver.new ≡ S.clauses solver.old }
+        ensures spends { Spends budget.old budget.new }
+        ensures core { IfOk result (IsCoreOf (S.clauses solver.old) question.now.units.items) }
+    {
+        let (part, units) = (&question.part, question.units.as_slice());
+        if !self.is_swept {
+            let mut piece = Budget::new(budget.left().min(SOON));
+            let answer = ask(solver, alloc, part, units, &mut piece)?;
+            spend(budget, piece.spent());
+            match answer {
+                Answer::Spent => {}
+                answer => return Ok(answer),
+            }
+            self.sweep(solver, alloc, circuit, equalities, budget)?;
+        }
+        ask(solver, alloc, part, units, budget)
+    }
+
     /// Asks whether a clause holds after a step from the states that satisfy all of them, and splits the classes where
     /// it does not.
     fn ask_step<S: PartSat>(
@@ -155,25 +216,21 @@ impl<'a> Search<'a> {
         solver: &mut S,
         alloc: Global,
         circuit: &Model,
-        question: Question,
+        equalities: &Equalities,
+        question: &Question,
         budget: &mut Budget,
     ) -> Result<Reply, SatError>
         requires vars { S.vars solver.old ≡ circuit.now.max_var + 1 }
-        requires units { All (IsLiteral (circuit.now.max_var + 1)) question.units.items }
+        requires units { All (IsLiteral (circuit.now.max_var + 1)) question.now.units.items }
         ensures vars { S.vars solver.new ≡ S.vars solver.old }
         ensures clauses { S.clauses solver.new ≡ S.clauses solver.old }
         ensures spends { Spends budget.old budget.new }
-        ensures holds { IfOk result (λ r. r ≡ Holds → AreContradictory (S.clauses solver.old ++ unit_clauses question.units.items)) }
+        ensures holds { IfOk result (λ r. r ≡ Holds → AreContradictory (S.clauses solver.old ++ unit_clauses question.now.units.items)) }
     {
-        let Question {
-            member,
-            units,
-            part,
-        } = question;
-        match ask(solver, alloc, &part, units.as_slice(), budget)? {
+        match self.answer(solver, alloc, circuit, equalities, question, budget)? {
             Answer::Core(_) => Ok(Reply::Holds),
             Answer::Model(values) => {
-                self.split_by(alloc, circuit, member, values.as_slice(), budget)?;
+                self.split_by(alloc, circuit, question.member, values.as_slice(), budget)?;
                 Ok(Reply::Split)
             }
             Answer::Spent => Ok(Reply::Spent),
@@ -232,7 +289,9 @@ impl<'a> Search<'a> {
         'asking: for place in 0..equalities.clauses.len() {
             let question = self.question(alloc, circuit, &table, &mut near, equalities, place)?;
             let reply = match question {
-                Some(question) => self.ask_step(solver, alloc, circuit, question, budget)?,
+                Some(question) => {
+                    self.ask_step(solver, alloc, circuit, equalities, &question, budget)?
+                }
                 None => Reply::Split,
             };
             match reply {
@@ -245,30 +304,38 @@ impl<'a> Search<'a> {
     }
 }
 
-/// Whether the clauses, which are loaded, exclude the bad literal.
-fn excludes<S: PartSat>(
-    solver: &mut S,
-    alloc: Global,
-    circuit: &Model,
-    bad: Lit,
-    budget: &mut Budget,
-) -> Result<bool, SatError>
-    requires vars { S.vars solver.old ≡ circuit.now.max_var + 1 }
-    requires bad { Contains (used circuit.now) bad }
-    ensures vars { S.vars solver.new ≡ S.vars solver.old }
-    ensures clauses { S.clauses solver.new ≡ S.clauses solver.old }
-    ensures spends { Spends budget.old budget.new }
-    ensures excluded { IfOk result (λ yes. IsTrue yes → AreContradictory (S.clauses solver.old ++ unit_clauses (bad_units circuit.now bad))) }
-{
-    let units = [bad_unit(circuit, bad)];
-    let part = Near::new(alloc, circuit)?.part_of(alloc, circuit, &units)?;
-    match ask(solver, alloc, &part, &units, budget)? {
-        Answer::Core(_) => Ok(true),
-        _ => Ok(false),
-    }
-}
-
 impl<'a> Search<'a> {
+    /// Whether the clauses, which are loaded, exclude the bad literal.
+    fn excludes<S: PartSat>(
+        &mut self,
+        solver: &mut S,
+        alloc: Global,
+        circuit: &Model,
+        bad: Lit,
+        equalities: &Equalities,
+        budget: &mut Budget,
+    ) -> Result<bool, SatError>
+        requires vars { S.vars solver.old ≡ circuit.now.max_var + 1 }
+        requires bad { Contains (used circuit.now) bad }
+        ensures vars { S.vars solver.new ≡ S.vars solver.old }
+        ensures clauses { S.clauses solver.new ≡ S.clauses solver.old }
+        ensures spends { Spends budget.old budget.new }
+        ensures excluded { IfOk result (λ yes. IsTrue yes → AreContradictory (S.clauses solver.old ++ unit_clauses (bad_units circuit.now bad))) }
+    {
+        let mut units = Vec::new(alloc);
+        push(&mut units, bad_unit(circuit, bad))?;
+        let part = Near::new(alloc, circuit)?.part_of(alloc, circuit, units.as_slice())?;
+        let question = Question {
+            member: NO_MEMBER,
+            units,
+            part,
+        };
+        match self.answer(solver, alloc, circuit, equalities, &question, budget)? {
+            Answer::Core(_) => Ok(true),
+            _ => Ok(false),
+        }
+    }
+
     /// Asks whether the classes, whose clauses are loaded, exclude the bad literal, and whether equal latches stay equal.
     fn ask_all<S: PartSat>(
         &mut self,
@@ -287,14 +354,7 @@ impl<'a> Search<'a> {
         ensures spends { Spends budget.old budget.new }
         ensures fixed { IfOk result (IsRound circuit.now) }
     {
-        sweep_pairs(
-            solver,
-            alloc,
-            circuit,
-            equalities.clauses.as_slice(),
-            budget,
-        )?;
-        if !excludes(solver, alloc, circuit, bad, budget)? {
+        if !self.excludes(solver, alloc, circuit, bad, &equalities, budget)? {
             return Ok(Round::Over);
         }
         match self.ask_steps(solver, alloc, circuit, &equalities, budget)? {
@@ -323,6 +383,7 @@ impl<'a> Search<'a> {
             return Ok(Round::Over);
         }
         load(solver, alloc, circuit, equalities.clauses.as_slice())?;
+        self.is_swept = false;
         self.ask_all(solver, alloc, circuit, bad, equalities, budget)
     }
 }

@@ -34,6 +34,8 @@ pub(crate) struct Search<'a> {
     opened: &'a Model,
     pub classes: Classes,
     generator: Lcg128Xsl64,
+    /// whether signals are swept in this round
+    pub is_swept: bool,
 }
 
 /// The state of a circuit and its inputs, in their order.
@@ -110,6 +112,7 @@ impl<'a> Search<'a> {
             opened,
             classes: Classes::new(alloc, circuit.latches())?,
             generator: Lcg128Xsl64::seed_from_u64(0),
+            is_swept: false,
         })
     }
 

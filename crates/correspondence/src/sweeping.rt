@@ -9,7 +9,7 @@ use std::alloc::Global;
 use sweep::{STEPS, Sweep};
 
 /// Spends so many steps, or all that are left.
-fn spend(budget: &mut Budget, steps: u64)
+pub(crate) fn spend(budget: &mut Budget, steps: u64)
     ensures { Spends budget.old budget.new }
 {
     for _ in 0..steps {

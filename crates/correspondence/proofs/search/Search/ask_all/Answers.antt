@@ -17,7 +17,7 @@ pub returns-in-Some-true-clause-fixed : goal.returns-in-Some-true-clause-fixed
 returns-in-Some-true-clause-fixed g c =
     let m = c.args.circuit.now in
     let inv : List (List Lit) = c.args.equalities.clauses in
-    let loaded : g.S.Sat.clauses c.sweep_pairs.new.solver ≡ shared_clauses m inv = c.in_ok-sweep_pairs.ensures.clauses ∙ c.requires.loaded in
+    let loaded : g.S.Sat.clauses c.args.solver.now ≡ shared_clauses m inv = c.requires.loaded in
     let told : IsTrue c.in_ok-excludes.field-0 = search rules in
     let excluded : AreContradictory (bad_clauses m inv c.args.bad) = subst (λ (cs : List (List ℤ)). AreContradictory (cs ++ unit_clauses (bad_units m c.args.bad))) loaded (c.in_ok-excludes.ensures.excluded told) in
     let all : c.in_ok-ask_steps.field-0 ≡ Some true = c.in-Some-true.is ∙ ap Some c.in-Some-true.field-0-test in

@@ -1,4 +1,4 @@
-use Rattle.std.proofs.Common.{◌≡◌, List, ℤ, subst}
+use Rattle.std.proofs.Common.{◌≡◌, List, ℤ}
 use Rattle.solver.specs.Answers.{IsCore}
 use Rattle.correspondence.proofs.Asked.{core_contradicts}
 use Rattle.correspondence.proofs.search.Search.ask_step.Goals as goal
@@ -7,5 +7,5 @@ pub returns-in-Core-clause-holds : goal.returns-in-Core-clause-holds
 returns-in-Core-clause-holds g c holds =
     let cs : List (List ℤ) = g.S.Sat.clauses c.args.solver.now in
     let core : List ℤ = c.in-Core.field-0.items in
-    let is : IsCore cs c.as_slice.result.now core = rw c.in-Core.is at c.in_ok-ask.ensures.lawful in
-    core_contradicts cs c.args.question.units.items core (subst (λ (us : List ℤ). IsCore cs us core) c.as_slice.ensures.value is)
+    let is : IsCore cs c.args.question.now.units.items core = rw c.in-Core.is at c.in_ok-answer.ensures.core in
+    core_contradicts cs c.args.question.now.units.items core is

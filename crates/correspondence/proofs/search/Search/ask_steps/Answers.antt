@@ -17,29 +17,29 @@ asking-preserved g c =
     let P : ℕ → Type 0 = λ k. AreContradictory (step_clauses m inv (slice_index_or inv k [])) in
     elim c.match-question.branch [
       | in-Some+in_ok-reply-in-Some w ↦ record {
-          spends = search rules;
-          vars = search rules;
-          clauses = search rules;
-          hold = λ on k lt. elim c.match-reply.branch [
-            | in-Holds v ↦
+        spends = search rules;
+        vars = search rules;
+        clauses = search rules;
+        hold = λ on k lt. elim c.match-reply.branch [
+          | in-Holds v ↦
               let replied = sym w.reply-is ∙ v.in-Holds.is in
               let here = w.in_ok-reply-in-Some.ensures.holds replied in
               let of = rw w.in-Some.is at c.in_ok-question.ensures in
               let loaded : g.S.Sat.clauses c.asking.solver ≡ shared_clauses m inv = c.asking.invariant.clauses ∙ c.requires.loaded in
               one_more P c.asking.place (c.asking.invariant.hold (sym v.all_hold-is ∙ on))
               (subst (λ (cs : List (List ℤ)). AreContradictory (cs ++ unit_clauses (step_units m (slice_index_or inv c.asking.place [])))) loaded (subst (λ (us : List ℤ). AreContradictory (g.S.Sat.clauses c.asking.solver ++ unit_clauses us)) of.0 here)) k lt
-            | in-Split v ↦ absurd (false≢true (sym v.all_hold-is ∙ on))
-          ];
-        }
+          | in-Split v ↦ absurd (false≢true (sym v.all_hold-is ∙ on))
+        ];
+      }
       | in-None w ↦ record {
-          spends = search rules;
-          vars = search rules;
-          clauses = search rules;
-          hold = λ on k lt. elim c.match-reply.branch [
-            | in-Holds v ↦ absurd (split_holds_not (sym w.reply-is ∙ v.in-Holds.is))
-            | in-Split v ↦ absurd (false≢true (sym v.all_hold-is ∙ on))
-          ];
-        }
+        spends = search rules;
+        vars = search rules;
+        clauses = search rules;
+        hold = λ on k lt. elim c.match-reply.branch [
+          | in-Holds v ↦ absurd (split_holds_not (sym w.reply-is ∙ v.in-Holds.is))
+          | in-Split v ↦ absurd (false≢true (sym v.all_hold-is ∙ on))
+        ];
+      }
     ]
 
 pub returns-clause-hold : goal.returns-clause-hold
