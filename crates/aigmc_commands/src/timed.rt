@@ -55,21 +55,13 @@ impl Deadline {
     }
 }
 
-/// Spends so many steps, or all that are left.
-fn spend(budget: &mut Budget, steps: u64)
-    ensures { Spends budget.old budget.new }
-{
-    for _ in 0..steps {
-        let _ = budget.tick();
-    }
-}
-
 /// Spends what is left.
-fn spend_all(budget: &mut Budget)
+fn exhaust(budget: &mut Budget)
     ensures spends { Spends budget.old budget.new }
-    ensures all { budget.new.left ≡ 0 }
+    ensures none { budget.new.left ≡ 0 }
 {
-    while budget.tick() {}
+    let left = budget.left();
+    budget.spend(left);
 }
 
 /// A solver that is asked no more once the time is over: what is left of the budget is spent then.
@@ -102,7 +94,7 @@ fn ask_piece<S: Sat>(
 {
     let mut piece = Budget::new(budget.left().min(PIECE));
     let answer = solver.solve(alloc, assume, &mut piece)?;
-    spend(budget, piece.spent());
+    budget.spend(piece.spent());
     match answer {
         Answer::Spent => Ok(None),
         answer => Ok(Some(answer)),
@@ -145,7 +137,7 @@ impl<S: Sat> Sat for Timed<S> {
                 return Ok(answer);
             }
         }
-        spend_all(budget);
+        exhaust(budget);
         Ok(Answer::Spent)
     }
 }
@@ -159,7 +151,7 @@ impl<S: PartSat> PartSat for Timed<S> {
         budget: &mut Budget,
     ) -> Result<Answer, SatError> {
         if self.deadline.is_over() {
-            spend_all(budget);
+            exhaust(budget);
             return Ok(Answer::Spent);
         }
         self.solver.solve_part(alloc, part, assume, budget)

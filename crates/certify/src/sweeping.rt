@@ -9,15 +9,6 @@ use solver::SatError;
 use std::alloc::Global;
 use sweep::{STEPS, Sweep};
 
-/// Spends so many steps, or all that are left.
-fn spend(budget: &mut Budget, steps: u64)
-    ensures { Spends budget.old budget.new }
-{
-    for _ in 0..steps {
-        let _ = budget.tick();
-    }
-}
-
 /// Whether a few steps show that the signals of a pair do not differ in this direction.
 fn is_shown(
     alloc: Global,
@@ -38,7 +29,7 @@ fn is_shown(
     let mut piece = Budget::new(budget.left().min(STEPS));
     let units = question.units.as_slice();
     let is_shown = refuter.learn(alloc, &question.part, units, &mut piece)?;
-    spend(budget, piece.spent());
+    budget.spend(piece.spent());
     Ok(is_shown)
 }
 

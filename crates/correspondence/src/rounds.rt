@@ -16,7 +16,7 @@ ghost use Rattle.correspondence.specs.Rounds.{IsCoreOf, IsRound};
 
 use crate::equalities::{Equalities, Member};
 use crate::search::{Search, Situation};
-use crate::sweeping::{spend, sweep_pairs};
+use crate::sweeping::sweep_pairs;
 use base::{Refused, push};
 use cnf::{NextTable, bad_unit, shared_base, step_units};
 use graph::{Budget, Lit, Model, Seq};
@@ -199,7 +199,7 @@ impl<'a> Search<'a> {
         if !self.is_swept {
             let mut piece = Budget::new(budget.left().min(SOON));
             let answer = ask(solver, alloc, part, units, &mut piece)?;
-            spend(budget, piece.spent());
+            budget.spend(piece.spent());
             match answer {
                 Answer::Spent => {}
                 answer => return Ok(answer),

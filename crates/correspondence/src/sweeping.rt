@@ -8,15 +8,6 @@ use solver::{Answer, PartSat, SatError};
 use std::alloc::Global;
 use sweep::{STEPS, Sweep};
 
-/// Spends so many steps, or all that are left.
-pub(crate) fn spend(budget: &mut Budget, steps: u64)
-    ensures { Spends budget.old budget.new }
-{
-    for _ in 0..steps {
-        let _ = budget.tick();
-    }
-}
-
 /// Whether a few steps show that the signals of a pair do not differ in this direction.
 fn is_shown<S: PartSat>(
     solver: &mut S,
@@ -38,7 +29,7 @@ fn is_shown<S: PartSat>(
     let mut piece = Budget::new(budget.left().min(STEPS));
     let units = question.units.as_slice();
     let answer = solver.solve_part(alloc, &question.part, units, &mut piece)?;
-    spend(budget, piece.spent());
+    budget.spend(piece.spent());
     Ok(matches!(answer, Answer::Core(_)))
 }
 

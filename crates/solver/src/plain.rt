@@ -60,7 +60,8 @@ fn exhaust(budget: &mut Budget)
     ensures spends { Spends budget.old budget.new }
     ensures none { budget.new.left ≡ 0 }
 {
-    'exhausting: while budget.tick() {}
+    let left = budget.left();
+    budget.spend(left);
 }
 
 /// What an answer by all clauses says of a part: a model that doesn't fit it is none, and the budget is exhausted.
