@@ -7,6 +7,7 @@ import os
 import pathlib
 import re
 import subprocess
+import sys
 
 TOP = pathlib.Path(__file__).resolve().parent.parent
 FOLDER = TOP / "cases"
@@ -24,8 +25,13 @@ def the_cases():
 
 
 def due(cases, names):
-    """The cases that are due, or those of them that are named."""
-    return [case for case in cases.table() if cases.is_due(case) and (not names or case["name"] in names)]
+    """The cases that are due, or those of them that are named. Where none is, or not each that is named, nothing is tried."""
+    those = [case for case in cases.table() if cases.is_due(case) and (not names or case["name"] in names)]
+    gone = sorted(set(names) - {case["name"] for case in those})
+    if gone or not those:
+        print(f"no case is due by the name {gone[0]}" if gone else "no case is due", file=sys.stderr)
+        sys.exit(3)
+    return those
 
 
 def built(folder, source):

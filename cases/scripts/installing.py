@@ -99,6 +99,13 @@ def links(scratch):
                     expect((done.status, told), (status, b""), f"{path} to {place}")
 
 
+@case("robustness: a name that no case has")
+def no_such_case(scratch):
+    for name in ("refused", "devices"):
+        done = call(TOP / "robustness" / name, "none", cwd=scratch)
+        expect((done.status, done.out, done.told != b""), (3, b"", True), f"what {name} does")
+
+
 @case("--help of each script")
 def helps(scratch):
     make_script(scratch / "rt", "exit 1")
@@ -113,10 +120,12 @@ def helps(scratch):
         with open("/dev/full", "wb") as device:
             status = call(TOP / "bin" / name, "--help", cwd=scratch, stdout=device, **more).status
         expect(status != 0, True, f"whether {name} --help fails on a full device")
-    for path in (path for path in sorted((TOP / "cases").iterdir()) if path.is_file() and os.access(path, os.X_OK)):
+    folders = [TOP / folder for folder in ("cases", "bench", "robustness", "tools")]
+    paths = [path for folder in folders for path in sorted(folder.iterdir())]
+    for path in (path for path in paths if path.is_file() and os.access(path, os.X_OK)):
         done = call(path, "--help", cwd=scratch)
-        is_said = len(done.out.splitlines()) > 5
-        expect((done.status, done.told, is_said), (0, b"", True), f"cases/{path.name} --help")
+        is_said = len(done.out.splitlines()) > (5 if path.parent.name == "cases" else 3)
+        expect((done.status, done.told, is_said), (0, b"", True), f"{path.parent.name}/{path.name} --help")
 
 
 @case("each option of a script's help is in its man page")
