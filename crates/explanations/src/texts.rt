@@ -40,6 +40,9 @@ pub fn other_format(beginning: &[u8]) -> Option<&'static str> {
         [b'M' | b'-', ..] if has(beginning, b"MODULE ") => {
             Some("it is SMV; smvtoaig (the AIGER tools) makes AIGER of it")
         }
+        [b'a', b'a' | b'i', b'g', b' ', ..] if has(beginning, b"\r\n") => {
+            Some("its lines end with CR LF; those of AIGER end with LF")
+        }
         _ => None,
     }
 }

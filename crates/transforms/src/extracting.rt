@@ -2,8 +2,8 @@
 
 use crate::cone::Cone;
 use crate::error::TransformError;
-use crate::symbols::add;
-use base::{Refused, filled_like};
+use crate::symbols::{add, name_others};
+use base::Refused;
 use graph::{AigerFile, Gate, Latch, Lit, Model, Parts, Property, Seq, Symbol, SymbolKind};
 use property_names::symbol_of;
 use std::alloc::Global;
@@ -43,59 +43,52 @@ fn latches_in(alloc: Global, cone: &Cone, latches: &[Latch]) -> Result<Seq<Latch
     Ok(kept)
 }
 
-/// The circuit of the property that watches this literal: all inputs and latches, the constraints, the gates on which
-/// they and the property rest, and of the properties this one.
-fn part_of(
-    alloc: Global,
-    circuit: &Model,
-    property: Property,
-    watched: Lit,
-) -> Result<Model, TransformError> {
+/// What the literal and the constraints rest on.
+fn cone_of(alloc: Global, circuit: &Model, watched: Lit) -> Result<Cone, Refused> {
     let mut cone = Cone::new(alloc, circuit)?;
     cone.mark(watched.variable())?;
     cone.mark_all(circuit.constraints())?;
     cone.close()?;
-    let mut parts: Parts = circuit.parts().copy(alloc)?;
-    parts.gates = gates_in(alloc, &cone, circuit.gates())?;
-    parts.latches = latches_in(alloc, &cone, circuit.latches())?;
+    Ok(cone)
+}
+
+/// Leaves the gates out that are not of the cone, and has the latches that are not of it keep their values.
+fn narrow(alloc: Global, parts: &mut Parts, cone: &Cone) -> Result<(), Refused> {
+    parts.gates = gates_in(alloc, cone, parts.gates.as_slice())?;
+    parts.latches = latches_in(alloc, cone, parts.latches.as_slice())?;
+    Ok(())
+}
+
+/// Leaves all properties out but this one, which watches the literal.
+fn watch(
+    alloc: Global,
+    parts: &mut Parts,
+    property: Property,
+    watched: Lit,
+) -> Result<(), Refused> {
     parts.outputs = Seq::new(alloc);
     parts.bad = Seq::new(alloc);
     parts.justice = Seq::new(alloc);
     parts.fairness = Seq::new(alloc);
     match property {
-        Property::Output(_) => parts.outputs.push(watched)?,
-        _ => parts.bad.push(watched)?,
-    }
-    let part = Model::from_parts(alloc, parts)?;
-    Ok(part)
-}
-
-/// Notes that what is at the position has a name.
-fn note(named: &mut [bool], position: u32) {
-    if let Some(named) = named.get_mut(position as usize) {
-        *named = true;
+        Property::Output(_) => parts.outputs.push(watched),
+        _ => parts.bad.push(watched),
     }
 }
 
-/// Adds a name for each that has none: the letters and its position.
-fn add_unnamed(
+/// The parts of the circuit of the property that watches this literal: all inputs and latches, the constraints, the gates on which
+/// they and the property rest, and of the properties this one.
+fn parts_of(
     alloc: Global,
-    symbols: &mut Vec<Symbol>,
-    kind: SymbolKind,
-    letters: &str,
-    named: &[bool],
-) -> Result<(), TransformError> {
-    let mut position = 0u32;
-    for is_named in named {
-        if !*is_named {
-            let Ok(name) = format!(in alloc; "{letters}{position}") else {
-                return Err(TransformError::Name);
-            };
-            add(alloc, symbols, kind, position, name.as_bytes())?;
-        }
-        position = position.saturating_add(1);
-    }
-    Ok(())
+    circuit: &Model,
+    property: Property,
+    watched: Lit,
+) -> Result<Parts, Refused> {
+    let cone = cone_of(alloc, circuit, watched)?;
+    let mut parts = circuit.parts().copy(alloc)?;
+    narrow(alloc, &mut parts, &cone)?;
+    watch(alloc, &mut parts, property, watched)?;
+    Ok(parts)
 }
 
 /// The names in the circuit of the property: each input and latch has one.
@@ -105,32 +98,16 @@ fn names(
     property: Property,
 ) -> Result<Vec<Symbol>, TransformError> {
     let mut symbols = Vec::new(alloc);
-    let mut inputs = filled_like(alloc, false, file.model().inputs())?;
-    let mut latches = filled_like(alloc, false, file.model().latches())?;
     for symbol in file.symbols() {
-        match symbol.kind {
-            SymbolKind::Input => note(inputs.as_mut_slice(), symbol.position),
-            SymbolKind::Latch => note(latches.as_mut_slice(), symbol.position),
-            SymbolKind::Constraint => {}
-            _ => continue,
+        if matches!(
+            symbol.kind,
+            SymbolKind::Input | SymbolKind::Latch | SymbolKind::Constraint
+        ) {
+            let name = symbol.name.as_slice();
+            add(alloc, &mut symbols, symbol.kind, symbol.position, name)?;
         }
-        let name = symbol.name.as_slice();
-        add(alloc, &mut symbols, symbol.kind, symbol.position, name)?;
     }
-    add_unnamed(
-        alloc,
-        &mut symbols,
-        SymbolKind::Input,
-        "i",
-        inputs.as_slice(),
-    )?;
-    add_unnamed(
-        alloc,
-        &mut symbols,
-        SymbolKind::Latch,
-        "lo",
-        latches.as_slice(),
-    )?;
+    name_others(alloc, &mut symbols, file.model())?;
     let kind = match property {
         Property::Output(_) => SymbolKind::Output,
         _ => SymbolKind::Bad,
@@ -152,7 +129,8 @@ pub fn extracted(
         let (Property::Bad(n) | Property::Justice(n) | Property::Output(n)) = property;
         return Err(TransformError::NoProperty(n));
     };
-    let part = part_of(alloc, file.model(), property, watched)?;
+    let parts = parts_of(alloc, file.model(), property, watched)?;
+    let part = Model::from_parts(alloc, parts)?;
     let symbols = Seq::from_vec(names(alloc, file, property)?);
     let extracted = AigerFile::new(alloc, part, symbols, None)?;
     Ok(extracted)

@@ -1,7 +1,7 @@
 //! The shadow circuit of a justice property as a file, with names.
 
 use crate::error::TransformError;
-use crate::symbols::{add, count};
+use crate::symbols::{add, count, name_others};
 use base::{Refused, extend};
 use graph::{AigerFile, Seq, Symbol, SymbolKind};
 use live_safe::to_safety;
@@ -68,14 +68,16 @@ fn names(alloc: Global, file: &AigerFile, justice: u32) -> Result<Vec<Symbol>, R
 
 /// The file of the shadow circuit of the justice property at the position: its inputs, latches and constraints have the
 /// names that they have in the circuit's file, the copy of a latch is called `copy.` and the latch's name, the new input
-/// `save`, the latch that it sets `saved`, and the bad literal as the justice property.
+/// `save`, the latch that it sets `saved`, and the bad literal as the justice property. Another input or latch is called `i0` or
+/// `lo0`, with its position.
 pub fn shadow_file(
     alloc: Global,
     file: &AigerFile,
     position: u32,
 ) -> Result<AigerFile, TransformError> {
     let model = to_safety(alloc, file.model(), position)?;
-    let symbols = Seq::from_vec(names(alloc, file, position)?);
-    let shadow = AigerFile::new(alloc, model, symbols, None)?;
+    let mut symbols = names(alloc, file, position)?;
+    name_others(alloc, &mut symbols, &model)?;
+    let shadow = AigerFile::new(alloc, model, Seq::from_vec(symbols), None)?;
     Ok(shadow)
 }

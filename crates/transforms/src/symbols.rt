@@ -1,7 +1,8 @@
 //! Names of what a circuit has.
 
-use base::{Refused, push};
-use graph::{Seq, Symbol, SymbolKind};
+use crate::error::TransformError;
+use base::{Refused, filled_like, push};
+use graph::{Model, Seq, Symbol, SymbolKind};
 use std::alloc::Global;
 
 /// Adds a name.
@@ -30,4 +31,51 @@ pub fn count(length: usize) -> u32 {
     } else {
         4_194_303
     }
+}
+
+/// Notes that what is at the position has a name.
+fn note(named: &mut [bool], position: u32) {
+    if let Some(named) = named.get_mut(position as usize) {
+        *named = true;
+    }
+}
+
+/// Adds a name for each that has none: the letters and its position.
+fn add_unnamed(
+    alloc: Global,
+    symbols: &mut Vec<Symbol>,
+    kind: SymbolKind,
+    letters: &str,
+    named: &[bool],
+) -> Result<(), TransformError> {
+    let mut position = 0u32;
+    for is_named in named {
+        if !*is_named {
+            let Ok(name) = format!(in alloc; "{letters}{position}") else {
+                return Err(TransformError::Name);
+            };
+            add(alloc, symbols, kind, position, name.as_bytes())?;
+        }
+        position = position.saturating_add(1);
+    }
+    Ok(())
+}
+
+/// Adds a name for each input and latch of the circuit that has none: `i0` or `lo0`, with its position.
+pub fn name_others(
+    alloc: Global,
+    symbols: &mut Vec<Symbol>,
+    circuit: &Model,
+) -> Result<(), TransformError> {
+    let mut inputs = filled_like(alloc, false, circuit.inputs())?;
+    let mut latches = filled_like(alloc, false, circuit.latches())?;
+    for symbol in symbols.as_slice() {
+        match symbol.kind {
+            SymbolKind::Input => note(inputs.as_mut_slice(), symbol.position),
+            SymbolKind::Latch => note(latches.as_mut_slice(), symbol.position),
+            _ => {}
+        }
+    }
+    add_unnamed(alloc, symbols, SymbolKind::Input, "i", inputs.as_slice())?;
+    add_unnamed(alloc, symbols, SymbolKind::Latch, "lo", latches.as_slice())
 }
