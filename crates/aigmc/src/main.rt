@@ -25,8 +25,8 @@
 //! steps, then register correspondence, then the two again; or `random`, random simulation from `--seed`.
 //! `--budget` is how many steps the search may cost. With `--cert OUT` the certificate of a property that
 //! holds is written to OUT before anything is printed; OUT may name neither the circuit's file nor the file
-//! that standard output goes to. What is said is `cli::decide`'s. `--timeout` ends bounded search, IC3 and correspondence after so many seconds,
-//! of `all` for all properties together: what is left of the budget is spent then. `--quiet` leaves out a run, and `--json` prints a line
+//! that standard output goes to. What is said is `cli::decide`'s. `--timeout` ends bounded search, IC3 and
+//! correspondence after so many seconds, of `all` for all properties together: what is left of the budget is spent then. `--quiet` leaves out a run, and `--json` prints a line
 //! of JSON for each property instead. P may be a name of
 //! the symbol table here and in all other commands, where exactly one property has it.
 //!
@@ -36,7 +36,7 @@
 //! certificate to `P.cert`, a stimulus to `P.stim`.
 //!
 //! `aigmc equal A B` looks for a run in which two circuits differ: it does what `check` does of the bad literal of their miter
-//! (`aigmc_commands`). With `--out DIR` that is `miter.aig` in the folder DIR, and the evidence `b0.cert` or `b0.stim`.
+//! (`transforms::miter_of`). With `--out DIR` that is `miter.aig` in the folder DIR, and the evidence `b0.cert` or `b0.stim`.
 //!
 //! `aigmc cover FILE` prints a run of `--depth` steps that keeps the constraints. Where bounded search shows that there is none,
 //! the status is 1 and standard error says so.
