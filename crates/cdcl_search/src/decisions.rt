@@ -1,5 +1,6 @@
 //! What is decided next: the variables that may be, the most active first, and the values that they had last.
 
+use crate::assignment::Assignment;
 use crate::heap::Heap;
 use crate::parts::Parts;
 use crate::table::Table;
@@ -17,7 +18,10 @@ pub struct Decisions {
     /// the value that each variable had last
     saved_phases: Table<bool>,
     pub parts: Parts,
-    /// how many literals of the trail are no false gates without a false side
+    /// how long the trail was when the question about the part began
+    pub root_trail: usize,
+    /// how many of the part's false gates of then, and of the literals behind them on the trail, are no false gates
+    /// without a false side
     pub justified: usize,
 }
 
@@ -29,6 +33,7 @@ impl Decisions {
             is_filled: true,
             saved_phases: Table::new(alloc),
             parts: Parts::new(alloc),
+            root_trail: 0,
             justified: 0,
         }
     }
@@ -67,12 +72,14 @@ impl Decisions {
         Ok(())
     }
 
-    /// Only the variables of the part are decided from now on, or all where there is none.
-    pub fn begin(&mut self, part: Option<&Part>) -> Result<(), Refused> {
+    /// Only the variables of the part are decided from now on, or all where there is none. It costs the part, however
+    /// long the trail of level 0 is.
+    pub fn begin(&mut self, part: Option<&Part>, assignment: &Assignment) -> Result<(), Refused> {
         match part {
             Some(part) => {
+                self.root_trail = assignment.trail.len();
                 self.justified = 0;
-                self.parts.begin(part)
+                self.parts.begin(part, &assignment.values)
             }
             None => self.begin_whole(),
         }

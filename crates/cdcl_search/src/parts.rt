@@ -2,6 +2,7 @@
 
 use crate::levels::Levels;
 use crate::table::Table;
+use crate::values::Values;
 use base::{Refused, push};
 use solver::{AndGate, Part};
 use std::alloc::Global;
@@ -26,6 +27,8 @@ pub struct Parts {
     gates: Table<AndGate>,
     /// the variables of the part that are no gates of it
     pub leaves: Vec<i32>,
+    /// the gates of the part that were false without a false side when the question began
+    pub false_gates: Vec<AndGate>,
 }
 
 impl Parts {
@@ -37,6 +40,7 @@ impl Parts {
             stamp: 0,
             gates: Table::new(alloc),
             leaves: Vec::new(alloc),
+            false_gates: Vec::new(alloc),
         }
     }
 
@@ -46,16 +50,28 @@ impl Parts {
         self.gates.push(NO_GATE)
     }
 
-    /// The question is about this part.
-    pub fn begin(&mut self, part: &Part) -> Result<(), Refused> {
+    /// The question is about this part, and these are the values at level 0.
+    pub fn begin(&mut self, part: &Part, values: &Values) -> Result<(), Refused> {
         self.is_part = true;
         self.stamp = self.stamp.wrapping_add(1);
         self.leaves.clear();
+        self.false_gates.clear();
         for gate in part.gates.iter() {
             self.gates.put(gate.lhs.unsigned_abs() as usize, *gate);
             self.add(gate.lhs);
+            self.add_false_gate(*gate, values)?;
         }
         self.add_leaves(part)
+    }
+
+    /// Lists the gate where it is false without a false side.
+    #[inline]
+    fn add_false_gate(&mut self, gate: AndGate, values: &Values) -> Result<(), Refused> {
+        let has_false_side = values.is_false(gate.rhs0) || values.is_false(gate.rhs1);
+        if values.is_false(gate.lhs) && !has_false_side {
+            push(&mut self.false_gates, gate)?;
+        }
+        Ok(())
     }
 
     /// The literal's variable is one of the part.

@@ -58,7 +58,7 @@ pub fn search(
     guide.grow_to(assume)?;
     attach_new_clauses(kernel.known(), guide)?;
     learn_root_units(kernel, guide)?;
-    guide.decisions.begin(part)?;
+    guide.decisions.begin(part, &guide.assignment)?;
     recheck_pending_conflict(kernel.known(), guide)?;
     'searching: while budget.tick() {
         if let Some(answer) = search_step(kernel, guide, part, assume, budget)? {
