@@ -12,7 +12,7 @@ pub struct Explanation {
 }
 
 /// The numbers of faults and of a no, in rising order: the lines of docs/faults.tsv.
-static ROWS: [Explanation; 51] = [
+static ROWS: [Explanation; 54] = [
     Explanation {
         number: 1,
         meaning: "the text is longer than 67,108,864 bytes, or as a stimulus or clauses than 1,073,741,824",
@@ -192,6 +192,21 @@ static ROWS: [Explanation; 51] = [
         number: 53,
         meaning: "the ids of a section's units would pass 4,294,967,295",
         remedy: "number the lemmas anew, from the formula's end on",
+    },
+    Explanation {
+        number: 54,
+        meaning: "the latches and gates do not extend the circuit",
+        remedy: "number latches from M + 1 on and gates behind them; a gate reads lesser variables alone",
+    },
+    Explanation {
+        number: 55,
+        meaning: "a clause has a literal outside of the extended circuit",
+        remedy: "name variables of the circuit and of its extension alone",
+    },
+    Explanation {
+        number: 56,
+        meaning: "more rounds of justice than states",
+        remedy: "claim 2^L rounds at most",
     },
     Explanation {
         number: 60,
