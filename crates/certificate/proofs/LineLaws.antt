@@ -1,5 +1,5 @@
 -- Lines are read from the piece that comes next.
-use Rattle.std.proofs.Common.{◌≡◌, ℕ, suc, ◌+◌, ◌-◌, ◌^◌, ◌<◌, ◌≤◌, ◌%◌, Bool, true, leb, ◌&&◌, List, [], ◌∷◌, ◌++◌, length, take, drop, Option, Some, None, All, ℤ, pos, negsuc, refl, sym, ap, ◌∙◌, append_assoc, arith, unsigned_abs}
+use Rattle.std.proofs.Common.{◌≡◌, ℕ, suc, ◌+◌, ◌-◌, ◌^◌, ◌<◌, ◌≤◌, ◌%◌, Bool, true, leb, ◌&&◌, List, [], ◌∷◌, ◌++◌, length, take, drop, get_or, Option, Some, None, All, ℤ, pos, negsuc, refl, sym, ap, ◌∙◌, append_assoc, arith, unsigned_abs}
 use Rattle.std.specs.Prelude.{decimal, codes, flat_map}
 use Rattle.std.specs.Fmt.{signed_decimal}
 use Rattle.std.proofs.Math.Seq.{drop-append_seam}
@@ -174,6 +174,10 @@ not_empty : (body : List ℕ) → [] ≡ body ++ 10 ∷ [] → ⊥
 not_empty [] e = absurd (let n = ap length e in omega (arith, n))
 not_empty (c ∷ cs) e = absurd (let n = ap length e in omega (arith, n))
 
+not_nought : (body : List ℕ) → 0 ∷ [] ≡ body ++ 10 ∷ [] → ⊥
+not_nought [] e = absurd (let n = ap (λ (w : List ℕ). get_or w 0 0) e in omega (arith, n))
+not_nought (c ∷ cs) e = absurd (let n = ap length e in omega (arith, n, length-append cs (10 ∷ [])))
+
 none_of : {A : Type 0} (o : Option A) → ((x : A) → o ≡ Some x → ⊥) → o ≡ None
 none_of None f = refl
 none_of (Some x) f = absurd (f x refl)
@@ -182,6 +186,7 @@ pub of_piece : {A : Type 0} {p : List ℕ → Read A} {R : List ℕ → A → Ty
 of_piece {A} {p} {R} law lines = record {
   from_piece = piece_reads law lines;
   takes = none_of (ended (p [])) (λ x e. let (body, goes, is) = lines [] x (ended_takes law [] x e) in not_empty body is);
+  begins = none_of (ended (p (0 ∷ []))) (λ x e. let (body, goes, is) = lines (0 ∷ []) x (ended_takes law (0 ∷ []) x e) in not_nought body is);
 }
 
 pub version_of_piece : IsOfPiece first_line_at

@@ -16,6 +16,7 @@ use Rattle.scan.specs.declared.fault.Fault.{Fault}
 use Rattle.scan.specs.declared.fault.Fault.TheVariants.{Memory, Text}
 use Rattle.certificate.specs.declared.reader_error.ReaderError.{ReaderError}
 use Rattle.certificate.specs.declared.reader_error.ReaderError.TheVariants.{Refused, Device}
+use Rattle.certificate.specs.declared.cert_error.CertError.{CertError}
 use Rattle.certificate.specs.declared.cert_error.CertError.TheVariants as text
 use Rattle.certificate.specs.declared.refusal.Refusal.{Refusal}
 use Rattle.certificate.specs.declared.refusal.Refusal.TheVariants as kind
@@ -24,6 +25,7 @@ use Rattle.certificate.specs.Refusals.{error_of}
 use Rattle.certificate.specs.declared.kinds.SectionKind.{SectionKind}
 use Rattle.certificate.specs.declared.certificate.Certificate.{Certificate}
 use Rattle.certificate.specs.Reading.{greatest, first_line_at, property_at, clause_at, item_at, section_at, certificate_at}
+use Rattle.certificate.specs.Held.{Held, held_of}
 use Rattle.certificate.specs.Streams.{Finds, FindsWith, ForText, StillReads, end_at, letter_at, letter_of, parts_at}
 use Rattle.certificate.specs.Texts.{SpellsCertificate}
 use Rattle.certificate.proofs.CertificateLaws.{certificate_reads}
@@ -45,6 +47,41 @@ moves_from p law held later now ys zs n x rest lies within e is =
 pub stuck_from : {A : Type 0} (p : List ℕ → Read A) → IsOfPiece p → (held later ys zs : List ℕ) (n : ℕ) → Lies held ys later zs n → p (take n later) ≡ None → p (held ++ ys) ≡ None
 stuck_from p law held later ys zs n lies e =
     law.from_piece (held ++ ys) ∙ ap (λ (w : List ℕ × List ℕ). ended (p w.0) >>= λ x. Some (x, w.1)) (ap piece_at lies.0 ∙ lies.1) ∙ ap (λ o. o >>= λ x. Some (x, (piece_at (take n later)).1 ++ (drop n later ++ zs))) (none_alone law (take n later) e)
+
+-- no part begins with the byte that is left behind a refusal
+piece_nought : (ys : List ℕ) → piece_at (0 ∷ ys) ≡ (0 ∷ [], ys)
+unfolding piece_at
+piece_nought ys = refl
+
+nothing_of : {A : Type 0} (p : List ℕ → Read A) → IsOfPiece p → (ys : List ℕ) → p (0 ∷ ys) ≡ None
+nothing_of p law ys =
+    law.from_piece (0 ∷ ys) ∙ ap (λ (w : List ℕ × List ℕ). ended (p w.0) >>= λ x. Some (x, w.1)) (piece_nought ys) ∙ ap (λ o. o >>= λ x. Some (x, ys)) law.begins
+
+for_text_of : (e : CertError) (P : Type 0) → P → ForText (Refused e) P
+for_text_of (text.OutOfMemory refused) P p = tt
+for_text_of (text.Number place) P p = p
+for_text_of (text.Byte place) P p = p
+for_text_of (text.Truncated place) P p = p
+for_text_of (text.Version place) P p = p
+for_text_of (text.PropertyLine place) P p = p
+for_text_of (text.Section place) P p = p
+
+again_refused : {A : Type 0} (p : List ℕ → Read A) → IsOfPiece p → (e : CertError) (ys : List ℕ) → ForText (Refused e) (p (0 ∷ ys) ≡ None)
+again_refused p law e ys = for_text_of e (p (0 ∷ ys) ≡ None) (nothing_of p law ys)
+
+nothing_ends : (ys : List ℕ) → end_at (0 ∷ ys) ≡ None
+unfolding end_at
+nothing_ends ys = refl
+
+end_again : (e : CertError) (ys : List ℕ) → ForText (Refused e) (end_at (0 ∷ ys) ≡ None)
+end_again e ys = for_text_of e (end_at (0 ∷ ys) ≡ None) (nothing_ends ys)
+
+-- so says a reader that remembers a refusal
+pub refused_again : {A : Type 0} (p : List ℕ → Read A) → IsOfPiece p → (taken : List ℕ) (o : Option CertError) (e : CertError) (h : Held) (ys : List ℕ) → held_of taken o ≡ h → o ≡ Some e → ForText (Refused e) (p (h.held ++ ys) ≡ None)
+refused_again p law taken o e h ys is some = subst (λ (w : Held). ForText (Refused e) (p (w.held ++ ys) ≡ None)) (ap (held_of taken) (sym some) ∙ is) (again_refused p law e ys)
+
+pub end_refused_again : (taken : List ℕ) (o : Option CertError) (e : CertError) (h : Held) (ys : List ℕ) → held_of taken o ≡ h → o ≡ Some e → ForText (Refused e) (end_at (h.held ++ ys) ≡ None)
+end_refused_again taken o e h ys is some = subst (λ (w : Held). ForText (Refused e) (end_at (w.held ++ ys) ≡ None)) (ap (held_of taken) (sym some) ∙ is) (end_again e ys)
 
 -- a text refusal is reported only of a text from which nothing is read
 pub for_text : (total : ℕ) (fault : Fault Refusal) (P : Type 0) {A : Type 0} (o : Option A) → (o ≡ None → P) → Fails fault o → ForText (Refused (error_of total fault)) P

@@ -1,3 +1,4 @@
+pub mod Held
 pub mod Numbers
 pub mod Texts
 pub mod Pieces

@@ -11,8 +11,10 @@
 //!   memory can keep it from one. A text that spells none is refused at its first fault, by the
 //!   byte.
 //! - `Reader` reads the same texts line by line, as a source gives their bytes, however it cuts them.
-//!   `Reader::line` reads lines of other kinds, for texts that have some of these lines.
-//! - `write` puts the text of a certificate that has one, and nothing of any other.
+//!   `Reader::line` reads lines of other kinds, for texts that have some of these lines. A refusal is
+//!   remembered, and answered again.
+//! - `write` puts the text of a certificate that has one, and nothing of any other. `put_clause` and
+//!   the like put some of its lines, for texts that have them.
 #![tactic(auto)]
 
 mod cert_error;
@@ -39,4 +41,4 @@ pub use reader_error::ReaderError;
 pub use reading::read;
 pub use refusal::{IN_LINE, IN_PROPERTY, IN_VERSION, Refusal};
 pub use streaming::{read_clauses, skip_lines, skip_section, skip_sections};
-pub use writing::write;
+pub use writing::{put_clause, put_number, put_property, put_section, write};

@@ -24,7 +24,7 @@ pub fn read_clauses<S: Source>(
     from: &mut S,
 ) -> Result<Lists<Lit>, ReaderError>
     requires source { S.failed from.old < 2 ^ 64 - 1 }
-    ensures says { Reads (S.leaves from.old) (S.leaves from.new) (λ ys zs. Finds (many_at clause_at count (reader.old ++ ys)) result reader.new zs) }
+    ensures says { Reads (S.leaves from.old) (S.leaves from.new) (λ ys zs. Finds (many_at clause_at count (reader.old.held ++ ys)) result reader.new.held zs) }
     ensures many { IfOk result (λ clauses. length clauses ≡ count) }
     ensures device { IsErrOf result Device ↔ (S.failed from.new ≡ S.failed from.old + 1) }
     ensures others { (IsErrOf result Device → ⊥) → S.failed from.new ≡ S.failed from.old }
@@ -45,7 +45,7 @@ pub fn skip_lines<S: Source>(
     from: &mut S,
 ) -> Result<(), ReaderError>
     requires source { S.failed from.old < 2 ^ 64 - 1 }
-    ensures says { Reads (S.leaves from.old) (S.leaves from.new) (λ ys zs. FindsWith (λ lines _. Unit {0}) (items_at item_at (reader.old ++ ys)) result reader.new zs) }
+    ensures says { Reads (S.leaves from.old) (S.leaves from.new) (λ ys zs. FindsWith (λ lines _. Unit {0}) (items_at item_at (reader.old.held ++ ys)) result reader.new.held zs) }
     ensures device { IsErrOf result Device ↔ (S.failed from.new ≡ S.failed from.old + 1) }
     ensures others { (IsErrOf result Device → ⊥) → S.failed from.new ≡ S.failed from.old }
 {
@@ -66,7 +66,7 @@ pub fn skip_section<S: Source>(
     from: &mut S,
 ) -> Result<(), ReaderError>
     requires source { S.failed from.old < 2 ^ 64 - 1 }
-    ensures says { Reads (S.leaves from.old) (S.leaves from.new) (λ ys zs. FindsWith (λ lines _. Unit {0}) (section_at (letter_of kind) (reader.old ++ ys)) result reader.new zs) }
+    ensures says { Reads (S.leaves from.old) (S.leaves from.new) (λ ys zs. FindsWith (λ lines _. Unit {0}) (section_at (letter_of kind) (reader.old.held ++ ys)) result reader.new.held zs) }
     ensures device { IsErrOf result Device ↔ (S.failed from.new ≡ S.failed from.old + 1) }
     ensures others { (IsErrOf result Device → ⊥) → S.failed from.new ≡ S.failed from.old }
 {
@@ -83,7 +83,7 @@ pub fn skip_sections<S: Source>(
     from: &mut S,
 ) -> Result<(), ReaderError>
     requires source { S.failed from.old < 2 ^ 64 - 1 }
-    ensures says { Reads (S.leaves from.old) (S.leaves from.new) (λ ys zs. FindsWith (λ sections _. Unit {0}) (many_at (section_at (letter_of kind)) count (reader.old ++ ys)) result reader.new zs) }
+    ensures says { Reads (S.leaves from.old) (S.leaves from.new) (λ ys zs. FindsWith (λ sections _. Unit {0}) (many_at (section_at (letter_of kind)) count (reader.old.held ++ ys)) result reader.new.held zs) }
     ensures device { IsErrOf result Device ↔ (S.failed from.new ≡ S.failed from.old + 1) }
     ensures others { (IsErrOf result Device → ⊥) → S.failed from.new ≡ S.failed from.old }
 {

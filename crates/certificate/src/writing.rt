@@ -18,7 +18,7 @@ use itoa::Buffer;
 use lrat::{LratWriteError, Proof};
 
 /// Puts a number and the bytes behind it.
-fn put_number<W: Sink>(out: &mut W, number: u64, behind: &[u8]) -> Result<(), Failed>
+pub fn put_number<W: Sink>(out: &mut W, number: u64, behind: &[u8]) -> Result<(), Failed>
     requires { W.failed out.old < 2 ^ 64 - 1 }
     ensures puts { Puts result (W.contents out.old) (W.contents out.new) (decimal number ++ behind.now) }
     ensures counts { CountsFailure (W.failed out.old) (W.failed out.new) result }
@@ -40,7 +40,7 @@ fn letter(property: Property) -> u8
 }
 
 /// Puts the name of a property, and a line end.
-fn put_property<W: Sink>(out: &mut W, property: Property) -> Result<(), Failed>
+pub fn put_property<W: Sink>(out: &mut W, property: Property) -> Result<(), Failed>
     requires { W.failed out.old < 2 ^ 64 - 1 }
     ensures puts { Puts result (W.contents out.old) (W.contents out.new) (property_text property ++ codes "\n") }
     ensures counts { CountsFailure (W.failed out.old) (W.failed out.new) result }
@@ -72,7 +72,7 @@ fn put_literals<W: Sink>(out: &mut W, literals: &[Lit]) -> Result<(), Failed>
 }
 
 /// Puts the line of a clause.
-fn put_clause<W: Sink>(out: &mut W, clause: &[Lit]) -> Result<(), Failed>
+pub fn put_clause<W: Sink>(out: &mut W, clause: &[Lit]) -> Result<(), Failed>
     requires { W.failed out.old < 2 ^ 64 - 1 }
     ensures puts { Puts result (W.contents out.old) (W.contents out.new) (clause_line clause.now) }
     ensures counts { CountsFailure (W.failed out.old) (W.failed out.new) result }
@@ -107,7 +107,7 @@ fn put_proof<W: Sink>(out: &mut W, proof: &Proof) -> Result<(), Failed>
 }
 
 /// Puts the section of a proof with this letter.
-fn put_section<W: Sink>(out: &mut W, letter: u8, proof: &Proof) -> Result<(), Failed>
+pub fn put_section<W: Sink>(out: &mut W, letter: u8, proof: &Proof) -> Result<(), Failed>
     requires { W.failed out.old < 2 ^ 64 - 1 }
     ensures puts { Puts result (W.contents out.old) (W.contents out.new) (section_text letter proof.now) }
     ensures counts { CountsFailure (W.failed out.old) (W.failed out.new) result }

@@ -23,7 +23,7 @@ pub fn read_latches<S: Source>(
     from: &mut S,
 ) -> Result<Seq<Latch>, ReaderError>
     requires source { S.failed from.old < 2 ^ 64 - 1 }
-    ensures says { Reads (S.leaves from.old) (S.leaves from.new) (λ ys zs. Finds (many_at latch_at count (reader.old ++ ys)) result reader.new zs) }
+    ensures says { Reads (S.leaves from.old) (S.leaves from.new) (λ ys zs. Finds (many_at latch_at count (reader.old.held ++ ys)) result reader.new.held zs) }
     ensures many { IfOk result (λ v. length v ≡ count) }
     ensures device { IsErrOf result Device ↔ (S.failed from.new ≡ S.failed from.old + 1) }
     ensures others { (IsErrOf result Device → ⊥) → S.failed from.new ≡ S.failed from.old }
@@ -44,7 +44,7 @@ pub fn read_gates<S: Source>(
     from: &mut S,
 ) -> Result<Seq<Gate>, ReaderError>
     requires source { S.failed from.old < 2 ^ 64 - 1 }
-    ensures says { Reads (S.leaves from.old) (S.leaves from.new) (λ ys zs. Finds (many_at gate_at count (reader.old ++ ys)) result reader.new zs) }
+    ensures says { Reads (S.leaves from.old) (S.leaves from.new) (λ ys zs. Finds (many_at gate_at count (reader.old.held ++ ys)) result reader.new.held zs) }
     ensures many { IfOk result (λ v. length v ≡ count) }
     ensures device { IsErrOf result Device ↔ (S.failed from.new ≡ S.failed from.old + 1) }
     ensures others { (IsErrOf result Device → ⊥) → S.failed from.new ≡ S.failed from.old }
@@ -65,7 +65,7 @@ pub fn skip_hints<S: Source>(
     from: &mut S,
 ) -> Result<(), ReaderError>
     requires source { S.failed from.old < 2 ^ 64 - 1 }
-    ensures says { Reads (S.leaves from.old) (S.leaves from.new) (λ ys zs. FindsWith (λ hints _. Unit {0}) (many_at hints_at count (reader.old ++ ys)) result reader.new zs) }
+    ensures says { Reads (S.leaves from.old) (S.leaves from.new) (λ ys zs. FindsWith (λ hints _. Unit {0}) (many_at hints_at count (reader.old.held ++ ys)) result reader.new.held zs) }
     ensures device { IsErrOf result Device ↔ (S.failed from.new ≡ S.failed from.old + 1) }
     ensures others { (IsErrOf result Device → ⊥) → S.failed from.new ≡ S.failed from.old }
 {
@@ -84,7 +84,7 @@ pub fn skip_shown<S: Source>(
     from: &mut S,
 ) -> Result<(), ReaderError>
     requires source { S.failed from.old < 2 ^ 64 - 1 }
-    ensures says { Reads (S.leaves from.old) (S.leaves from.new) (λ ys zs. FindsWith (λ shown _. Unit {0}) (shown_at (letter_of kind) count (reader.old ++ ys)) result reader.new zs) }
+    ensures says { Reads (S.leaves from.old) (S.leaves from.new) (λ ys zs. FindsWith (λ shown _. Unit {0}) (shown_at (letter_of kind) count (reader.old.held ++ ys)) result reader.new.held zs) }
     ensures device { IsErrOf result Device ↔ (S.failed from.new ≡ S.failed from.old + 1) }
     ensures others { (IsErrOf result Device → ⊥) → S.failed from.new ≡ S.failed from.old }
 {
@@ -100,7 +100,7 @@ pub fn skip_later<S: Source>(
     from: &mut S,
 ) -> Result<(), ReaderError>
     requires source { S.failed from.old < 2 ^ 64 - 1 }
-    ensures says { Reads (S.leaves from.old) (S.leaves from.new) (λ ys zs. FindsWith (λ later _. Unit {0}) (later_at count (reader.old ++ ys)) result reader.new zs) }
+    ensures says { Reads (S.leaves from.old) (S.leaves from.new) (λ ys zs. FindsWith (λ later _. Unit {0}) (later_at count (reader.old.held ++ ys)) result reader.new.held zs) }
     ensures device { IsErrOf result Device ↔ (S.failed from.new ≡ S.failed from.old + 1) }
     ensures others { (IsErrOf result Device → ⊥) → S.failed from.new ≡ S.failed from.old }
 {
@@ -116,7 +116,7 @@ pub fn skip_proofs<S: Source>(
     from: &mut S,
 ) -> Result<(), ReaderError>
     requires source { S.failed from.old < 2 ^ 64 - 1 }
-    ensures says { Reads (S.leaves from.old) (S.leaves from.new) (λ ys zs. FindsWith (λ proofs _. Unit {0}) (proofs_at count (reader.old ++ ys)) result reader.new zs) }
+    ensures says { Reads (S.leaves from.old) (S.leaves from.new) (λ ys zs. FindsWith (λ proofs _. Unit {0}) (proofs_at count (reader.old.held ++ ys)) result reader.new.held zs) }
     ensures device { IsErrOf result Device ↔ (S.failed from.new ≡ S.failed from.old + 1) }
     ensures others { (IsErrOf result Device → ⊥) → S.failed from.new ≡ S.failed from.old }
 {
@@ -131,7 +131,7 @@ pub fn skip_clauses<S: Source>(
     from: &mut S,
 ) -> Result<(), ReaderError>
     requires source { S.failed from.old < 2 ^ 64 - 1 }
-    ensures says { (ls : List ALatch) (gs : List AGate) → Reads (S.leaves from.old) (S.leaves from.new) (λ ys zs. FindsWith (λ evidence _. Unit {0}) (clauses_at ls gs (reader.old ++ ys)) result reader.new zs) }
+    ensures says { (ls : List ALatch) (gs : List AGate) → Reads (S.leaves from.old) (S.leaves from.new) (λ ys zs. FindsWith (λ evidence _. Unit {0}) (clauses_at ls gs (reader.old.held ++ ys)) result reader.new.held zs) }
     ensures device { IsErrOf result Device ↔ (S.failed from.new ≡ S.failed from.old + 1) }
     ensures others { (IsErrOf result Device → ⊥) → S.failed from.new ≡ S.failed from.old }
 {
@@ -147,7 +147,7 @@ pub fn skip_evidence<S: Source>(
     from: &mut S,
 ) -> Result<(), ReaderError>
     requires source { S.failed from.old < 2 ^ 64 - 1 }
-    ensures says { Reads (S.leaves from.old) (S.leaves from.new) (λ ys zs. FindsWith (λ evidence _. Unit {0}) (evidence_at (reader.old ++ ys)) result reader.new zs) }
+    ensures says { Reads (S.leaves from.old) (S.leaves from.new) (λ ys zs. FindsWith (λ evidence _. Unit {0}) (evidence_at (reader.old.held ++ ys)) result reader.new.held zs) }
     ensures device { IsErrOf result Device ↔ (S.failed from.new ≡ S.failed from.old + 1) }
     ensures others { (IsErrOf result Device → ⊥) → S.failed from.new ≡ S.failed from.old }
 {

@@ -51,7 +51,7 @@ pub fn check_initial<S: Source>(
     requires fresh { refuter.old.refusal ≡ None }
     requires base { refuter.old.base ≡ base_of (start_formula check.circuit.now) }
     requires invariant { IsInvariant check.circuit.now check.invariant.now }
-    ensures says { Reads (S.leaves from.old) (S.leaves from.new) (λ ys zs. FindsWith (AreOfCases (map (init_case check.entry.circuit.now) check.entry.invariant.now)) (many_at (section_at 105) (length check.entry.invariant.now) (reader.old ++ ys)) result reader.new zs) }
+    ensures says { Reads (S.leaves from.old) (S.leaves from.new) (λ ys zs. FindsWith (AreOfCases (map (init_case check.entry.circuit.now) check.entry.invariant.now)) (many_at (section_at 105) (length check.entry.invariant.now) (reader.old.held ++ ys)) result reader.new.held zs) }
     ensures device { IsErrOf result Device ↔ (S.failed from.new ≡ S.failed from.old + 1) }
     ensures others { (IsErrOf result Device → ⊥) → S.failed from.new ≡ S.failed from.old }
 {
@@ -95,7 +95,7 @@ pub fn check_steps<S: Source>(
     requires table { IsTableOf check.circuit.now.latches check.table.now }
     ensures base { refuter.new.base ≡ refuter.old.base }
     ensures fresh { IfOk result (λ found. IfNone found (refuter.new.refusal ≡ None)) }
-    ensures says { Reads (S.leaves from.old) (S.leaves from.new) (λ ys zs. FindsWith (AreOfCases (map (step_case check.entry.circuit.now refuter.old.base) check.entry.invariant.now)) (many_at (section_at 115) (length check.entry.invariant.now) (reader.old ++ ys)) result reader.new zs) }
+    ensures says { Reads (S.leaves from.old) (S.leaves from.new) (λ ys zs. FindsWith (AreOfCases (map (step_case check.entry.circuit.now refuter.old.base) check.entry.invariant.now)) (many_at (section_at 115) (length check.entry.invariant.now) (reader.old.held ++ ys)) result reader.new.held zs) }
     ensures device { IsErrOf result Device ↔ (S.failed from.new ≡ S.failed from.old + 1) }
     ensures others { (IsErrOf result Device → ⊥) → S.failed from.new ≡ S.failed from.old }
 {
@@ -141,7 +141,7 @@ pub fn check_cases<S: Source>(
     requires start_base { start.old.base ≡ base_of (start_formula check.circuit.now) }
     requires shared { shared.old.refusal ≡ None }
     requires vars { shared.old.base.vars ≡ check.circuit.now.max_var + 1 }
-    ensures says { Reads (S.leaves from.old) (S.leaves from.new) (λ ys zs. FindsWith (AreOfCases (cases check.entry.circuit.now shared.old.base check.entry.invariant.now check.entry.bad)) (sections_at (length check.entry.invariant.now) (reader.old ++ ys)) result reader.new zs) }
+    ensures says { Reads (S.leaves from.old) (S.leaves from.new) (λ ys zs. FindsWith (AreOfCases (cases check.entry.circuit.now shared.old.base check.entry.invariant.now check.entry.bad)) (sections_at (length check.entry.invariant.now) (reader.old.held ++ ys)) result reader.new.held zs) }
     ensures device { IsErrOf result Device ↔ (S.failed from.new ≡ S.failed from.old + 1) }
     ensures others { (IsErrOf result Device → ⊥) → S.failed from.new ≡ S.failed from.old }
 {

@@ -46,7 +46,7 @@ fn skip_cases<S: Source>(
     from: &mut S,
 ) -> Result<(), ReaderError>
     requires source { S.failed from.old < 2 ^ 64 - 1 }
-    ensures says { Reads (S.leaves from.old) (S.leaves from.new) (λ ys zs. FindsWith (λ sections _. Unit {0}) (sections_at count (reader.old ++ ys)) result reader.new zs) }
+    ensures says { Reads (S.leaves from.old) (S.leaves from.new) (λ ys zs. FindsWith (λ sections _. Unit {0}) (sections_at count (reader.old.held ++ ys)) result reader.new.held zs) }
     ensures device { IsErrOf result Device ↔ (S.failed from.new ≡ S.failed from.old + 1) }
     ensures others { (IsErrOf result Device → ⊥) → S.failed from.new ≡ S.failed from.old }
 {
@@ -63,7 +63,7 @@ fn skip_lemmas<S: Source>(
     from: &mut S,
 ) -> Result<(), ReaderError>
     requires source { S.failed from.old < 2 ^ 64 - 1 }
-    ensures says { Reads (S.leaves from.old) (S.leaves from.new) (λ ys zs. FindsWith (λ lemmas _. Unit {0}) (lemmas_at version (reader.old ++ ys)) result reader.new zs) }
+    ensures says { Reads (S.leaves from.old) (S.leaves from.new) (λ ys zs. FindsWith (λ lemmas _. Unit {0}) (lemmas_at version (reader.old.held ++ ys)) result reader.new.held zs) }
     ensures device { IsErrOf result Device ↔ (S.failed from.new ≡ S.failed from.old + 1) }
     ensures others { (IsErrOf result Device → ⊥) → S.failed from.new ≡ S.failed from.old }
 {
@@ -84,7 +84,7 @@ fn skip_parts<S: Source>(
     from: &mut S,
 ) -> Result<Option<u8>, ReaderError>
     requires source { S.failed from.old < 2 ^ 64 - 1 }
-    ensures says { Reads (S.leaves from.old) (S.leaves from.new) (λ ys zs. (p : AProperty) (inv : List (List ALit)) → FindsWith (λ c found. (found ≡ Some (number_of error)) × (error ≢ OutOfMemory witness)) (parts_at version p count inv (reader.old ++ ys)) result reader.new zs) }
+    ensures says { Reads (S.leaves from.old) (S.leaves from.new) (λ ys zs. (p : AProperty) (inv : List (List ALit)) → FindsWith (λ c found. (found ≡ Some (number_of error)) × (error ≢ OutOfMemory witness)) (parts_at version p count inv (reader.old.held ++ ys)) result reader.new.held zs) }
     ensures device { IsErrOf result Device ↔ (S.failed from.new ≡ S.failed from.old + 1) }
     ensures others { (IsErrOf result Device → ⊥) → S.failed from.new ≡ S.failed from.old }
 {
@@ -111,7 +111,7 @@ fn share_lemmas<S: Source>(
     requires fresh { refuter.old.refusal ≡ None }
     ensures vars { refuter.new.base.vars ≡ refuter.old.base.vars }
     ensures fresh { IfOk result (λ found. IfNone found (refuter.new.refusal ≡ None)) }
-    ensures says { Reads (S.leaves from.old) (S.leaves from.new) (λ ys zs. (m : AParts) (inv : List (List ALit)) → refuter.old ≡ at_formula (shared_formula m inv) → FindsWith (AreTaken m inv refuter.new.base) (lemmas_at version (reader.old ++ ys)) result reader.new zs) }
+    ensures says { Reads (S.leaves from.old) (S.leaves from.new) (λ ys zs. (m : AParts) (inv : List (List ALit)) → refuter.old ≡ at_formula (shared_formula m inv) → FindsWith (AreTaken m inv refuter.new.base) (lemmas_at version (reader.old.held ++ ys)) result reader.new.held zs) }
     ensures device { IsErrOf result Device ↔ (S.failed from.new ≡ S.failed from.old + 1) }
     ensures others { (IsErrOf result Device → ⊥) → S.failed from.new ≡ S.failed from.old }
 {
@@ -150,7 +150,7 @@ fn check_lemmas_and_cases<S: Source>(
     requires bad { Contains (used check.circuit.now) check.bad }
     requires start { start.old ≡ at_formula (start_formula check.circuit.now) }
     requires shared { shared.old ≡ at_formula (shared_formula check.circuit.now check.invariant.now) }
-    ensures says { Reads (S.leaves from.old) (S.leaves from.new) (λ ys zs. (p : AProperty) → FindsWith (HasSections check.entry.circuit.now check.entry.bad) (parts_at check.entry.version p (length check.entry.invariant.now) check.entry.invariant.now (reader.old ++ ys)) result reader.new zs) }
+    ensures says { Reads (S.leaves from.old) (S.leaves from.new) (λ ys zs. (p : AProperty) → FindsWith (HasSections check.entry.circuit.now check.entry.bad) (parts_at check.entry.version p (length check.entry.invariant.now) check.entry.invariant.now (reader.old.held ++ ys)) result reader.new.held zs) }
     ensures device { IsErrOf result Device ↔ (S.failed from.new ≡ S.failed from.old + 1) }
     ensures others { (IsErrOf result Device → ⊥) → S.failed from.new ≡ S.failed from.old }
 {
@@ -174,7 +174,7 @@ fn check_parts<S: Source>(
     requires invariant { IsInvariant check.circuit.now check.invariant.now }
     requires table { IsTableOf check.circuit.now.latches check.table.now }
     requires bad { Contains (used check.circuit.now) check.bad }
-    ensures says { Reads (S.leaves from.old) (S.leaves from.new) (λ ys zs. (p : AProperty) → FindsWith (HasSections check.entry.circuit.now check.entry.bad) (parts_at check.entry.version p (length check.entry.invariant.now) check.entry.invariant.now (reader.old ++ ys)) result reader.new zs) }
+    ensures says { Reads (S.leaves from.old) (S.leaves from.new) (λ ys zs. (p : AProperty) → FindsWith (HasSections check.entry.circuit.now check.entry.bad) (parts_at check.entry.version p (length check.entry.invariant.now) check.entry.invariant.now (reader.old.held ++ ys)) result reader.new.held zs) }
     ensures device { IsErrOf result Device ↔ (S.failed from.new ≡ S.failed from.old + 1) }
     ensures others { (IsErrOf result Device → ⊥) → S.failed from.new ≡ S.failed from.old }
 {
@@ -209,7 +209,7 @@ fn check_for<S: Source>(
     requires source { S.failed from.old < 2 ^ 64 - 1 }
     requires bad { Contains (used circuit.now) bad }
     requires few { length invariant.now ≤ 4194303 }
-    ensures says { Reads (S.leaves from.old) (S.leaves from.new) (λ ys zs. (p : AProperty) → FindsWith (IsFoundFor circuit.now bad) (parts_at version p (length invariant.now) invariant.now (reader.old ++ ys)) result reader.new zs) }
+    ensures says { Reads (S.leaves from.old) (S.leaves from.new) (λ ys zs. (p : AProperty) → FindsWith (IsFoundFor circuit.now bad) (parts_at version p (length invariant.now) invariant.now (reader.old.held ++ ys)) result reader.new.held zs) }
     ensures device { IsErrOf result Device ↔ (S.failed from.new ≡ S.failed from.old + 1) }
     ensures others { (IsErrOf result Device → ⊥) → S.failed from.new ≡ S.failed from.old }
 {
@@ -246,7 +246,7 @@ fn check_justice<S: Source>(
 ) -> Result<Option<u8>, ReaderError>
     requires source { S.failed from.old < 2 ^ 64 - 1 }
     requires few { length invariant.now ≤ 4194303 }
-    ensures says { Reads (S.leaves from.old) (S.leaves from.new) (λ ys zs. FindsWith (IsFound circuit.now) (parts_at version (Justice n) (length invariant.now) invariant.now (reader.old ++ ys)) result reader.new zs) }
+    ensures says { Reads (S.leaves from.old) (S.leaves from.new) (λ ys zs. FindsWith (IsFound circuit.now) (parts_at version (Justice n) (length invariant.now) invariant.now (reader.old.held ++ ys)) result reader.new.held zs) }
     ensures device { IsErrOf result Device ↔ (S.failed from.new ≡ S.failed from.old + 1) }
     ensures others { (IsErrOf result Device → ⊥) → S.failed from.new ≡ S.failed from.old }
 {
@@ -285,7 +285,7 @@ fn check_property<S: Source>(
 ) -> Result<Option<u8>, ReaderError>
     requires source { S.failed from.old < 2 ^ 64 - 1 }
     requires few { length invariant.now ≤ 4194303 }
-    ensures says { Reads (S.leaves from.old) (S.leaves from.new) (λ ys zs. FindsWith (IsFound circuit.now) (parts_at version property (length invariant.now) invariant.now (reader.old ++ ys)) result reader.new zs) }
+    ensures says { Reads (S.leaves from.old) (S.leaves from.new) (λ ys zs. FindsWith (IsFound circuit.now) (parts_at version property (length invariant.now) invariant.now (reader.old.held ++ ys)) result reader.new.held zs) }
     ensures device { IsErrOf result Device ↔ (S.failed from.new ≡ S.failed from.old + 1) }
     ensures others { (IsErrOf result Device → ⊥) → S.failed from.new ≡ S.failed from.old }
 {
@@ -337,7 +337,7 @@ fn check_text<S: Source>(
     from: &mut S,
 ) -> Result<Outcome, ReaderError>
     requires source { S.failed from.old < 2 ^ 64 - 1 }
-    ensures says { Reads (S.leaves from.old) (S.leaves from.new) (λ ys zs. FindsWith (λ c found. (found.property ≡ c.property) × IsFound circuit.now c found.refusal) (certificate_at (reader.old ++ ys)) result reader.new zs) }
+    ensures says { Reads (S.leaves from.old) (S.leaves from.new) (λ ys zs. FindsWith (λ c found. (found.property ≡ c.property) × IsFound circuit.now c found.refusal) (certificate_at (reader.old.held ++ ys)) result reader.new.held zs) }
     ensures device { IsErrOf result Device ↔ (S.failed from.new ≡ S.failed from.old + 1) }
     ensures others { (IsErrOf result Device → ⊥) → S.failed from.new ≡ S.failed from.old }
 {

@@ -25,7 +25,7 @@ fn skip_refused<S: Source>(
     from: &mut S,
 ) -> Result<Option<Fault>, ReaderError>
     requires source { S.failed from.old < 2 ^ 64 - 1 }
-    ensures says { Reads (S.leaves from.old) (S.leaves from.new) (λ ys zs. FindsWith (λ lines found. (found ≡ Some fault) × (fault ≢ OutOfMemory witness)) (items_at item_at (reader.old ++ ys)) result reader.new zs) }
+    ensures says { Reads (S.leaves from.old) (S.leaves from.new) (λ ys zs. FindsWith (λ lines found. (found ≡ Some fault) × (fault ≢ OutOfMemory witness)) (items_at item_at (reader.old.held ++ ys)) result reader.new.held zs) }
     ensures found { IfOk result (λ found. (found ≡ Some fault) × (fault ≢ OutOfMemory witness)) }
     ensures device { IsErrOf result Device ↔ (S.failed from.new ≡ S.failed from.old + 1) }
     ensures others { (IsErrOf result Device → ⊥) → S.failed from.new ≡ S.failed from.old }
@@ -52,7 +52,7 @@ fn feed_lines<S: Source>(
     requires fresh { refuter.old.refusal ≡ None }
     ensures base { refuter.new.base ≡ refuter.old.base }
     ensures fresh { IfOk result (λ found. IfNone found (refuter.new.refusal ≡ None)) }
-    ensures says { Reads (S.leaves from.old) (S.leaves from.new) (λ ys zs. FindsWith (IsFed refuter.old.base.vars refuter.old.stage) (items_at item_at (reader.old ++ ys)) result reader.new zs) }
+    ensures says { Reads (S.leaves from.old) (S.leaves from.new) (λ ys zs. FindsWith (IsFed refuter.old.base.vars refuter.old.stage) (items_at item_at (reader.old.held ++ ys)) result reader.new.held zs) }
     ensures device { IsErrOf result Device ↔ (S.failed from.new ≡ S.failed from.old + 1) }
     ensures others { (IsErrOf result Device → ⊥) → S.failed from.new ≡ S.failed from.old }
 {
@@ -86,7 +86,7 @@ pub fn check_section<S: Source>(
     requires in_range { All (IsLiteral refuter.old.base.vars) units.now }
     ensures base { refuter.new.base ≡ refuter.old.base }
     ensures fresh { IfOk result (λ found. IfNone found (refuter.new.refusal ≡ None)) }
-    ensures says { Reads (S.leaves from.old) (S.leaves from.new) (λ ys zs. FindsWith (IsOfCase (record { base = refuter.old.base; units = units.now })) (section_at (letter_of kind) (reader.old ++ ys)) result reader.new zs) }
+    ensures says { Reads (S.leaves from.old) (S.leaves from.new) (λ ys zs. FindsWith (IsOfCase (record { base = refuter.old.base; units = units.now })) (section_at (letter_of kind) (reader.old.held ++ ys)) result reader.new.held zs) }
     ensures device { IsErrOf result Device ↔ (S.failed from.new ≡ S.failed from.old + 1) }
     ensures others { (IsErrOf result Device → ⊥) → S.failed from.new ≡ S.failed from.old }
 {
@@ -109,7 +109,7 @@ fn share_lines<S: Source>(
     requires fresh { refuter.old.refusal ≡ None }
     ensures vars { refuter.new.base.vars ≡ refuter.old.base.vars }
     ensures fresh { IfOk result (λ found. IfNone found (refuter.new.refusal ≡ None)) }
-    ensures says { Reads (S.leaves from.old) (S.leaves from.new) (λ ys zs. FindsWith (AreLemmas refuter.old.base.vars refuter.old.stage refuter.new.base) (items_at item_at (reader.old ++ ys)) result reader.new zs) }
+    ensures says { Reads (S.leaves from.old) (S.leaves from.new) (λ ys zs. FindsWith (AreLemmas refuter.old.base.vars refuter.old.stage refuter.new.base) (items_at item_at (reader.old.held ++ ys)) result reader.new.held zs) }
     ensures device { IsErrOf result Device ↔ (S.failed from.new ≡ S.failed from.old + 1) }
     ensures others { (IsErrOf result Device → ⊥) → S.failed from.new ≡ S.failed from.old }
 {
@@ -140,7 +140,7 @@ pub fn take_lemmas<S: Source>(
     requires fresh { refuter.old.refusal ≡ None }
     ensures vars { refuter.new.base.vars ≡ refuter.old.base.vars }
     ensures fresh { IfOk result (λ found. IfNone found (refuter.new.refusal ≡ None)) }
-    ensures says { Reads (S.leaves from.old) (S.leaves from.new) (λ ys zs. FindsWith (AreLemmas refuter.old.base.vars refuter.old.stage refuter.new.base) (section_at 108 (reader.old ++ ys)) result reader.new zs) }
+    ensures says { Reads (S.leaves from.old) (S.leaves from.new) (λ ys zs. FindsWith (AreLemmas refuter.old.base.vars refuter.old.stage refuter.new.base) (section_at 108 (reader.old.held ++ ys)) result reader.new.held zs) }
     ensures device { IsErrOf result Device ↔ (S.failed from.new ≡ S.failed from.old + 1) }
     ensures others { (IsErrOf result Device → ⊥) → S.failed from.new ≡ S.failed from.old }
 {

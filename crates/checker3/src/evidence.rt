@@ -32,7 +32,7 @@ fn check_invariant<S: Source>(
     requires source { S.failed from.old < 2 ^ 64 - 1 }
     requires few { length claims.invariant.now ≤ 4194303 }
     requires bad { IsInRange claims.circuit.now.max_var claims.bad }
-    ensures says { (ls : List ALatch) (gs : List AGate) → Reads (S.leaves from.old) (S.leaves from.new) (λ ys zs. FindsWith (λ p found. IsProvedOver claims.entry.circuit.now claims.entry.bad (evidence_of ls gs claims.entry.invariant.now p) found) (proofs_at (length claims.entry.invariant.now) (reader.old ++ ys)) result reader.new zs) }
+    ensures says { (ls : List ALatch) (gs : List AGate) → Reads (S.leaves from.old) (S.leaves from.new) (λ ys zs. FindsWith (λ p found. IsProvedOver claims.entry.circuit.now claims.entry.bad (evidence_of ls gs claims.entry.invariant.now p) found) (proofs_at (length claims.entry.invariant.now) (reader.old.held ++ ys)) result reader.new.held zs) }
     ensures device { IsErrOf result Device ↔ (S.failed from.new ≡ S.failed from.old + 1) }
     ensures others { (IsErrOf result Device → ⊥) → S.failed from.new ≡ S.failed from.old }
 {
@@ -58,7 +58,7 @@ fn check_clauses<S: Source>(
 ) -> Result<Option<Refusal>, ReaderError>
     requires source { S.failed from.old < 2 ^ 64 - 1 }
     requires bad { IsInRange circuit.now.max_var bad }
-    ensures says { (ls : List ALatch) (gs : List AGate) → Reads (S.leaves from.old) (S.leaves from.new) (λ ys zs. FindsWith (IsProvedOver circuit.now bad) (clauses_at ls gs (reader.old ++ ys)) result reader.new zs) }
+    ensures says { (ls : List ALatch) (gs : List AGate) → Reads (S.leaves from.old) (S.leaves from.new) (λ ys zs. FindsWith (IsProvedOver circuit.now bad) (clauses_at ls gs (reader.old.held ++ ys)) result reader.new.held zs) }
     ensures device { IsErrOf result Device ↔ (S.failed from.new ≡ S.failed from.old + 1) }
     ensures others { (IsErrOf result Device → ⊥) → S.failed from.new ≡ S.failed from.old }
 {
@@ -81,7 +81,7 @@ fn refuse_growth<S: Source>(
     from: &mut S,
 ) -> Result<Option<Refusal>, ReaderError>
     requires source { S.failed from.old < 2 ^ 64 - 1 }
-    ensures says { (m : AParts) (a : ALit) (ls : List ALatch) (gs : List AGate) → IsNoGrowth m ls gs error → Reads (S.leaves from.old) (S.leaves from.new) (λ ys zs. FindsWith (IsJudgedFor m a) (clauses_at ls gs (reader.old ++ ys)) result reader.new zs) }
+    ensures says { (m : AParts) (a : ALit) (ls : List ALatch) (gs : List AGate) → IsNoGrowth m ls gs error → Reads (S.leaves from.old) (S.leaves from.new) (λ ys zs. FindsWith (IsJudgedFor m a) (clauses_at ls gs (reader.old.held ++ ys)) result reader.new.held zs) }
     ensures device { IsErrOf result Device ↔ (S.failed from.new ≡ S.failed from.old + 1) }
     ensures others { (IsErrOf result Device → ⊥) → S.failed from.new ≡ S.failed from.old }
 {
@@ -105,7 +105,7 @@ pub fn check_evidence<S: Source>(
 ) -> Result<Option<Refusal>, ReaderError>
     requires source { S.failed from.old < 2 ^ 64 - 1 }
     requires bad { IsInRange circuit.now.max_var bad }
-    ensures says { Reads (S.leaves from.old) (S.leaves from.new) (λ ys zs. FindsWith (IsJudgedFor circuit.now bad) (evidence_at (reader.old ++ ys)) result reader.new zs) }
+    ensures says { Reads (S.leaves from.old) (S.leaves from.new) (λ ys zs. FindsWith (IsJudgedFor circuit.now bad) (evidence_at (reader.old.held ++ ys)) result reader.new.held zs) }
     ensures device { IsErrOf result Device ↔ (S.failed from.new ≡ S.failed from.old + 1) }
     ensures others { (IsErrOf result Device → ⊥) → S.failed from.new ≡ S.failed from.old }
 {

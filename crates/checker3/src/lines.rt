@@ -40,7 +40,7 @@ fn skip_refused<S: Source>(
     from: &mut S,
 ) -> Result<Option<Fault>, ReaderError>
     requires source { S.failed from.old < 2 ^ 64 - 1 }
-    ensures says { Reads (S.leaves from.old) (S.leaves from.new) (λ ys zs. FindsWith (λ lines found. (found ≡ Some fault) × (fault ≢ OutOfMemory witness)) (items_at item_at (reader.old ++ ys)) result reader.new zs) }
+    ensures says { Reads (S.leaves from.old) (S.leaves from.new) (λ ys zs. FindsWith (λ lines found. (found ≡ Some fault) × (fault ≢ OutOfMemory witness)) (items_at item_at (reader.old.held ++ ys)) result reader.new.held zs) }
     ensures found { IfOk result (λ found. (found ≡ Some fault) × (fault ≢ OutOfMemory witness)) }
     ensures device { IsErrOf result Device ↔ (S.failed from.new ≡ S.failed from.old + 1) }
     ensures others { (IsErrOf result Device → ⊥) → S.failed from.new ≡ S.failed from.old }
@@ -64,7 +64,7 @@ fn skip_unshown<S: Source>(
     from: &mut S,
 ) -> Result<Option<Fault>, ReaderError>
     requires source { S.failed from.old < 2 ^ 64 - 1 }
-    ensures says { Reads (S.leaves from.old) (S.leaves from.new) (λ ys zs. FindsWith (λ hints found. (found ≡ Some fault) × (fault ≢ OutOfMemory witness)) (many_at hints_at count (reader.old ++ ys)) result reader.new zs) }
+    ensures says { Reads (S.leaves from.old) (S.leaves from.new) (λ ys zs. FindsWith (λ hints found. (found ≡ Some fault) × (fault ≢ OutOfMemory witness)) (many_at hints_at count (reader.old.held ++ ys)) result reader.new.held zs) }
     ensures device { IsErrOf result Device ↔ (S.failed from.new ≡ S.failed from.old + 1) }
     ensures others { (IsErrOf result Device → ⊥) → S.failed from.new ≡ S.failed from.old }
 {
@@ -89,7 +89,7 @@ fn feed_lines<S: Source>(
     requires fresh { refuter.old.refusal ≡ None }
     ensures base { refuter.new.base ≡ refuter.old.base }
     ensures fresh { IfOk result (λ found. IfNone found (refuter.new.refusal ≡ None)) }
-    ensures says { Reads (S.leaves from.old) (S.leaves from.new) (λ ys zs. FindsWith (AreFed refuter.old.base.vars refuter.old.stage refuter.new.stage) (items_at item_at (reader.old ++ ys)) result reader.new zs) }
+    ensures says { Reads (S.leaves from.old) (S.leaves from.new) (λ ys zs. FindsWith (AreFed refuter.old.base.vars refuter.old.stage refuter.new.stage) (items_at item_at (reader.old.held ++ ys)) result reader.new.held zs) }
     ensures device { IsErrOf result Device ↔ (S.failed from.new ≡ S.failed from.old + 1) }
     ensures others { (IsErrOf result Device → ⊥) → S.failed from.new ≡ S.failed from.old }
 {
@@ -117,7 +117,7 @@ pub fn feed_section<S: Source>(
     requires fresh { refuter.old.refusal ≡ None }
     ensures base { refuter.new.base ≡ refuter.old.base }
     ensures fresh { IfOk result (λ found. IfNone found (refuter.new.refusal ≡ None)) }
-    ensures says { Reads (S.leaves from.old) (S.leaves from.new) (λ ys zs. FindsWith (AreFed refuter.old.base.vars refuter.old.stage refuter.new.stage) (section_at (letter_of kind) (reader.old ++ ys)) result reader.new zs) }
+    ensures says { Reads (S.leaves from.old) (S.leaves from.new) (λ ys zs. FindsWith (AreFed refuter.old.base.vars refuter.old.stage refuter.new.stage) (section_at (letter_of kind) (reader.old.held ++ ys)) result reader.new.held zs) }
     ensures device { IsErrOf result Device ↔ (S.failed from.new ≡ S.failed from.old + 1) }
     ensures others { (IsErrOf result Device → ⊥) → S.failed from.new ≡ S.failed from.old }
 {
@@ -139,7 +139,7 @@ pub fn check_hints<S: Source>(
     requires fits { timed.time.offset + timed.time.max_var + 1 < 2 ^ 31 }
     requires over { All (All (IsInRange timed.time.max_var)) timed.clauses.now }
     requires few { length timed.clauses.now ≤ 4194303 }
-    ensures says { Reads (S.leaves from.old) (S.leaves from.new) (λ ys zs. FindsWith (AreHinted refuter.old.base.vars (fin.get refuter.old.stage.present) (map (map (literal timed.entry.time.max_var timed.entry.time.offset)) timed.entry.clauses.now)) (many_at hints_at (length timed.entry.clauses.now) (reader.old ++ ys)) result reader.new zs) }
+    ensures says { Reads (S.leaves from.old) (S.leaves from.new) (λ ys zs. FindsWith (AreHinted refuter.old.base.vars (fin.get refuter.old.stage.present) (map (map (literal timed.entry.time.max_var timed.entry.time.offset)) timed.entry.clauses.now)) (many_at hints_at (length timed.entry.clauses.now) (reader.old.held ++ ys)) result reader.new.held zs) }
     ensures device { IsErrOf result Device ↔ (S.failed from.new ≡ S.failed from.old + 1) }
     ensures others { (IsErrOf result Device → ⊥) → S.failed from.new ≡ S.failed from.old }
 {

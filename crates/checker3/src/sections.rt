@@ -81,7 +81,7 @@ fn check_shown<S: Source>(
     requires fits { timed.time.offset + timed.time.max_var + 1 < 2 ^ 31 }
     requires over { All (All (IsInRange timed.time.max_var)) timed.clauses.now }
     requires few { length timed.clauses.now ≤ 4194303 }
-    ensures says { (f : AFormula) → refuter.old ≡ at_formula f → Reads (S.leaves from.old) (S.leaves from.new) (λ ys zs. FindsWith (IsDerived f (map (map (literal timed.entry.time.max_var timed.entry.time.offset)) timed.entry.clauses.now)) (shown_at (letter_of kind) (length timed.entry.clauses.now) (reader.old ++ ys)) result reader.new zs) }
+    ensures says { (f : AFormula) → refuter.old ≡ at_formula f → Reads (S.leaves from.old) (S.leaves from.new) (λ ys zs. FindsWith (IsDerived f (map (map (literal timed.entry.time.max_var timed.entry.time.offset)) timed.entry.clauses.now)) (shown_at (letter_of kind) (length timed.entry.clauses.now) (reader.old.held ++ ys)) result reader.new.held zs) }
     ensures device { IsErrOf result Device ↔ (S.failed from.new ≡ S.failed from.old + 1) }
     ensures others { (IsErrOf result Device → ⊥) → S.failed from.new ≡ S.failed from.old }
 {
@@ -103,7 +103,7 @@ fn check_first<S: Source>(
     requires source { S.failed from.old < 2 ^ 64 - 1 }
     requires over { All (IsOverAll claims.circuit.now) claims.invariant.now }
     requires few { length claims.invariant.now ≤ 4194303 }
-    ensures says { Reads (S.leaves from.old) (S.leaves from.new) (λ ys zs. FindsWith (HoldsFirst claims.entry.circuit.now claims.entry.invariant.now) (shown_at 105 (length claims.entry.invariant.now) (reader.old ++ ys)) result reader.new zs) }
+    ensures says { Reads (S.leaves from.old) (S.leaves from.new) (λ ys zs. FindsWith (HoldsFirst claims.entry.circuit.now claims.entry.invariant.now) (shown_at 105 (length claims.entry.invariant.now) (reader.old.held ++ ys)) result reader.new.held zs) }
     ensures device { IsErrOf result Device ↔ (S.failed from.new ≡ S.failed from.old + 1) }
     ensures others { (IsErrOf result Device → ⊥) → S.failed from.new ≡ S.failed from.old }
 {
@@ -133,7 +133,7 @@ fn check_step<S: Source>(
     requires source { S.failed from.old < 2 ^ 64 - 1 }
     requires over { All (IsOverAll claims.circuit.now) claims.invariant.now }
     requires few { length claims.invariant.now ≤ 4194303 }
-    ensures says { Reads (S.leaves from.old) (S.leaves from.new) (λ ys zs. FindsWith (HoldsNext claims.entry.circuit.now claims.entry.invariant.now) (shown_at 115 (length claims.entry.invariant.now) (reader.old ++ ys)) result reader.new zs) }
+    ensures says { Reads (S.leaves from.old) (S.leaves from.new) (λ ys zs. FindsWith (HoldsNext claims.entry.circuit.now claims.entry.invariant.now) (shown_at 115 (length claims.entry.invariant.now) (reader.old.held ++ ys)) result reader.new.held zs) }
     ensures device { IsErrOf result Device ↔ (S.failed from.new ≡ S.failed from.old + 1) }
     ensures others { (IsErrOf result Device → ⊥) → S.failed from.new ≡ S.failed from.old }
 {
@@ -155,7 +155,7 @@ fn check_refuted<S: Source>(
 ) -> Result<Option<Fault>, ReaderError>
     requires source { S.failed from.old < 2 ^ 64 - 1 }
     requires fresh { refuter.old.refusal ≡ None }
-    ensures says { (f : AFormula) → refuter.old ≡ at_formula f → Reads (S.leaves from.old) (S.leaves from.new) (λ ys zs. FindsWith (IsRefuted f) (section_at 98 (reader.old ++ ys)) result reader.new zs) }
+    ensures says { (f : AFormula) → refuter.old ≡ at_formula f → Reads (S.leaves from.old) (S.leaves from.new) (λ ys zs. FindsWith (IsRefuted f) (section_at 98 (reader.old.held ++ ys)) result reader.new.held zs) }
     ensures device { IsErrOf result Device ↔ (S.failed from.new ≡ S.failed from.old + 1) }
     ensures others { (IsErrOf result Device → ⊥) → S.failed from.new ≡ S.failed from.old }
 {
@@ -180,7 +180,7 @@ fn check_later<S: Source>(
     requires over { All (IsOverAll claims.circuit.now) claims.invariant.now }
     requires few { length claims.invariant.now ≤ 4194303 }
     requires bad { IsInRange claims.circuit.now.max_var claims.bad }
-    ensures says { Reads (S.leaves from.old) (S.leaves from.new) (λ ys zs. FindsWith (HasLater claims.entry.circuit.now claims.entry.bad claims.entry.invariant.now) (later_at (length claims.entry.invariant.now) (reader.old ++ ys)) result reader.new zs) }
+    ensures says { Reads (S.leaves from.old) (S.leaves from.new) (λ ys zs. FindsWith (HasLater claims.entry.circuit.now claims.entry.bad claims.entry.invariant.now) (later_at (length claims.entry.invariant.now) (reader.old.held ++ ys)) result reader.new.held zs) }
     ensures device { IsErrOf result Device ↔ (S.failed from.new ≡ S.failed from.old + 1) }
     ensures others { (IsErrOf result Device → ⊥) → S.failed from.new ≡ S.failed from.old }
 {
@@ -205,7 +205,7 @@ pub fn check_proofs<S: Source>(
     requires over { All (IsOverAll claims.circuit.now) claims.invariant.now }
     requires few { length claims.invariant.now ≤ 4194303 }
     requires bad { IsInRange claims.circuit.now.max_var claims.bad }
-    ensures says { Reads (S.leaves from.old) (S.leaves from.new) (λ ys zs. FindsWith (HasProofs claims.entry.circuit.now claims.entry.bad claims.entry.invariant.now) (proofs_at (length claims.entry.invariant.now) (reader.old ++ ys)) result reader.new zs) }
+    ensures says { Reads (S.leaves from.old) (S.leaves from.new) (λ ys zs. FindsWith (HasProofs claims.entry.circuit.now claims.entry.bad claims.entry.invariant.now) (proofs_at (length claims.entry.invariant.now) (reader.old.held ++ ys)) result reader.new.held zs) }
     ensures device { IsErrOf result Device ↔ (S.failed from.new ≡ S.failed from.old + 1) }
     ensures others { (IsErrOf result Device → ⊥) → S.failed from.new ≡ S.failed from.old }
 {

@@ -57,7 +57,7 @@ fn check_justice<S: Source>(
     requires property { claim.property ≡ Justice position }
     requires there { HasProperty circuit.now claim.property }
     requires few { claim.rounds ≤ 2 ^ length circuit.now.latches }
-    ensures says { Reads (S.leaves from.old) (S.leaves from.new) (λ ys zs. FindsWith (λ e found. IsJudged circuit.now (record { claim = claim; evidence = e }) found) (evidence_at (reader.old ++ ys)) result reader.new zs) }
+    ensures says { Reads (S.leaves from.old) (S.leaves from.new) (λ ys zs. FindsWith (λ e found. IsJudged circuit.now (record { claim = claim; evidence = e }) found) (evidence_at (reader.old.held ++ ys)) result reader.new.held zs) }
     ensures device { IsErrOf result Device ↔ (S.failed from.new ≡ S.failed from.old + 1) }
     ensures others { (IsErrOf result Device → ⊥) → S.failed from.new ≡ S.failed from.old }
 {
@@ -85,7 +85,7 @@ fn check_claim<S: Source>(
     from: &mut S,
 ) -> Result<Option<Refusal>, ReaderError>
     requires source { S.failed from.old < 2 ^ 64 - 1 }
-    ensures says { Reads (S.leaves from.old) (S.leaves from.new) (λ ys zs. FindsWith (λ e found. IsJudged circuit.now (record { claim = claim; evidence = e }) found) (evidence_at (reader.old ++ ys)) result reader.new zs) }
+    ensures says { Reads (S.leaves from.old) (S.leaves from.new) (λ ys zs. FindsWith (λ e found. IsJudged circuit.now (record { claim = claim; evidence = e }) found) (evidence_at (reader.old.held ++ ys)) result reader.new.held zs) }
     ensures device { IsErrOf result Device ↔ (S.failed from.new ≡ S.failed from.old + 1) }
     ensures others { (IsErrOf result Device → ⊥) → S.failed from.new ≡ S.failed from.old }
 {
@@ -111,7 +111,7 @@ fn check_text<S: Source>(
     from: &mut S,
 ) -> Result<Outcome, ReaderError>
     requires source { S.failed from.old < 2 ^ 64 - 1 }
-    ensures says { Reads (S.leaves from.old) (S.leaves from.new) (λ ys zs. FindsWith (λ c found. (found.claim ≡ c.claim) × IsJudged circuit.now c found.refusal) (certificate_at (reader.old ++ ys)) result reader.new zs) }
+    ensures says { Reads (S.leaves from.old) (S.leaves from.new) (λ ys zs. FindsWith (λ c found. (found.claim ≡ c.claim) × IsJudged circuit.now c found.refusal) (certificate_at (reader.old.held ++ ys)) result reader.new.held zs) }
     ensures device { IsErrOf result Device ↔ (S.failed from.new ≡ S.failed from.old + 1) }
     ensures others { (IsErrOf result Device → ⊥) → S.failed from.new ≡ S.failed from.old }
 {

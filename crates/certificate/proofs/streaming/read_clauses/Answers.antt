@@ -11,11 +11,11 @@ pub returns-in_err-clause_into-clause-says : goal.returns-in_err-clause_into-cla
 returns-in_err-clause_into-clause-says g c text later left =
     let (zs, between, refused) = c.in_err-clause_into.ensures.says text later left in
     let (ys, before, still) = c.loop.invariant.reads text zs between in
-    let read = many_at clause_at c.args.count (c.args.reader.now ++ ys) in (
+    let read = many_at clause_at c.args.count (c.args.reader.now.held ++ ys) in (
       ys,
       before,
-      err_read read c.from_residual.result c.in_err-clause_into.field-0.0 c.clause_into.new.self later c.from_residual.ensures.1
-          (many_refused clause_at read c.loop.clauses c.args.count c.loop.counter c.in_err-clause_into.field-0.0 c.loop.reader zs c.loop-test.true still refused),
+      err_read read c.from_residual.result c.in_err-clause_into.field-0.0 c.clause_into.new.self.held later c.from_residual.ensures.1
+          (many_refused clause_at read c.loop.clauses c.args.count c.loop.counter c.in_err-clause_into.field-0.0 c.loop.reader.held zs c.loop-test.true still refused),
     )
 
 pub loop-preserved : goal.loop-preserved
@@ -25,15 +25,15 @@ loop-preserved g c = record {
   reads = λ text later left.
       let (zs, between, one) = c.in_ok-clause_into.ensures.says text later left in
       let (ys, before, still) = c.loop.invariant.reads text zs between in
-      let read = many_at clause_at c.args.count (c.args.reader.now ++ ys) in (
+      let read = many_at clause_at c.args.count (c.args.reader.now.held ++ ys) in (
         ys,
         before,
-        subst (λ (front : List (List Lit)). StillReads read front (many_at clause_at (c.args.count - (c.loop.counter + 1))) c.clause_into.new.self later) (sym c.in_ok-push.ensures.ok)
-            (many_goes clause_at read c.loop.clauses c.args.count c.loop.counter c.as_slice.result.now c.loop.reader c.clause_into.new.self zs later c.loop-test.true still (rw c.as_slice.ensures.value one)),
+        subst (λ (front : List (List Lit)). StillReads read front (many_at clause_at (c.args.count - (c.loop.counter + 1))) c.clause_into.new.self.held later) (sym c.in_ok-push.ensures.ok)
+            (many_goes clause_at read c.loop.clauses c.args.count c.loop.counter c.as_slice.result.now c.loop.reader.held c.clause_into.new.self.held zs later c.loop-test.true still (rw c.as_slice.ensures.value one)),
       );
 }
 
 pub returns-clause-says : goal.returns-clause-says
 returns-clause-says g c text later left =
     let (ys, before, still) = c.loop.invariant.reads text later left in
-    (ys, before, many_read clause_at (many_at clause_at c.args.count (c.args.reader.now ++ ys)) c.loop.clauses c.args.count c.loop.counter c.loop.reader later c.loop-test.false still)
+    (ys, before, many_read clause_at (many_at clause_at c.args.count (c.args.reader.now.held ++ ys)) c.loop.clauses c.args.count c.loop.counter c.loop.reader.held later c.loop-test.false still)

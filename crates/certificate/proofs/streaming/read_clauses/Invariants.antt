@@ -9,5 +9,5 @@ abbrev pub invariant-loop : goal.invariant-loop
 invariant-loop g l = record {
   steady : g.S.Source.failed l.from ≡ g.S.Source.failed l.fn.from;
   many : length l.clauses ≡ l.counter;
-  reads : Reads (g.S.Source.leaves l.fn.from) (g.S.Source.leaves l.from) (λ ys zs. StillReads (many_at clause_at l.count (l.fn.reader ++ ys)) l.clauses (many_at clause_at (l.count - l.counter)) l.reader zs);
+  reads : Reads (g.S.Source.leaves l.fn.from) (g.S.Source.leaves l.from) (λ ys zs. StillReads (many_at clause_at l.count (l.fn.reader.held ++ ys)) l.clauses (many_at clause_at (l.count - l.counter)) l.reader.held zs);
 }

@@ -9,24 +9,24 @@ pub returns-in_err-there-clause-says : goal.returns-in_err-there-clause-says
 returns-in_err-there-clause-says g c text later left =
     let (zs, between, refused) = c.in_err-there.ensures.says text later left in
     let (ys, before, (front, still)) = c.skipping.invariant.reads text zs between in
-    let read = items_at item_at (c.args.reader.now ++ ys) in (
+    let read = items_at item_at (c.args.reader.now.held ++ ys) in (
       ys,
       before,
-      err_finds (λ lines x. Unit {0}) read c.from_residual.result c.in_err-there.field-0.0 c.line_into.new.self later c.from_residual.ensures.1
-          (items_refused read front c.in_err-there.field-0.0 c.skipping.reader zs still refused),
+      err_finds (λ lines x. Unit {0}) read c.from_residual.result c.in_err-there.field-0.0 c.line_into.new.self.held later c.from_residual.ensures.1
+          (items_refused read front c.in_err-there.field-0.0 c.skipping.reader.held zs still refused),
     )
 
 pub returns-then-not-there-clause-says : goal.returns-then-not-there-clause-says
 returns-then-not-there-clause-says g c text later left =
     let (zs, between, item) = c.in_ok-there.ensures.says text later left in
     let (ys, before, (front, still)) = c.skipping.invariant.reads text zs between in
-    let read = items_at item_at (c.args.reader.now ++ ys) in (
+    let read = items_at item_at (c.args.reader.now.held ++ ys) in (
       ys,
       before,
       (
         front,
-        items_end read front c.skipping.reader c.line_into.new.self zs later still
-            (subst (λ b. Finds (item_at (c.skipping.reader ++ zs)) (Ok (line_where b c.line_into.new.line)) c.line_into.new.self later) c.if-not-there.true item),
+        items_end read front c.skipping.reader.held c.line_into.new.self.held zs later still
+            (subst (λ b. Finds (item_at (c.skipping.reader.held ++ zs)) (Ok (line_where b c.line_into.new.line)) c.line_into.new.self.held later) c.if-not-there.true item),
         tt,
       ),
     )
@@ -37,13 +37,13 @@ skipping-preserved g c = record {
   reads = λ text later left.
       let (zs, between, item) = c.in_ok-there.ensures.says text later left in
       let (ys, before, (front, still)) = c.skipping.invariant.reads text zs between in
-      let read = items_at item_at (c.args.reader.now ++ ys) in (
+      let read = items_at item_at (c.args.reader.now.held ++ ys) in (
         ys,
         before,
         (
           front ++ c.line_into.new.line ∷ [],
-          items_go read front c.line_into.new.line c.skipping.reader c.line_into.new.self zs later still
-              (subst (λ b. Finds (item_at (c.skipping.reader ++ zs)) (Ok (line_where b c.line_into.new.line)) c.line_into.new.self later) c.if-not-there.false item),
+          items_go read front c.line_into.new.line c.skipping.reader.held c.line_into.new.self.held zs later still
+              (subst (λ b. Finds (item_at (c.skipping.reader.held ++ zs)) (Ok (line_where b c.line_into.new.line)) c.line_into.new.self.held later) c.if-not-there.false item),
         ),
       );
 }

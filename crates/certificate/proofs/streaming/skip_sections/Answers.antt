@@ -10,11 +10,11 @@ returns-in_err-skip_section-clause-says g c text later left =
     let (zs, between, refused) = c.in_err-skip_section.ensures.says text later left in
     let (ys, before, (front, still)) = c.loop.invariant.reads text zs between in
     let one = section_at (letter_of c.args.kind) in
-    let read = many_at one c.args.count (c.args.reader.now ++ ys) in (
+    let read = many_at one c.args.count (c.args.reader.now.held ++ ys) in (
       ys,
       before,
-      err_finds (λ sections x. Unit {0}) read c.from_residual.result c.in_err-skip_section.field-0.0 c.skip_section.new.reader later c.from_residual.ensures.1
-          (many_refused one read front c.args.count c.loop.counter c.in_err-skip_section.field-0.0 c.loop.reader zs c.loop-test.true still refused),
+      err_finds (λ sections x. Unit {0}) read c.from_residual.result c.in_err-skip_section.field-0.0 c.skip_section.new.reader.held later c.from_residual.ensures.1
+          (many_refused one read front c.args.count c.loop.counter c.in_err-skip_section.field-0.0 c.loop.reader.held zs c.loop-test.true still refused),
     )
 
 pub loop-preserved : goal.loop-preserved
@@ -24,8 +24,8 @@ loop-preserved g c = record {
       let (zs, between, section) = c.in_ok-skip_section.ensures.says text later left in
       let (ys, before, (front, still)) = c.loop.invariant.reads text zs between in
       let one = section_at (letter_of c.args.kind) in
-      let read = many_at one c.args.count (c.args.reader.now ++ ys) in
-      let (lines, any, goes) = many_goes_with (λ ls x. Unit {0}) one read front c.args.count c.loop.counter (tt {0}) c.loop.reader c.skip_section.new.reader zs later c.loop-test.true still section in
+      let read = many_at one c.args.count (c.args.reader.now.held ++ ys) in
+      let (lines, any, goes) = many_goes_with (λ ls x. Unit {0}) one read front c.args.count c.loop.counter (tt {0}) c.loop.reader.held c.skip_section.new.reader.held zs later c.loop-test.true still section in
       (ys, before, (front ++ lines ∷ [], goes));
 }
 
@@ -33,5 +33,5 @@ pub returns-clause-says : goal.returns-clause-says
 returns-clause-says g c text later left =
     let (ys, before, (front, still)) = c.loop.invariant.reads text later left in
     let one = section_at (letter_of c.args.kind) in
-    let read = many_at one c.args.count (c.args.reader.now ++ ys) in
-    (ys, before, (front, many_read one read front c.args.count c.loop.counter c.loop.reader later c.loop-test.false still, tt))
+    let read = many_at one c.args.count (c.args.reader.now.held ++ ys) in
+    (ys, before, (front, many_read one read front c.args.count c.loop.counter c.loop.reader.held later c.loop-test.false still, tt))

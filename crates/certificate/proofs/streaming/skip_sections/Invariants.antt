@@ -9,5 +9,5 @@ use Rattle.certificate.proofs.streaming.skip_sections.Given as goal
 abbrev pub invariant-loop : goal.invariant-loop
 invariant-loop g l = record {
   steady : g.S.Source.failed l.from ≡ g.S.Source.failed l.fn.from;
-  reads : Reads (g.S.Source.leaves l.fn.from) (g.S.Source.leaves l.from) (λ ys zs. (front : List (List Line)) × StillReads (many_at (section_at (letter_of l.kind)) l.count (l.fn.reader ++ ys)) front (many_at (section_at (letter_of l.kind)) (l.count - l.counter)) l.reader zs);
+  reads : Reads (g.S.Source.leaves l.fn.from) (g.S.Source.leaves l.from) (λ ys zs. (front : List (List Line)) × StillReads (many_at (section_at (letter_of l.kind)) l.count (l.fn.reader.held ++ ys)) front (many_at (section_at (letter_of l.kind)) (l.count - l.counter)) l.reader.held zs);
 }

@@ -15,11 +15,11 @@ pub returns-in_err-gate-clause-says : goal.returns-in_err-gate-clause-says
 returns-in_err-gate-clause-says g c text later left =
     let (zs, between, refused) = c.in_err-gate.ensures.says text later left in
     let (ys, before, still) = c.loop.invariant.reads text zs between in
-    let read = many_at gate_at c.args.count (c.args.reader.now ++ ys) in (
+    let read = many_at gate_at c.args.count (c.args.reader.now.held ++ ys) in (
       ys,
       before,
-      err_read read c.from_residual.result c.in_err-gate.field-0.0 c.line.new.self later c.from_residual.ensures.1
-          (many_refused gate_at read c.loop.gates c.args.count c.loop.counter c.in_err-gate.field-0.0 c.loop.reader zs c.loop-test.true still refused),
+      err_read read c.from_residual.result c.in_err-gate.field-0.0 c.line.new.self.held later c.from_residual.ensures.1
+          (many_refused gate_at read c.loop.gates c.args.count c.loop.counter c.in_err-gate.field-0.0 c.loop.reader.held zs c.loop-test.true still refused),
     )
 
 pub loop-preserved : goal.loop-preserved
@@ -29,15 +29,15 @@ loop-preserved g c = record {
   reads = λ text later left.
       let (zs, between, one) = c.in_ok-gate.ensures.says text later left in
       let (ys, before, still) = c.loop.invariant.reads text zs between in
-      let read = many_at gate_at c.args.count (c.args.reader.now ++ ys) in (
+      let read = many_at gate_at c.args.count (c.args.reader.now.held ++ ys) in (
         ys,
         before,
-        subst (λ (front : List Gate). StillReads read front (many_at gate_at (c.args.count - (c.loop.counter + 1))) c.line.new.self later) (sym c.in_ok-push.ensures.ok)
-            (many_goes gate_at read c.loop.gates c.args.count c.loop.counter c.in_ok-gate.gate c.loop.reader c.line.new.self zs later c.loop-test.true still one),
+        subst (λ (front : List Gate). StillReads read front (many_at gate_at (c.args.count - (c.loop.counter + 1))) c.line.new.self.held later) (sym c.in_ok-push.ensures.ok)
+            (many_goes gate_at read c.loop.gates c.args.count c.loop.counter c.in_ok-gate.gate c.loop.reader.held c.line.new.self.held zs later c.loop-test.true still one),
       );
 }
 
 pub returns-clause-says : goal.returns-clause-says
 returns-clause-says g c text later left =
     let (ys, before, still) = c.loop.invariant.reads text later left in
-    (ys, before, many_read gate_at (many_at gate_at c.args.count (c.args.reader.now ++ ys)) c.loop.gates c.args.count c.loop.counter c.loop.reader later c.loop-test.false still)
+    (ys, before, many_read gate_at (many_at gate_at c.args.count (c.args.reader.now.held ++ ys)) c.loop.gates c.args.count c.loop.counter c.loop.reader.held later c.loop-test.false still)

@@ -12,11 +12,11 @@ pub returns-in_err-_hints-clause-says : goal.returns-in_err-_hints-clause-says
 returns-in_err-_hints-clause-says g c text later left =
     let (zs, between, refused) = c.in_err-_hints.ensures.says text later left in
     let (ys, before, (front, still)) = c.loop.invariant.reads text zs between in
-    let read = many_at hints_at c.args.count (c.args.reader.now ++ ys) in (
+    let read = many_at hints_at c.args.count (c.args.reader.now.held ++ ys) in (
       ys,
       before,
-      err_finds (λ hints x. Unit {0}) read c.from_residual.result c.in_err-_hints.field-0.0 c.line.new.self later c.from_residual.ensures.1
-          (many_refused hints_at read front c.args.count c.loop.counter c.in_err-_hints.field-0.0 c.loop.reader zs c.loop-test.true still refused),
+      err_finds (λ hints x. Unit {0}) read c.from_residual.result c.in_err-_hints.field-0.0 c.line.new.self.held later c.from_residual.ensures.1
+          (many_refused hints_at read front c.args.count c.loop.counter c.in_err-_hints.field-0.0 c.loop.reader.held zs c.loop-test.true still refused),
     )
 
 pub loop-preserved : goal.loop-preserved
@@ -25,15 +25,15 @@ loop-preserved g c = record {
   reads = λ text later left.
       let (zs, between, one) = c.in_ok-_hints.ensures.says text later left in
       let (ys, before, (front, still)) = c.loop.invariant.reads text zs between in
-      let read = many_at hints_at c.args.count (c.args.reader.now ++ ys) in (
+      let read = many_at hints_at c.args.count (c.args.reader.now.held ++ ys) in (
         ys,
         before,
-        (front ++ c.in_ok-_hints._hints ∷ [], many_goes hints_at read front c.args.count c.loop.counter c.in_ok-_hints._hints c.loop.reader c.line.new.self zs later c.loop-test.true still one),
+        (front ++ c.in_ok-_hints._hints ∷ [], many_goes hints_at read front c.args.count c.loop.counter c.in_ok-_hints._hints c.loop.reader.held c.line.new.self.held zs later c.loop-test.true still one),
       );
 }
 
 pub returns-clause-says : goal.returns-clause-says
 returns-clause-says g c text later left =
     let (ys, before, (front, still)) = c.loop.invariant.reads text later left in
-    let read = many_at hints_at c.args.count (c.args.reader.now ++ ys) in
-    (ys, before, (front, many_read hints_at read front c.args.count c.loop.counter c.loop.reader later c.loop-test.false still, tt))
+    let read = many_at hints_at c.args.count (c.args.reader.now.held ++ ys) in
+    (ys, before, (front, many_read hints_at read front c.args.count c.loop.counter c.loop.reader.held later c.loop-test.false still, tt))

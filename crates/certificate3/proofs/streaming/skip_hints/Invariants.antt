@@ -8,5 +8,5 @@ use Rattle.certificate3.proofs.streaming.skip_hints.Given as goal
 abbrev pub invariant-loop : goal.invariant-loop
 invariant-loop g l = record {
   steady : g.S.Source.failed l.from ≡ g.S.Source.failed l.fn.from;
-  reads : Reads (g.S.Source.leaves l.fn.from) (g.S.Source.leaves l.from) (λ ys zs. (front : List (List ℕ)) × StillReads (many_at hints_at l.count (l.fn.reader ++ ys)) front (many_at hints_at (l.count - l.counter)) l.reader zs);
+  reads : Reads (g.S.Source.leaves l.fn.from) (g.S.Source.leaves l.from) (λ ys zs. (front : List (List ℕ)) × StillReads (many_at hints_at l.count (l.fn.reader.held ++ ys)) front (many_at hints_at (l.count - l.counter)) l.reader.held zs);
 }

@@ -15,10 +15,10 @@ pub returns-in_err-initial-clause-says : goal.returns-in_err-initial-clause-says
 returns-in_err-initial-clause-says g c text later left =
     let (ys, before, refused) = c.in_err-initial.ensures.says text later left in
     let n = length c.args.check.invariant.now in
-    let bytes : List ℕ = c.args.reader.now ++ ys in (
+    let bytes : List ℕ = c.args.reader.now.held ++ ys in (
       ys,
       before,
-      err_finds (AreOfCases (cases c.args.check.circuit.now c.args.shared.now.base c.args.check.invariant.now c.args.check.bad)) (sections_at n bytes) _ c.in_err-initial.field-0.0 c.check_initial.new.reader later c.from_residual.ensures.1
+      err_finds (AreOfCases (cases c.args.check.circuit.now c.args.shared.now.base c.args.check.invariant.now c.args.check.bad)) (sections_at n bytes) _ c.in_err-initial.field-0.0 c.check_initial.new.reader.held later c.from_residual.ensures.1
           (initial_refused n bytes c.in_err-initial.field-0.0 refused),
     )
 
@@ -30,16 +30,16 @@ returns-in_err-steps-clause-says g c text later left =
     let inv = c.args.check.invariant.now in
     let b = c.args.shared.now.base in
     let n = length inv in
-    let bytes : List ℕ = c.args.reader.now ++ ys in
+    let bytes : List ℕ = c.args.reader.now.held ++ ys in
     let inits = map (init_case m) inv in
     let steps = map (step_case m b) inv in
     let P = AreOfCases (cases m b inv c.args.check.bad) in
     let none : c.in_ok-initial.initial ≡ None = search rules in
-    let first = (subst (λ o. FindsWith (AreOfCases inits) (many_at (section_at 105) n bytes) (Ok o) c.check_initial.new.reader zs) none initial) in (
+    let first = (subst (λ o. FindsWith (AreOfCases inits) (many_at (section_at 105) n bytes) (Ok o) c.check_initial.new.reader.held zs) none initial) in (
       ys,
       before,
-      behind_initial (AreOfCases inits) P n bytes c.check_initial.new.reader c.check_steps.new.reader zs later None c.from_residual-in_err-steps.result first
-          (λ i are. err_finds P (then_steps n i (c.check_initial.new.reader ++ zs)) _ c.in_err-steps.field-0.0 c.check_steps.new.reader later c.from_residual-in_err-steps.ensures.1 (steps_refused n i (c.check_initial.new.reader ++ zs) c.in_err-steps.field-0.0 refused)),
+      behind_initial (AreOfCases inits) P n bytes c.check_initial.new.reader.held c.check_steps.new.reader.held zs later None c.from_residual-in_err-steps.result first
+          (λ i are. err_finds P (then_steps n i (c.check_initial.new.reader.held ++ zs)) _ c.in_err-steps.field-0.0 c.check_steps.new.reader.held later c.from_residual-in_err-steps.ensures.1 (steps_refused n i (c.check_initial.new.reader.held ++ zs) c.in_err-steps.field-0.0 refused)),
     )
 
 pub returns-in_err-skip_sections-clause-says : goal.returns-in_err-skip_sections-clause-says
@@ -50,15 +50,15 @@ returns-in_err-skip_sections-clause-says g c text later left =
     let inv = c.args.check.invariant.now in
     let b = c.args.shared.now.base in
     let n = length inv in
-    let bytes : List ℕ = c.args.reader.now ++ ys in
+    let bytes : List ℕ = c.args.reader.now.held ++ ys in
     let inits = map (init_case m) inv in
     let steps = map (step_case m b) inv in
     let P = AreOfCases (cases m b inv c.args.check.bad) in
-    let first = (subst (λ o. FindsWith (AreOfCases inits) (many_at (section_at 105) n bytes) (Ok o) c.check_initial.new.reader zs) c.in-Some.is initial) in (
+    let first = (subst (λ o. FindsWith (AreOfCases inits) (many_at (section_at 105) n bytes) (Ok o) c.check_initial.new.reader.held zs) c.in-Some.is initial) in (
       ys,
       before,
-      behind_initial (AreOfCases inits) P n bytes c.check_initial.new.reader c.skip_sections.new.reader zs later (Some c.in-Some.fault) c.from_residual-in_err-skip_sections.result first
-          (λ i are. err_finds P (then_steps n i (c.check_initial.new.reader ++ zs)) _ c.in_err-skip_sections.field-0.0 c.skip_sections.new.reader later c.from_residual-in_err-skip_sections.ensures.1 (steps_refused n i (c.check_initial.new.reader ++ zs) c.in_err-skip_sections.field-0.0 (rw c.len-count.ensures at refused))),
+      behind_initial (AreOfCases inits) P n bytes c.check_initial.new.reader.held c.skip_sections.new.reader.held zs later (Some c.in-Some.fault) c.from_residual-in_err-skip_sections.result first
+          (λ i are. err_finds P (then_steps n i (c.check_initial.new.reader.held ++ zs)) _ c.in_err-skip_sections.field-0.0 c.skip_sections.new.reader.held later c.from_residual-in_err-skip_sections.ensures.1 (steps_refused n i (c.check_initial.new.reader.held ++ zs) c.in_err-skip_sections.field-0.0 (rw c.len-count.ensures at refused))),
     )
 
 pub returns-in_err-skip_section-clause-says : goal.returns-in_err-skip_section-clause-says
@@ -70,16 +70,16 @@ returns-in_err-skip_section-clause-says g c text later left =
     let inv = c.args.check.invariant.now in
     let b = c.args.shared.now.base in
     let n = length inv in
-    let bytes : List ℕ = c.args.reader.now ++ ys in
+    let bytes : List ℕ = c.args.reader.now.held ++ ys in
     let inits = map (init_case m) inv in
     let steps = map (step_case m b) inv in
     let P = AreOfCases (cases m b inv c.args.check.bad) in
-    let first = (subst (λ o. FindsWith (AreOfCases inits) (many_at (section_at 105) n bytes) (Ok o) c.check_initial.new.reader zs) c.in-Some.is initial) in (
+    let first = (subst (λ o. FindsWith (AreOfCases inits) (many_at (section_at 105) n bytes) (Ok o) c.check_initial.new.reader.held zs) c.in-Some.is initial) in (
       ys,
       before,
-      behind_initial (AreOfCases inits) P n bytes c.check_initial.new.reader c.skip_section.new.reader zs later (Some c.in-Some.fault) c.from_residual-in_err-skip_section.result first
-          (λ i are. behind_steps (λ sections x. Unit {0}) P n i (c.check_initial.new.reader ++ zs) c.skip_sections.new.reader c.skip_section.new.reader us later (tt {0}) c.from_residual-in_err-skip_section.result (rw c.len-count.ensures at skipped)
-          (λ s any. err_finds P (then_bad i s (c.skip_sections.new.reader ++ us)) _ c.in_err-skip_section.field-0.0 c.skip_section.new.reader later c.from_residual-in_err-skip_section.ensures.1 (bad_refused i s (c.skip_sections.new.reader ++ us) c.in_err-skip_section.field-0.0 refused))),
+      behind_initial (AreOfCases inits) P n bytes c.check_initial.new.reader.held c.skip_section.new.reader.held zs later (Some c.in-Some.fault) c.from_residual-in_err-skip_section.result first
+          (λ i are. behind_steps (λ sections x. Unit {0}) P n i (c.check_initial.new.reader.held ++ zs) c.skip_sections.new.reader.held c.skip_section.new.reader.held us later (tt {0}) c.from_residual-in_err-skip_section.result (rw c.len-count.ensures at skipped)
+          (λ s any. err_finds P (then_bad i s (c.skip_sections.new.reader.held ++ us)) _ c.in_err-skip_section.field-0.0 c.skip_section.new.reader.held later c.from_residual-in_err-skip_section.ensures.1 (bad_refused i s (c.skip_sections.new.reader.held ++ us) c.in_err-skip_section.field-0.0 refused))),
     )
 
 pub returns-in-Some-clause-says : goal.returns-in-Some-clause-says
@@ -91,16 +91,16 @@ returns-in-Some-clause-says g c text later left =
     let inv = c.args.check.invariant.now in
     let b = c.args.shared.now.base in
     let n = length inv in
-    let bytes : List ℕ = c.args.reader.now ++ ys in
+    let bytes : List ℕ = c.args.reader.now.held ++ ys in
     let inits = map (init_case m) inv in
     let steps = map (step_case m b) inv in
     let P = AreOfCases (cases m b inv c.args.check.bad) in
-    let first = (subst (λ o. FindsWith (AreOfCases inits) (many_at (section_at 105) n bytes) (Ok o) c.check_initial.new.reader zs) c.in-Some.is initial) in (
+    let first = (subst (λ o. FindsWith (AreOfCases inits) (many_at (section_at 105) n bytes) (Ok o) c.check_initial.new.reader.held zs) c.in-Some.is initial) in (
       ys,
       before,
-      behind_initial (AreOfCases inits) P n bytes c.check_initial.new.reader c.skip_section.new.reader zs later (Some c.in-Some.fault) (Ok (Some c.in-Some.fault)) first
-          (λ i are. behind_steps (λ sections x. Unit {0}) P n i (c.check_initial.new.reader ++ zs) c.skip_sections.new.reader c.skip_section.new.reader us later (tt {0}) (Ok (Some c.in-Some.fault)) (rw c.len-count.ensures at skipped)
-          (λ s any. bad_found (λ (lines : List Line) x. x ≡ Some c.in-Some.fault) P i s (c.skip_sections.new.reader ++ us) c.skip_section.new.reader later (Ok (Some c.in-Some.fault)) (λ bad x same. subst (λ o. P (i ++ s ++ bad ∷ []) o) (sym same) (initial_first inits steps (bad_case m b c.args.check.bad) i s bad c.in-Some.fault are))
+      behind_initial (AreOfCases inits) P n bytes c.check_initial.new.reader.held c.skip_section.new.reader.held zs later (Some c.in-Some.fault) (Ok (Some c.in-Some.fault)) first
+          (λ i are. behind_steps (λ sections x. Unit {0}) P n i (c.check_initial.new.reader.held ++ zs) c.skip_sections.new.reader.held c.skip_section.new.reader.held us later (tt {0}) (Ok (Some c.in-Some.fault)) (rw c.len-count.ensures at skipped)
+          (λ s any. bad_found (λ (lines : List Line) x. x ≡ Some c.in-Some.fault) P i s (c.skip_sections.new.reader.held ++ us) c.skip_section.new.reader.held later (Ok (Some c.in-Some.fault)) (λ bad x same. subst (λ o. P (i ++ s ++ bad ∷ []) o) (sym same) (initial_first inits steps (bad_case m b c.args.check.bad) i s bad c.in-Some.fault are))
           (let (bad, is, u) = last in (bad, is, refl)))),
     )
 
@@ -113,17 +113,17 @@ returns-in_err-skip_section-2-clause-says g c text later left =
     let inv = c.args.check.invariant.now in
     let b = c.args.shared.now.base in
     let n = length inv in
-    let bytes : List ℕ = c.args.reader.now ++ ys in
+    let bytes : List ℕ = c.args.reader.now.held ++ ys in
     let inits = map (init_case m) inv in
     let steps = map (step_case m b) inv in
     let P = AreOfCases (cases m b inv c.args.check.bad) in
     let none : c.in_ok-initial.initial ≡ None = search rules in
-    let first = (subst (λ o. FindsWith (AreOfCases inits) (many_at (section_at 105) n bytes) (Ok o) c.check_initial.new.reader zs) none initial) in (
+    let first = (subst (λ o. FindsWith (AreOfCases inits) (many_at (section_at 105) n bytes) (Ok o) c.check_initial.new.reader.held zs) none initial) in (
       ys,
       before,
-      behind_initial (AreOfCases inits) P n bytes c.check_initial.new.reader c.skip_section-in-Some-steps.new.reader zs later None c.from_residual-in_err-skip_section-2.result first
-          (λ i are. behind_steps (AreOfCases steps) P n i (c.check_initial.new.reader ++ zs) c.check_steps.new.reader c.skip_section-in-Some-steps.new.reader us later c.in_ok-steps.steps c.from_residual-in_err-skip_section-2.result stepped
-          (λ s more. err_finds P (then_bad i s (c.check_steps.new.reader ++ us)) _ c.in_err-skip_section-2.field-0.0 c.skip_section-in-Some-steps.new.reader later c.from_residual-in_err-skip_section-2.ensures.1 (bad_refused i s (c.check_steps.new.reader ++ us) c.in_err-skip_section-2.field-0.0 refused))),
+      behind_initial (AreOfCases inits) P n bytes c.check_initial.new.reader.held c.skip_section-in-Some-steps.new.reader.held zs later None c.from_residual-in_err-skip_section-2.result first
+          (λ i are. behind_steps (AreOfCases steps) P n i (c.check_initial.new.reader.held ++ zs) c.check_steps.new.reader.held c.skip_section-in-Some-steps.new.reader.held us later c.in_ok-steps.steps c.from_residual-in_err-skip_section-2.result stepped
+          (λ s more. err_finds P (then_bad i s (c.check_steps.new.reader.held ++ us)) _ c.in_err-skip_section-2.field-0.0 c.skip_section-in-Some-steps.new.reader.held later c.from_residual-in_err-skip_section-2.ensures.1 (bad_refused i s (c.check_steps.new.reader.held ++ us) c.in_err-skip_section-2.field-0.0 refused))),
     )
 
 pub returns-in-Some-steps-clause-says : goal.returns-in-Some-steps-clause-says
@@ -135,18 +135,18 @@ returns-in-Some-steps-clause-says g c text later left =
     let inv = c.args.check.invariant.now in
     let b = c.args.shared.now.base in
     let n = length inv in
-    let bytes : List ℕ = c.args.reader.now ++ ys in
+    let bytes : List ℕ = c.args.reader.now.held ++ ys in
     let inits = map (init_case m) inv in
     let steps = map (step_case m b) inv in
     let P = AreOfCases (cases m b inv c.args.check.bad) in
     let none : c.in_ok-initial.initial ≡ None = search rules in
-    let first = (subst (λ o. FindsWith (AreOfCases inits) (many_at (section_at 105) n bytes) (Ok o) c.check_initial.new.reader zs) none initial) in (
+    let first = (subst (λ o. FindsWith (AreOfCases inits) (many_at (section_at 105) n bytes) (Ok o) c.check_initial.new.reader.held zs) none initial) in (
       ys,
       before,
-      behind_initial (AreOfCases inits) P n bytes c.check_initial.new.reader c.skip_section-in-Some-steps.new.reader zs later None (Ok (Some c.in-Some-steps.fault)) first
-          (λ i are. behind_steps (AreOfCases steps) P n i (c.check_initial.new.reader ++ zs) c.check_steps.new.reader c.skip_section-in-Some-steps.new.reader us later (Some c.in-Some-steps.fault) (Ok (Some c.in-Some-steps.fault))
-          (subst (λ o. FindsWith (AreOfCases steps) (many_at (section_at 115) n (c.check_initial.new.reader ++ zs)) (Ok o) c.check_steps.new.reader us) c.in-Some-steps.is stepped)
-          (λ s more. bad_found (λ (lines : List Line) x. x ≡ Some c.in-Some-steps.fault) P i s (c.check_steps.new.reader ++ us) c.skip_section-in-Some-steps.new.reader later (Ok (Some c.in-Some-steps.fault)) (λ bad x same. subst (λ o. P (i ++ s ++ bad ∷ []) o) (sym same) (steps_first inits steps (bad_case m b c.args.check.bad) i s bad c.in-Some-steps.fault are more))
+      behind_initial (AreOfCases inits) P n bytes c.check_initial.new.reader.held c.skip_section-in-Some-steps.new.reader.held zs later None (Ok (Some c.in-Some-steps.fault)) first
+          (λ i are. behind_steps (AreOfCases steps) P n i (c.check_initial.new.reader.held ++ zs) c.check_steps.new.reader.held c.skip_section-in-Some-steps.new.reader.held us later (Some c.in-Some-steps.fault) (Ok (Some c.in-Some-steps.fault))
+          (subst (λ o. FindsWith (AreOfCases steps) (many_at (section_at 115) n (c.check_initial.new.reader.held ++ zs)) (Ok o) c.check_steps.new.reader.held us) c.in-Some-steps.is stepped)
+          (λ s more. bad_found (λ (lines : List Line) x. x ≡ Some c.in-Some-steps.fault) P i s (c.check_steps.new.reader.held ++ us) c.skip_section-in-Some-steps.new.reader.held later (Ok (Some c.in-Some-steps.fault)) (λ bad x same. subst (λ o. P (i ++ s ++ bad ∷ []) o) (sym same) (steps_first inits steps (bad_case m b c.args.check.bad) i s bad c.in-Some-steps.fault are more))
           (let (bad, is, u) = last in (bad, is, refl)))),
     )
 
@@ -160,7 +160,7 @@ returns-clause-says g c text later left =
     let b = c.args.shared.now.base in
     let bad = c.args.check.bad in
     let n = length inv in
-    let bytes : List ℕ = c.args.reader.now ++ ys in
+    let bytes : List ℕ = c.args.reader.now.held ++ ys in
     let inits = map (init_case m) inv in
     let steps = map (step_case m b) inv in
     let P = AreOfCases (cases m b inv bad) in
@@ -169,11 +169,11 @@ returns-clause-says g c text later left =
     let same = bad_here m b bad c.check_steps.new.refuter.base _ c.in_ok-steps.ensures.base (ap (λ l. l ∷ []) (read32 c.bad_unit-unit.result (search rules) ∙ c.bad_unit-unit.ensures.unit)) in (
       ys,
       before,
-      behind_initial (AreOfCases inits) P n bytes c.check_initial.new.reader c.check_section.new.reader zs later None c.check_section.result
-          (subst (λ o. FindsWith (AreOfCases inits) (many_at (section_at 105) n bytes) (Ok o) c.check_initial.new.reader zs) none initial)
-          (λ i are. behind_steps (AreOfCases steps) P n i (c.check_initial.new.reader ++ zs) c.check_steps.new.reader c.check_section.new.reader us later None c.check_section.result
-          (subst (λ o. FindsWith (AreOfCases steps) (many_at (section_at 115) n (c.check_initial.new.reader ++ zs)) (Ok o) c.check_steps.new.reader us) over stepped)
-          (λ s more. bad_found (IsOfCase (bad_case m b bad)) P i s (c.check_steps.new.reader ++ us) c.check_section.new.reader later c.check_section.result
+      behind_initial (AreOfCases inits) P n bytes c.check_initial.new.reader.held c.check_section.new.reader.held zs later None c.check_section.result
+          (subst (λ o. FindsWith (AreOfCases inits) (many_at (section_at 105) n bytes) (Ok o) c.check_initial.new.reader.held zs) none initial)
+          (λ i are. behind_steps (AreOfCases steps) P n i (c.check_initial.new.reader.held ++ zs) c.check_steps.new.reader.held c.check_section.new.reader.held us later None c.check_section.result
+          (subst (λ o. FindsWith (AreOfCases steps) (many_at (section_at 115) n (c.check_initial.new.reader.held ++ zs)) (Ok o) c.check_steps.new.reader.held us) over stepped)
+          (λ s more. bad_found (IsOfCase (bad_case m b bad)) P i s (c.check_steps.new.reader.held ++ us) c.check_section.new.reader.held later c.check_section.result
           (λ lines x judged. bad_last inits steps (bad_case m b bad) i s lines x are more judged)
-          (subst (λ k. FindsWith (IsOfCase k) (section_at 98 (c.check_steps.new.reader ++ us)) c.check_section.result c.check_section.new.reader later) same last))),
+          (subst (λ k. FindsWith (IsOfCase k) (section_at 98 (c.check_steps.new.reader.held ++ us)) c.check_section.result c.check_section.new.reader.held later) same last))),
     )

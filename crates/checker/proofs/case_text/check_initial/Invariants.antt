@@ -15,5 +15,5 @@ invariant-loop-k g l = record {
   steady : g.S.Source.failed l.from ≡ g.S.Source.failed l.fn.from;
   fresh : l.refuter.refusal ≡ None;
   base : l.refuter.base ≡ base_of (start_formula l.check.circuit.now);
-  reads : Reads (g.S.Source.leaves l.fn.from) (g.S.Source.leaves l.from) (λ ys zs. (front : List (List Line)) × AreProofs (map (init_case l.check.circuit.now) (take l.k l.fn.check.invariant.now)) front × StillReads (many_at (section_at 105) (length l.fn.check.invariant.now) (l.fn.reader ++ ys)) front (many_at (section_at 105) (length l.fn.check.invariant.now - l.k)) l.reader zs);
+  reads : Reads (g.S.Source.leaves l.fn.from) (g.S.Source.leaves l.from) (λ ys zs. (front : List (List Line)) × AreProofs (map (init_case l.check.circuit.now) (take l.k l.fn.check.invariant.now)) front × StillReads (many_at (section_at 105) (length l.fn.check.invariant.now) (l.fn.reader.held ++ ys)) front (many_at (section_at 105) (length l.fn.check.invariant.now - l.k)) l.reader.held zs);
 }

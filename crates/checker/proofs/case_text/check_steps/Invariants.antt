@@ -13,5 +13,5 @@ invariant-loop-k g l = record {
   steady : g.S.Source.failed l.from ≡ g.S.Source.failed l.fn.from;
   fresh : l.refuter.refusal ≡ None;
   base : l.refuter.base ≡ l.fn.refuter.base;
-  reads : Reads (g.S.Source.leaves l.fn.from) (g.S.Source.leaves l.from) (λ ys zs. (front : List (List Line)) × AreProofs (map (step_case l.check.circuit.now l.fn.refuter.base) (take l.k l.fn.check.invariant.now)) front × StillReads (many_at (section_at 115) (length l.fn.check.invariant.now) (l.fn.reader ++ ys)) front (many_at (section_at 115) (length l.fn.check.invariant.now - l.k)) l.reader zs);
+  reads : Reads (g.S.Source.leaves l.fn.from) (g.S.Source.leaves l.from) (λ ys zs. (front : List (List Line)) × AreProofs (map (step_case l.check.circuit.now l.fn.refuter.base) (take l.k l.fn.check.invariant.now)) front × StillReads (many_at (section_at 115) (length l.fn.check.invariant.now) (l.fn.reader.held ++ ys)) front (many_at (section_at 115) (length l.fn.check.invariant.now - l.k)) l.reader.held zs);
 }

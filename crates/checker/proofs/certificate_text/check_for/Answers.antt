@@ -11,7 +11,7 @@ returns-in-None-clause-says g c text later left =
     let (ys, before, has) = c.in_ok-found-in-Ok.ensures.says text later left in (
       ys,
       before,
-      λ p. parts_found c.args.circuit.now c.args.bad c.args.version p c.args.invariant.now (c.args.reader.now ++ ys) c.check_parts.new.reader later c.in_ok-found-in-Ok.found None c.requires.few c.in-Ok.ensures.good
+      λ p. parts_found c.args.circuit.now c.args.bad c.args.version p c.args.invariant.now (c.args.reader.now.held ++ ys) c.check_parts.new.reader.held later c.in_ok-found-in-Ok.found None c.requires.few c.in-Ok.ensures.good
           (sym (ap number c.in-None.is)) (has p),
     )
 
@@ -20,7 +20,7 @@ returns-in-Ok-clause-says g c text later left =
     let (ys, before, has) = c.in_ok-found-in-Ok.ensures.says text later left in (
       ys,
       before,
-      λ p. parts_found c.args.circuit.now c.args.bad c.args.version p c.args.invariant.now (c.args.reader.now ++ ys) c.check_parts.new.reader later c.in_ok-found-in-Ok.found (Some c.number.result) c.requires.few c.in-Ok.ensures.good
+      λ p. parts_found c.args.circuit.now c.args.bad c.args.version p c.args.invariant.now (c.args.reader.now.held ++ ys) c.check_parts.new.reader.held later c.in_ok-found-in-Ok.found (Some c.number.result) c.requires.few c.in-Ok.ensures.good
           (ap (λ (n : ℕ). Some n) c.number.ensures ∙ sym (ap number c.in-Some.is)) (has p),
     )
 
@@ -29,6 +29,6 @@ returns-clause-says g c text later left =
     let (ys, before, skips) = c.skip_parts.ensures.says text later left in (
       ys,
       before,
-      λ p. parts_refused c.args.circuit.now c.args.bad c.args.version p c.args.invariant.now (c.args.reader.now ++ ys) c.skip_parts.new.reader later c.in-Err.error c.skip_parts.result c.requires.few
+      λ p. parts_refused c.args.circuit.now c.args.bad c.args.version p c.args.invariant.now (c.args.reader.now.held ++ ys) c.skip_parts.new.reader.held later c.in-Err.error c.skip_parts.result c.requires.few
           (λ k is counts. c.in-Err.ensures.refused c.args.bad k is counts) (rw c.len.ensures at (skips p c.args.invariant.now)),
     )

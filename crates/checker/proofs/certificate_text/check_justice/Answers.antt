@@ -18,7 +18,7 @@ returns-in-Ok-clause-says g c text later left =
     let (ys, before, found) = c.check_for.ensures.says text later left in (
       ys,
       before,
-      found_here m c.in-Ok.shadow _ c.args.version (Justice n) (length inv) inv (c.args.reader.now ++ ys) c.check_for.new.reader later c.check_for.result
+      found_here m c.in-Ok.shadow _ c.args.version (Justice n) (length inv) inv (c.args.reader.now.held ++ ys) c.check_for.new.reader.held later c.check_for.result
           (record { exists = c.in-Ok.ensures.exists; within = c.in-Ok.ensures.within }) c.in-Ok.ensures.shadow (closing_is m c.in-Ok.shadow n c.bad.result.now c.in-Ok.ensures.shadow c.bad.ensures)
           (found (Justice n)),
     )
@@ -32,7 +32,7 @@ returns-in-Err-NoProperty-clause-says g c text later left =
     let (ys, before, skips) = c.skip_parts.ensures.says text later left in (
       ys,
       before,
-      refused_here m (NoProperty n) c.args.version (Justice n) (length inv) inv (c.args.reader.now ++ ys) c.skip_parts.new.reader later c.skip_parts.result
+      refused_here m (NoProperty n) c.args.version (Justice n) (length inv) inv (c.args.reader.now.held ++ ys) c.skip_parts.new.reader.held later c.skip_parts.result
           (no_such m (Justice n) (NoProperty n) refl none) (rw c.len-count.ensures at (skips (Justice n) inv)),
     )
 
@@ -46,6 +46,6 @@ returns-in-Err-Limit-clause-says g c text later left =
     let (ys, before, skips) = c.skip_parts-in-Err-Limit.ensures.says text later left in (
       ys,
       before,
-      refused_here m Limit c.args.version (Justice n) (length inv) inv (c.args.reader.now ++ ys) c.skip_parts-in-Err-Limit.new.reader later c.skip_parts-in-Err-Limit.result
+      refused_here m Limit c.args.version (Justice n) (length inv) inv (c.args.reader.now.held ++ ys) c.skip_parts-in-Err-Limit.new.reader.held later c.skip_parts-in-Err-Limit.result
           (too_many m n there many) (rw c.len-count.ensures at (skips (Justice n) inv)),
     )

@@ -15,10 +15,10 @@ returns-in_err-found-clause-says g c text later left =
     let inv = c.args.check.invariant.now in
     let e = c.in_err-found.field-0.0 in
     let (ys, before, refused) = c.in_err-found.ensures.says text later left in
-    let bytes : List ℕ = c.args.reader.now ++ ys in (
+    let bytes : List ℕ = c.args.reader.now.held ++ ys in (
       ys,
       before,
-      λ p. err_finds (HasSections m c.args.check.bad) (parts_at c.args.check.version p (length inv) inv bytes) _ e c.share_lemmas.new.reader later c.from_residual.ensures.1
+      λ p. err_finds (HasSections m c.args.check.bad) (parts_at c.args.check.version p (length inv) inv bytes) _ e c.share_lemmas.new.reader.held later c.from_residual.ensures.1
           (lemmas_stop c.args.check.version p (length inv) inv bytes e (refused m inv c.requires.shared)),
     )
 
@@ -35,13 +35,13 @@ returns-in_err-skip_cases-clause-says g c text later left =
     let P = HasSections m c.args.check.bad in
     let (zs, between, refused) = c.in_err-skip_cases.ensures.says text later left in
     let (ys, before, taken) = c.in_ok-found.ensures.says text zs between in
-    let bytes : List ℕ = c.args.reader.now ++ ys in
-    let first = subst (λ o. FindsWith (AreTaken m inv b) (lemmas_at v bytes) (Ok o) c.share_lemmas.new.reader zs) c.in-Some.is (taken m inv c.requires.shared) in (
+    let bytes : List ℕ = c.args.reader.now.held ++ ys in
+    let first = subst (λ o. FindsWith (AreTaken m inv b) (lemmas_at v bytes) (Ok o) c.share_lemmas.new.reader.held zs) c.in-Some.is (taken m inv c.requires.shared) in (
       ys,
       before,
-      λ p. behind_lemmas (AreTaken m inv b) P v p n inv bytes c.share_lemmas.new.reader c.skip_cases.new.reader zs later (Some c.in-Some.fault) c.from_residual-in_err-skip_cases.result first
-          (λ l are. err_finds P (then_sections p n inv l (c.share_lemmas.new.reader ++ zs)) _ e c.skip_cases.new.reader later c.from_residual-in_err-skip_cases.ensures.1
-          (sections_stop p n inv l (c.share_lemmas.new.reader ++ zs) e (rw c.len.ensures at refused))),
+      λ p. behind_lemmas (AreTaken m inv b) P v p n inv bytes c.share_lemmas.new.reader.held c.skip_cases.new.reader.held zs later (Some c.in-Some.fault) c.from_residual-in_err-skip_cases.result first
+          (λ l are. err_finds P (then_sections p n inv l (c.share_lemmas.new.reader.held ++ zs)) _ e c.skip_cases.new.reader.held later c.from_residual-in_err-skip_cases.ensures.1
+          (sections_stop p n inv l (c.share_lemmas.new.reader.held ++ zs) e (rw c.len.ensures at refused))),
     )
 
 pub returns-in-Some-clause-says : goal.returns-in-Some-clause-says
@@ -56,12 +56,12 @@ returns-in-Some-clause-says g c text later left =
     let (zs, between, skips) = rw c.len.ensures at (c.in_ok-skip_cases.ensures.says text later left) in
     let (ss, is, u) = skips in
     let (ys, before, taken) = c.in_ok-found.ensures.says text zs between in
-    let bytes : List ℕ = c.args.reader.now ++ ys in
-    let first = subst (λ o. FindsWith (AreTaken m inv b) (lemmas_at v bytes) (Ok o) c.share_lemmas.new.reader zs) c.in-Some.is (taken m inv c.requires.shared) in (
+    let bytes : List ℕ = c.args.reader.now.held ++ ys in
+    let first = subst (λ o. FindsWith (AreTaken m inv b) (lemmas_at v bytes) (Ok o) c.share_lemmas.new.reader.held zs) c.in-Some.is (taken m inv c.requires.shared) in (
       ys,
       before,
-      λ p. behind_lemmas (AreTaken m inv b) P v p n inv bytes c.share_lemmas.new.reader c.skip_cases.new.reader zs later (Some fault) (Ok (Some fault)) first
-          (λ l are. sections_made (λ sections x. x ≡ Some fault) P p n inv l (c.share_lemmas.new.reader ++ zs) c.skip_cases.new.reader later (Ok (Some fault))
+      λ p. behind_lemmas (AreTaken m inv b) P v p n inv bytes c.share_lemmas.new.reader.held c.skip_cases.new.reader.held zs later (Some fault) (Ok (Some fault)) first
+          (λ l are. sections_made (λ sections x. x ≡ Some fault) P p n inv l (c.share_lemmas.new.reader.held ++ zs) c.skip_cases.new.reader.held later (Ok (Some fault))
           (λ ss x same. subst (λ o. P (made p inv l ss) o) (sym same) (lemmas_refused m c.args.check.bad (made p inv l ss) b fault are))
           (ss, is, refl)),
     )
@@ -82,11 +82,11 @@ returns-clause-says g c text later left =
     let none : c.in_ok-found.found ≡ None = search rules in
     let (zs, between, are) = c.check_cases.ensures.says text later left in
     let (ys, before, taken) = c.in_ok-found.ensures.says text zs between in
-    let bytes : List ℕ = c.args.reader.now ++ ys in
-    let first = subst (λ o. FindsWith (AreTaken m inv b) (lemmas_at v bytes) (Ok o) c.share_lemmas.new.reader zs) none (taken m inv c.requires.shared) in (
+    let bytes : List ℕ = c.args.reader.now.held ++ ys in
+    let first = subst (λ o. FindsWith (AreTaken m inv b) (lemmas_at v bytes) (Ok o) c.share_lemmas.new.reader.held zs) none (taken m inv c.requires.shared) in (
       ys,
       before,
-      λ p. behind_lemmas (AreTaken m inv b) P v p n inv bytes c.share_lemmas.new.reader c.check_cases.new.reader zs later None c.check_cases.result first
-          (λ l shared. sections_made (AreOfCases (cases m b inv c.args.check.bad)) P p n inv l (c.share_lemmas.new.reader ++ zs) c.check_cases.new.reader later c.check_cases.result
+      λ p. behind_lemmas (AreTaken m inv b) P v p n inv bytes c.share_lemmas.new.reader.held c.check_cases.new.reader.held zs later None c.check_cases.result first
+          (λ l shared. sections_made (AreOfCases (cases m b inv c.args.check.bad)) P p n inv l (c.share_lemmas.new.reader.held ++ zs) c.check_cases.new.reader.held later c.check_cases.result
           (λ ss x are. has_sections m c.args.check.bad (made p inv l ss) b x shared are) are),
     )

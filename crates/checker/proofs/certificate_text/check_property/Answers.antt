@@ -16,7 +16,7 @@ returns-then-not-has_property-clause-says g c text later left =
     let (ys, before, skips) = c.skip_parts.ensures.says text later left in (
       ys,
       before,
-      refused_here m e c.args.version p (length inv) inv (c.args.reader.now ++ ys) c.skip_parts.new.reader later c.skip_parts.result
+      refused_here m e c.args.version p (length inv) inv (c.args.reader.now.held ++ ys) c.skip_parts.new.reader.held later c.skip_parts.result
           (no_such m p e c.no_property-error.ensures none) (rw c.len.ensures at (skips p inv)),
     )
 
@@ -37,7 +37,7 @@ returns-in-Bad-clause-says g c text later left =
     let (ys, before, found) = c.check_for.ensures.says text later left in (
       ys,
       before,
-      found_here m m _ c.args.version p (length inv) inv (c.args.reader.now ++ ys) c.check_for.new.reader later c.check_for.result
+      found_here m m _ c.args.version p (length inv) inv (c.args.reader.now.held ++ ys) c.check_for.new.reader.held later c.check_for.result
           (showable_here m p c.parts.ensures.well_formed circuit there) circuit (bad_is m p c.in-Bad.n c.bad.result.now c.in-Bad.is c.bad.ensures) (found p),
     )
 
@@ -58,6 +58,6 @@ returns-in-Output-clause-says g c text later left =
     let (ys, before, found) = c.check_for-in-Output.ensures.says text later left in (
       ys,
       before,
-      found_here m m _ c.args.version p (length inv) inv (c.args.reader.now ++ ys) c.check_for-in-Output.new.reader later c.check_for-in-Output.result
+      found_here m m _ c.args.version p (length inv) inv (c.args.reader.now.held ++ ys) c.check_for-in-Output.new.reader.held later c.check_for-in-Output.result
           (showable_here m p c.parts.ensures.well_formed circuit there) circuit (output_is m p c.in-Output.n c.outputs.result.now c.in-Output.is c.outputs.ensures) (found p),
     )

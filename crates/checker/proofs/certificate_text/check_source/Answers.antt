@@ -17,7 +17,7 @@ returns-in_err-outcome-clause-says g c text later left =
       ys,
       before,
       match_gives (λ (found : Outcome). (d : Certificate) × SpellsCertificate ys d × (found.property ≡ d.property) × IsFound c.args.circuit.now d found.refusal) (λ x. ForText x ((d : Certificate) → SpellsCertificate ys d → ⊥)) c.from_residual-in_err-outcome.result e c.from_residual-in_err-outcome.ensures.1
-          (text_refused c.in_ok-reader.reader ys e c.in_ok-reader.ensures refused),
+          (text_refused c.in_ok-reader.reader.held ys e c.in_ok-reader.ensures.begins refused),
     )
 
 pub returns-in_err-end-clause-says : goal.returns-in_err-end-clause-says
@@ -29,7 +29,7 @@ returns-in_err-end-clause-says g c text later left =
       ys,
       before,
       match_gives (λ (found : Outcome). (d : Certificate) × SpellsCertificate ys d × (found.property ≡ d.property) × IsFound c.args.circuit.now d found.refusal) (λ x. ForText x ((d : Certificate) → SpellsCertificate ys d → ⊥)) c.from_residual-in_err-end.result e c.from_residual-in_err-end.ensures.1
-          (text_goes_on P c.in_ok-reader.reader c.check_text.new.reader ys zs c.in_ok-outcome.outcome e c.in_ok-reader.ensures found more),
+          (text_goes_on P c.in_ok-reader.reader.held c.check_text.new.reader.held ys zs c.in_ok-outcome.outcome e c.in_ok-reader.ensures.begins found more),
     )
 
 pub returns-clause-says : goal.returns-clause-says
@@ -37,10 +37,10 @@ returns-clause-says g c text later left =
     let P = λ (d : Certificate) (found : Outcome). (found.property ≡ d.property) × IsFound c.args.circuit.now d found.refusal in
     let (zs, between, ended) = c.in_ok-end.ensures.says text later left in
     let (ys, before, found) = c.in_ok-outcome.ensures.says text zs between in
-    let (d, spelled, both) = text_whole P c.in_ok-reader.reader c.check_text.new.reader c.end.new.self ys zs later c.in_ok-outcome.outcome c.in_ok-reader.ensures found ended in
+    let (d, spelled, both) = text_whole P c.in_ok-reader.reader.held c.check_text.new.reader.held c.end.new.self.held ys zs later c.in_ok-outcome.outcome c.in_ok-reader.ensures.begins found ended in
     (ys, before, (d, spelled, both.0, both.1))
 
 pub returns-clause-ended : goal.returns-clause-ended
 returns-clause-ended g c text later left =
     let (zs, between, ended) = c.in_ok-end.ensures.says text later left in
-    over (c.check_text.new.reader ++ zs) c.end.new.self later ended
+    over (c.check_text.new.reader.held ++ zs) c.end.new.self.held later ended

@@ -13,8 +13,8 @@ returns-in-One-clause-says g c text later left = (
   left,
   λ m inv begun.
       let b = c.args.refuter.now.base in
-      subst (λ v. FindsWith (AreTaken m inv b) (lemmas_at v (c.args.reader.now ++ later)) (Ok None) c.args.reader.now later) (sym c.in-One.is)
-      (no_lemmas (AreTaken m inv b) None c.args.reader.now later (ap (λ (r : Course). r.base) begun)),
+      subst (λ v. FindsWith (AreTaken m inv b) (lemmas_at v (c.args.reader.now.held ++ later)) (Ok None) c.args.reader.now.held later) (sym c.in-One.is)
+      (no_lemmas (AreTaken m inv b) None c.args.reader.now.held later (ap (λ (r : Course). r.base) begun)),
 )
 
 pub returns-in-Two-clause-says : goal.returns-in-Two-clause-says
@@ -25,6 +25,6 @@ returns-in-Two-clause-says g c text later left =
       ys,
       before,
       λ m inv begun.
-          subst (λ v. FindsWith (AreTaken m inv b) (lemmas_at v (c.args.reader.now ++ ys)) c.take_lemmas.result c.take_lemmas.new.reader later) (sym c.in-Two.is)
-          (some_lemmas (AreLemmas r.base.vars r.stage b) (AreTaken m inv b) (c.args.reader.now ++ ys) c.take_lemmas.new.reader later c.take_lemmas.result (taken_from m inv r b begun) taken),
+          subst (λ v. FindsWith (AreTaken m inv b) (lemmas_at v (c.args.reader.now.held ++ ys)) c.take_lemmas.result c.take_lemmas.new.reader.held later) (sym c.in-Two.is)
+          (some_lemmas (AreLemmas r.base.vars r.stage b) (AreTaken m inv b) (c.args.reader.now.held ++ ys) c.take_lemmas.new.reader.held later c.take_lemmas.result (taken_from m inv r b begun) taken),
     )

@@ -17,8 +17,8 @@ returns-in_err-section-clause-says g c text later left =
     let (ys, before, refused) = c.in_err-section.ensures.says text later left in (
       ys,
       before,
-      err_finds (IsOfCase case) (section_at (letter_of c.args.kind) (c.args.reader.now ++ ys)) c.from_residual.result c.in_err-section.field-0.0 c.section.new.self later c.from_residual.ensures.1
-          (section_refused c.args.kind c.in_err-section.field-0.0 (c.args.reader.now ++ ys) refused),
+      err_finds (IsOfCase case) (section_at (letter_of c.args.kind) (c.args.reader.now.held ++ ys)) c.from_residual.result c.in_err-section.field-0.0 c.section.new.self.held later c.from_residual.ensures.1
+          (section_refused c.args.kind c.in_err-section.field-0.0 (c.args.reader.now.held ++ ys) refused),
     )
 
 pub returns-in-Err-clause-says : goal.returns-in-Err-clause-says
@@ -29,8 +29,8 @@ returns-in-Err-clause-says g c text later left =
     let (ys, before, letter) = c.in_ok-section.ensures.says text zs between in (
       ys,
       before,
-      section_finds (IsOfCase case) c.args.kind (c.args.reader.now ++ ys) c.section.new.self c.skip_refused.new.reader zs later c.skip_refused.result letter
-          (finds_more (λ lines found. (found ≡ Some fault) × (fault ≢ OutOfMemory witness)) (IsOfCase case) (items_at item_at (c.section.new.self ++ zs)) c.skip_refused.result c.skip_refused.new.reader later
+      section_finds (IsOfCase case) c.args.kind (c.args.reader.now.held ++ ys) c.section.new.self.held c.skip_refused.new.reader.held zs later c.skip_refused.result letter
+          (finds_more (λ lines found. (found ≡ Some fault) × (fault ≢ OutOfMemory witness)) (IsOfCase case) (items_at item_at (c.section.new.self.held ++ zs)) c.skip_refused.result c.skip_refused.new.reader.held later
           (of_begun case fault (c.in-Err.ensures.memory c.requires.fresh)) skipped),
     )
 
@@ -41,7 +41,7 @@ returns-clause-says g c text later left =
     let (ys, before, letter) = c.in_ok-section.ensures.says text zs between in (
       ys,
       before,
-      section_finds (IsOfCase case) c.args.kind (c.args.reader.now ++ ys) c.section.new.self c.feed_lines.new.reader zs later c.feed_lines.result letter
-          (finds_more (IsFed c.begin.new.self.base.vars c.begin.new.self.stage) (IsOfCase case) (items_at item_at (c.section.new.self ++ zs)) c.feed_lines.result c.feed_lines.new.reader later
+      section_finds (IsOfCase case) c.args.kind (c.args.reader.now.held ++ ys) c.section.new.self.held c.feed_lines.new.reader.held zs later c.feed_lines.result letter
+          (finds_more (IsFed c.begin.new.self.base.vars c.begin.new.self.stage) (IsOfCase case) (items_at item_at (c.section.new.self.held ++ zs)) c.feed_lines.result c.feed_lines.new.reader.held later
           (fed_behind case c.in_default.ensures.few c.begin.new.self c.in_default.ensures.ok.1) fed),
     )

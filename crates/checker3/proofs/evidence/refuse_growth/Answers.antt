@@ -13,4 +13,4 @@ pub returns-in_ok-skip_clauses-in-Refusal-clause-says : goal.returns-in_ok-skip_
 returns-in_ok-skip_clauses-in-Refusal-clause-says g c m a ls gs none =
     let r = c.in-Refusal.refusal in
     let refused : IsNoExtension m ls gs r = subst (IsNoGrowth m ls gs) c.in-Refusal.is none in
-    clauses_skipped m a ls gs r _ _ c.args.reader.now c.skip_clauses.new.reader refused (c.in_ok-skip_clauses-in-Refusal.ensures.says ls gs)
+    clauses_skipped m a ls gs r _ _ c.args.reader.now.held c.skip_clauses.new.reader.held refused (c.in_ok-skip_clauses-in-Refusal.ensures.says ls gs)

@@ -31,11 +31,11 @@ returns-in_err-hints-clause-says g c text later left =
     let cs = map (map (literal c.args.timed.time.max_var c.args.timed.time.offset)) c.args.timed.clauses.now in
     let (zs, between, refused) = c.in_err-hints.ensures.says text later left in
     let (ys, before, (front, len, shown, still)) = c.loop-k.invariant.reads text zs between in
-    let read = many_at hints_at n (c.args.reader.now ++ ys) in (
+    let read = many_at hints_at n (c.args.reader.now.held ++ ys) in (
       ys,
       before,
-      err_finds (AreHinted r.base.vars (fin.get r.stage.present) cs) read c.from_residual.result c.in_err-hints.field-0.0 c.line.new.self later c.from_residual.ensures.1
-          (many_refused hints_at read front n c.loop-k.k c.in_err-hints.field-0.0 c.loop-k.reader zs (omega (arith, c.len-k-end.ensures, c.loop-k-test.true)) still refused),
+      err_finds (AreHinted r.base.vars (fin.get r.stage.present) cs) read c.from_residual.result c.in_err-hints.field-0.0 c.line.new.self.held later c.from_residual.ensures.1
+          (many_refused hints_at read front n c.loop-k.k c.in_err-hints.field-0.0 c.loop-k.reader.held zs (omega (arith, c.len-k-end.ensures, c.loop-k-test.true)) still refused),
     )
 
 pub loop-k-preserved : goal.loop-k-preserved
@@ -52,7 +52,7 @@ loop-k-preserved g c = record {
       let h = c.in_ok-hints.hints in
       let (zs, between, one) = c.in_ok-hints.ensures.says text later left in
       let (ys, before, (front, len, shown, still)) = c.loop-k.invariant.reads text zs between in
-      let read = many_at hints_at n (c.args.reader.now ++ ys) in
+      let read = many_at hints_at n (c.args.reader.now.held ++ ys) in
       let lits : c.clause_into.new.literals.items ≡ get_or cs k [] = c.in_ok-clause_into.ensures.literals ∙ ap (map (literal v o)) c.list.ensures ∙ sym (clause_here v o c.args.timed.clauses.now k) in
       let accepted : IsAcceptedLine r.base.vars (fin.get r.stage.present) (get_or cs k []) h = search rules in (
         ys,
@@ -61,7 +61,7 @@ loop-k-preserved g c = record {
           front ++ h ∷ [],
           length_push front h ∙ ap (λ n. n + 1) len,
           shown_more r.base.vars (fin.get r.stage.present) cs front h k len shown accepted,
-          many_goes hints_at read front n k h c.loop-k.reader c.line.new.self zs later (omega (arith, c.len-k-end.ensures, c.loop-k-test.true)) still one,
+          many_goes hints_at read front n k h c.loop-k.reader.held c.line.new.self.held zs later (omega (arith, c.len-k-end.ensures, c.loop-k-test.true)) still one,
         ),
       );
 }
@@ -79,8 +79,8 @@ returns-in-Err-clause-says g c text later left =
     let (us, here, skipped) = rw c.len.ensures at (c.skip_unshown.ensures.says text later left) in
     let (zs, between, one) = c.in_ok-hints.ensures.says text us here in
     let (ys, before, (front, len, shown, still)) = c.loop-k.invariant.reads text zs between in
-    let read = many_at hints_at n (c.args.reader.now ++ ys) in
-    let further = many_goes hints_at read front n k h c.loop-k.reader c.line.new.self zs us (omega (arith, c.len-k-end.ensures, c.loop-k-test.true)) still one in
+    let read = many_at hints_at n (c.args.reader.now.held ++ ys) in
+    let further = many_goes hints_at read front n k h c.loop-k.reader.held c.line.new.self.held zs us (omega (arith, c.len-k-end.ensures, c.loop-k-test.true)) still one in
     let same : c.loop-k.refuter ≡ r = c.loop-k.invariant.same in
     let fresh : c.loop-k.refuter.refusal ≡ None = ap (λ (q : Course). q.refusal) same ∙ c.requires.fresh in
     let lits : c.as_slice.result.now ≡ get_or cs k [] =
@@ -92,7 +92,7 @@ returns-in-Err-clause-says g c text later left =
     let inside : k < length cs = omega (arith, length-map c.args.timed.clauses.now (map (literal v o)), c.len-k-end.ensures, c.loop-k-test.true) in (
       ys,
       before,
-      others_found (λ hints found. (found ≡ Some fault) × (fault ≢ OutOfMemory witness)) (AreHinted r.base.vars (fin.get r.stage.present) cs) read (front ++ h ∷ []) (many_at hints_at (n - (k + 1))) c.line.new.self c.skip_unshown.new.reader us later c.skip_unshown.result further
+      others_found (λ hints found. (found ≡ Some fault) × (fault ≢ OutOfMemory witness)) (AreHinted r.base.vars (fin.get r.stage.present) cs) read (front ++ h ∷ []) (many_at hints_at (n - (k + 1))) c.line.new.self.held c.skip_unshown.new.reader.held us later c.skip_unshown.result further
           skipped (λ more x found. unshown_here r.base.vars (fin.get r.stage.present) cs front h more k fault x len inside shown refused found),
     )
 
@@ -104,7 +104,7 @@ returns-clause-says g c text later left =
     let f = map (literal c.args.timed.time.max_var c.args.timed.time.offset) in
     let cs : List (List ℤ) = map f inv in
     let (ys, before, (front, len, shown, still)) = c.loop-k.invariant.reads text later left in
-    let bytes : List ℕ = c.args.reader.now ++ ys in
-    let is = many_read hints_at (many_at hints_at n bytes) front n c.loop-k.k c.loop-k.reader later (omega (arith, c.len-k-end.ensures, c.loop-k-test.false)) still in
+    let bytes : List ℕ = c.args.reader.now.held ++ ys in
+    let is = many_read hints_at (many_at hints_at n bytes) front n c.loop-k.k c.loop-k.reader.held later (omega (arith, c.len-k-end.ensures, c.loop-k-test.false)) still in
     let many : length cs ≡ n = length-map inv f in
-    (ys, before, (front, is, all_shown r.base.vars (fin.get r.stage.present) cs front c.loop-k.k bytes (c.loop-k.reader ++ later) len shown (ap (λ j. many_at hints_at j bytes) many ∙ is)))
+    (ys, before, (front, is, all_shown r.base.vars (fin.get r.stage.present) cs front c.loop-k.k bytes (c.loop-k.reader.held ++ later) len shown (ap (λ j. many_at hints_at j bytes) many ∙ is)))

@@ -14,5 +14,5 @@ invariant-loop-k g l = record {
   same : l.refuter ≡ l.fn.refuter;
   reads : Reads (g.S.Source.leaves l.fn.from) (g.S.Source.leaves l.from) (λ ys zs. (front : List (List ℕ)) × (length front ≡ l.k)
       × AreShown l.fn.refuter.base.vars (fin.get l.fn.refuter.stage.present) (map (map (literal l.timed.time.max_var l.timed.time.offset)) l.timed.clauses.now) front l.k
-      × StillReads (many_at hints_at (length l.timed.clauses.now) (l.fn.reader ++ ys)) front (many_at hints_at (length l.timed.clauses.now - l.k)) l.reader zs);
+      × StillReads (many_at hints_at (length l.timed.clauses.now) (l.fn.reader.held ++ ys)) front (many_at hints_at (length l.timed.clauses.now - l.k)) l.reader.held zs);
 }

@@ -13,8 +13,8 @@ invariant-feeding g l = record {
   steady : g.S.Source.failed l.from ≡ g.S.Source.failed l.fn.from;
   base : l.refuter.base ≡ l.fn.refuter.base;
   open_ : l.refuter.refusal ≡ None;
-  reads : Reads (g.S.Source.leaves l.fn.from) (g.S.Source.leaves l.from) (λ ys zs. (front : List Line) × All IsLine front × GoAlong l.fn.refuter.base.vars l.fn.refuter.stage front l.refuter.stage × StillReads (items_at item_at (l.fn.reader ++ ys)) front (items_at item_at) l.reader zs);
+  reads : Reads (g.S.Source.leaves l.fn.from) (g.S.Source.leaves l.from) (λ ys zs. (front : List Line) × All IsLine front × GoAlong l.fn.refuter.base.vars l.fn.refuter.stage front l.refuter.stage × StillReads (items_at item_at (l.fn.reader.held ++ ys)) front (items_at item_at) l.reader.held zs);
 }
 
 abbrev pub decreases-feeding : goal.decreases-feeding
-decreases-feeding g l = length l.reader + g.S.Source.most l.from
+decreases-feeding g l = length l.reader.held + g.S.Source.most l.from

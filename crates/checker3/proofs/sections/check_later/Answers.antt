@@ -35,8 +35,8 @@ returns-in-Some-clause-says g c =
     let inv = c.args.claims.invariant.now in
     let n = length inv in
     let P = HasLater m c.args.claims.bad inv in
-    same_reads P (λ bytes. shown_at 115 n bytes >>= λ a. (section_at 98 a.1 >>= λ l. Some (a_later a.0 l.0, l.1))) (later_at n) (Ok (Some c.in-Some.fault)) _ _ c.args.reader.now c.skip_section.new.reader (later_is n)
-    (pairs_told (HoldsNext m inv) Skips P (shown_at 115 n) (section_at 98) a_later c.in_ok-found.found (tt {0}) (Some c.in-Some.fault) _ _ _ c.args.reader.now c.check_step.new.reader c.skip_section.new.reader
+    same_reads P (λ bytes. shown_at 115 n bytes >>= λ a. (section_at 98 a.1 >>= λ l. Some (a_later a.0 l.0, l.1))) (later_at n) (Ok (Some c.in-Some.fault)) _ _ c.args.reader.now.held c.skip_section.new.reader.held (later_is n)
+    (pairs_told (HoldsNext m inv) Skips P (shown_at 115 n) (section_at 98) a_later c.in_ok-found.found (tt {0}) (Some c.in-Some.fault) _ _ _ c.args.reader.now.held c.check_step.new.reader.held c.skip_section.new.reader.held
     c.in_ok-found.ensures.says c.in_ok-skip_section.ensures.says
     (λ s l derived u. inl (subst (λ o. HoldsNext m inv s o) c.in-Some.is derived)))
 

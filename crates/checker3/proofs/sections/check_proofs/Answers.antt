@@ -33,8 +33,8 @@ returns-in-Some-clause-says g c =
     let inv = c.args.claims.invariant.now in
     let n = length inv in
     let P = HasProofs m c.args.claims.bad inv in
-    same_reads P (λ bytes. shown_at 105 n bytes >>= λ a. (later_at n a.1 >>= λ l. Some (a_proofs a.0 l.0, l.1))) (proofs_at n) (Ok (Some c.in-Some.fault)) _ _ c.args.reader.now c.skip_later.new.reader (proofs_is n)
-    (pairs_told (HoldsFirst m inv) Skips P (shown_at 105 n) (later_at n) a_proofs c.in_ok-found.found (tt {0}) (Some c.in-Some.fault) _ _ _ c.args.reader.now c.check_first.new.reader c.skip_later.new.reader
+    same_reads P (λ bytes. shown_at 105 n bytes >>= λ a. (later_at n a.1 >>= λ l. Some (a_proofs a.0 l.0, l.1))) (proofs_at n) (Ok (Some c.in-Some.fault)) _ _ c.args.reader.now.held c.skip_later.new.reader.held (proofs_is n)
+    (pairs_told (HoldsFirst m inv) Skips P (shown_at 105 n) (later_at n) a_proofs c.in_ok-found.found (tt {0}) (Some c.in-Some.fault) _ _ _ c.args.reader.now.held c.check_first.new.reader.held c.skip_later.new.reader.held
     c.in_ok-found.ensures.says (rw c.len.ensures at c.in_ok-skip_later.ensures.says)
     (λ s l derived u. inl (subst (λ o. HoldsFirst m inv s o) c.in-Some.is derived)))
 

@@ -39,8 +39,8 @@ returns-in-Some-clause-says g c f is =
     let t = c.feed_section.new.refuter.stage in
     let fault = c.in-Some.fault in
     let cs : List (List ℤ) = map (map (literal c.args.timed.time.max_var c.args.timed.time.offset)) c.args.timed.clauses.now in
-    same_reads (IsDerived f cs) (λ bytes. section_at k bytes >>= λ a. (many_at hints_at n a.1 >>= λ h. Some (a_shown a.0 h.0, h.1))) (shown_at k n) (Ok (Some fault)) _ _ c.args.reader.now c.skip_hints.new.reader (shown_is k n)
-    (pairs_told (AreFed r.base.vars r.stage t) Skips (IsDerived f cs) (section_at k) (many_at hints_at n) a_shown c.in_ok-found.found (tt {0}) (Some fault) _ _ _ c.args.reader.now c.feed_section.new.reader c.skip_hints.new.reader
+    same_reads (IsDerived f cs) (λ bytes. section_at k bytes >>= λ a. (many_at hints_at n a.1 >>= λ h. Some (a_shown a.0 h.0, h.1))) (shown_at k n) (Ok (Some fault)) _ _ c.args.reader.now.held c.skip_hints.new.reader.held (shown_is k n)
+    (pairs_told (AreFed r.base.vars r.stage t) Skips (IsDerived f cs) (section_at k) (many_at hints_at n) a_shown c.in_ok-found.found (tt {0}) (Some fault) _ _ _ c.args.reader.now.held c.feed_section.new.reader.held c.skip_hints.new.reader.held
     c.in_ok-found.ensures.says (rw c.len.ensures at c.in_ok-skip_hints.ensures.says)
     (λ lines hints fed u. derived_halts f cs r t fault is lines hints (subst (λ o. AreFed r.base.vars r.stage t lines o) c.in-Some.is fed)))
 

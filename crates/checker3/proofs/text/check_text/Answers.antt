@@ -43,8 +43,8 @@ returns-clause-says g c =
     let P = λ (d : Certificate) (found : Outcome). (found.claim ≡ d.claim) × IsJudged c.args.circuit.now d found.refusal in
     let claim = c.in_ok-claim.claim in
     let told : Option Refusal → Outcome = λ found. record { claim = claim; refusal = found } in
-    same_reads P (λ bytes. first_line_at bytes >>= λ u. then_claim u.0 u.1) certificate_at (Ok (told c.in_ok-refusal.refusal)) _ _ c.args.reader.now c.check_claim.new.reader certificate_is
-    (goes_on P first_line_at then_claim (tt {0}) (Ok (told c.in_ok-refusal.refusal)) _ _ _ c.args.reader.now c.line.new.self c.check_claim.new.reader c.in_ok-line.ensures.says
-    (goes_on P claim_at then_evidence claim (Ok (told c.in_ok-refusal.refusal)) _ _ _ c.line.new.self c.line-2.new.self c.check_claim.new.reader c.in_ok-claim.ensures.says
-    (maps_ok (λ e found. IsJudged c.args.circuit.now (a_certificate claim e) found) P evidence_at (a_certificate claim) told c.in_ok-refusal.refusal _ _ c.line-2.new.self c.check_claim.new.reader c.in_ok-refusal.ensures.says
+    same_reads P (λ bytes. first_line_at bytes >>= λ u. then_claim u.0 u.1) certificate_at (Ok (told c.in_ok-refusal.refusal)) _ _ c.args.reader.now.held c.check_claim.new.reader.held certificate_is
+    (goes_on P first_line_at then_claim (tt {0}) (Ok (told c.in_ok-refusal.refusal)) _ _ _ c.args.reader.now.held c.line.new.self.held c.check_claim.new.reader.held c.in_ok-line.ensures.says
+    (goes_on P claim_at then_evidence claim (Ok (told c.in_ok-refusal.refusal)) _ _ _ c.line.new.self.held c.line-2.new.self.held c.check_claim.new.reader.held c.in_ok-claim.ensures.says
+    (maps_ok (λ e found. IsJudged c.args.circuit.now (a_certificate claim e) found) P evidence_at (a_certificate claim) told c.in_ok-refusal.refusal _ _ c.line-2.new.self.held c.check_claim.new.reader.held c.in_ok-refusal.ensures.says
     (λ e found judged. (refl, judged)))))

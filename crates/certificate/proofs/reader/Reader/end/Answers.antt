@@ -1,18 +1,6 @@
-use Rattle.std.proofs.Common.{rules, ◌≡◌, ◌<◌, subst}
-use Rattle.pieces.specs.Pieces.{Lies}
-use Rattle.certificate.proofs.StreamLaws.{end_found, end_missed}
+use Rattle.certificate.proofs.StreamLaws.{end_refused_again}
 use Rattle.certificate.proofs.reader.Reader.end.Goals as goal
 
-pub returns-then-n-gt0-clause-says : goal.returns-then-n-gt0-clause-says
-returns-then-n-gt0-clause-says g c text later left =
-    let (ys, before, lies) = c.in_ok-n.ensures.reads text later left in
-    let here : Lies c.args.self.now ys c.next.new.self later c.in_ok-n.n = subst (λ held. Lies held ys c.next.new.self later c.in_ok-n.n) c.self.view_is lies in
-    let some : 0 < c.in_ok-n.n = search rules in
-    (ys, before, end_missed c.args.self.now c.next.new.self ys later c.in_ok-n.n here c.in_ok-n.ensures.within some)
-
-pub returns-clause-says : goal.returns-clause-says
-returns-clause-says g c text later left =
-    let (ys, before, lies) = c.in_ok-n.ensures.reads text later left in
-    let here : Lies c.args.self.now ys c.next.new.self later c.in_ok-n.n = subst (λ held. Lies held ys c.next.new.self later c.in_ok-n.n) c.self.view_is lies in
-    let none : c.in_ok-n.n ≡ 0 = search rules in
-    (ys, before, end_found c.args.self.now c.next.new.self ys later c.in_ok-n.n none here)
+pub returns-in-Some-clause-says : goal.returns-in-Some-clause-says
+returns-in-Some-clause-says g c text later left =
+    (later, left, end_refused_again c.self.inside.pieces c.self.inside.refusal c.in-Some.refusal c.args.self.now later c.self.view_is c.in-Some.is)

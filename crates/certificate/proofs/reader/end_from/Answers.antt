@@ -1,0 +1,15 @@
+use Rattle.std.proofs.Common.{rules, ◌≡◌, ◌<◌}
+use Rattle.certificate.proofs.StreamLaws.{end_found, end_missed}
+use Rattle.certificate.proofs.reader.end_from.Goals as goal
+
+pub returns-then-n-gt0-clause-says : goal.returns-then-n-gt0-clause-says
+returns-then-n-gt0-clause-says g c text later left =
+    let (ys, before, lies) = c.in_ok-n.ensures.reads text later left in
+    let some : 0 < c.in_ok-n.n = search rules in
+    (ys, before, end_missed c.args.pieces.now c.next.new.self ys later c.in_ok-n.n lies c.in_ok-n.ensures.within some)
+
+pub returns-clause-says : goal.returns-clause-says
+returns-clause-says g c text later left =
+    let (ys, before, lies) = c.in_ok-n.ensures.reads text later left in
+    let none : c.in_ok-n.n ≡ 0 = search rules in
+    (ys, before, end_found c.args.pieces.now c.next.new.self ys later c.in_ok-n.n none lies)
