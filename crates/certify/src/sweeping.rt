@@ -9,6 +9,9 @@ use solver::SatError;
 use std::alloc::Global;
 use sweep::{STEPS, Sweep};
 
+/// Sweeping begins where the cases have taken so many steps for each gate, which is about what it takes itself.
+const STEPS_OF_A_GATE: u64 = 100;
+
 /// Whether a few steps show that the signals of a pair do not differ in this direction.
 fn is_shown(
     alloc: Global,
@@ -34,7 +37,7 @@ fn is_shown(
 }
 
 /// Asks of pairs of signals whether they can differ, for what the refuter learns of it: the lemmas of which short proofs are made.
-pub(crate) fn sweep_pairs(
+fn sweep_pairs(
     alloc: Global,
     circuit: &Model,
     invariant: &[Seq<Lit>],
@@ -55,4 +58,43 @@ pub(crate) fn sweep_pairs(
         }
     }
     Ok(())
+}
+
+/// Sweeping that waits until it is worth its steps: cases that are shown at once need none.
+#[derive(Drop)]
+pub(crate) struct Sweeping {
+    /// how many steps the budget has left at most where it begins
+    due: u64,
+    is_done: bool,
+}
+
+impl Sweeping {
+    /// Sweeping that has not begun.
+    pub(crate) fn new(circuit: &Model, budget: &Budget) -> Sweeping {
+        let patience = STEPS_OF_A_GATE.saturating_mul(circuit.gates().len() as u64);
+        Sweeping {
+            due: budget.left().saturating_sub(patience),
+            is_done: false,
+        }
+    }
+
+    /// Sweeps, once, where it is due: what the refuter learns of signals makes the proofs of the further cases short.
+    pub(crate) fn run(
+        &mut self,
+        alloc: Global,
+        circuit: &Model,
+        invariant: &[Seq<Lit>],
+        refuter: &mut Refuter,
+        budget: &mut Budget,
+    ) -> Result<(), SatError>
+        requires { refuter.old.formula.vars ≡ circuit.now.max_var + 1 }
+        ensures same { refuter.new ≡ refuter.old }
+        ensures spends { Spends budget.old budget.new }
+    {
+        if self.is_done || budget.left() > self.due {
+            return Ok(());
+        }
+        self.is_done = true;
+        sweep_pairs(alloc, circuit, invariant, refuter, budget)
+    }
 }
