@@ -8,9 +8,11 @@ use Rattle.base.specs.Devices.{PutsBeginning}
 use Rattle.base.proofs.Putting.{begins_behind, begins_more}
 use Rattle.trace.specs.declared.signals.Signal.{Signal}
 use Rattle.trace.specs.Changes.{part_of}
+use Rattle.trace.specs.Columns.{rows_of}
 use Rattle.trace.specs.Numbers.{hex_below}
 use Rattle.trace.specs.Traces.{cell_text, number_cell, values_width}
 use Rattle.trace.specs.Widths.{spaces, width_of}
+use Rattle.trace.proofs.ColumnLaws.{rows_long}
 
 -- one text more
 width_push : (texts : List (List ℕ)) (text : List ℕ) → width_of (texts ++ text ∷ []) ≡ max (width_of texts) (length text)
@@ -24,8 +26,8 @@ width_more f xs i d now new i_in is more =
 pub width_all : {A : Type 0} (f : A → List ℕ) (xs : List A) (i now : ℕ) → length xs ≤ i → now ≡ width_of (map f (take i xs)) → now ≡ width_of (map f xs)
 width_all {A} f xs i now all is = is ∙ ap (λ (ys : List A). width_of (map f ys)) (take_all i xs all)
 
-pub widths_long : (signals : List Signal) (rows : List (List (Option Bool))) (widths : List ℕ) → widths ≡ map (values_width signals) rows → length rows ≡ length widths
-widths_long signals rows widths is = sym (ap (λ (xs : List ℕ). length xs) is ∙ length-map rows (values_width signals))
+pub widths_long : (width times : ℕ) (signals : List Signal) (values : List (Option Bool)) (widths : List ℕ) → widths ≡ map (values_width signals) (rows_of width times values) → length widths ≡ times
+widths_long width times signals values widths is = ap (λ (xs : List ℕ). length xs) is ∙ length-map (rows_of width times values) (values_width signals) ∙ rows_long width times values
 
 -- the value of a signal at time n, in its column
 pub cell_now : (signals : List Signal) (rows : List (List (Option Bool))) (n : ℕ) (widths : List ℕ) (s : Signal) (now : List (Option Bool)) → n < length rows → widths ≡ map (values_width signals) rows → now ≡ get_or rows n [] →
