@@ -9,7 +9,7 @@ use Rattle.std.proofs.KnownBytes.{Appends-trans}
 use Rattle.std.proofs.lemmas.List.{append-nil, drop_all, drop_more, length-drop, take_all, take_more}
 use Rattle.base.specs.Devices.{PutsBeginning}
 use Rattle.base.proofs.Putting.{begins_behind, begins_more}
-use Rattle.trace.specs.Numbers.{are_known, binary_digit, binary_text, bit_number, number_of, digit_of, hex_below, known_text, number_text}
+use Rattle.trace.specs.Numbers.{are_known, binary_digit, binary_text, bit_number, number_of, digit_of, hex_below, known_text, number_text, open_text}
 
 pub bit_small : (b : Option Bool) → bit_number b < 2
 bit_small None = omega arith
@@ -79,6 +79,11 @@ binary_push (a ∷ bits) b = ap (λ (t : List ℕ). t ++ binary_digit a ∷ []) 
 pub binary_long : (bits : List (Option Bool)) → length (binary_text bits) ≡ length bits
 binary_long [] = refl
 binary_long (b ∷ bits) = let h = binary_long bits in let both = length-append (binary_text bits) (binary_digit b ∷ []) in omega (arith, both, h)
+
+pub open_several : (bits : List (Option Bool)) → 2 ≤ length bits → open_text bits ≡ codes "0b" ++ binary_text bits
+open_several [] more = absurd (omega (arith, more))
+open_several (b ∷ []) more = absurd (omega (arith, more))
+open_several (b ∷ c ∷ bits) more = refl
 
 -- digits were put, and those of the lowest k bits are left
 pub record BinaryPut (bits : List (Option Bool)) (k : ℕ) (before after : Option (List ℕ)) : Type 0 where

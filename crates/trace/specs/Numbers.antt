@@ -40,6 +40,12 @@ hex_below (suc n) bits = digit_of (number_of (take 4 (drop (4 * n) bits))) ∷ h
 abbrev pub known_text : List (Option Bool) → List ℕ
 known_text bits = if nat_le (length bits) 64 then decimal (number_of bits) else codes "0x" ++ hex_below ((length bits + 3) / 4) bits
 
+-- the digits of bits of which one is open, of several bits behind 0b
+abbrev pub open_text : List (Option Bool) → List ℕ
+open_text [] = []
+open_text (b ∷ []) = binary_digit b ∷ []
+open_text (b ∷ c ∷ bits) = codes "0b" ++ binary_text (b ∷ c ∷ bits)
+
 -- the number of the bits, or where one is open their digits in binary
 abbrev pub number_text : List (Option Bool) → List ℕ
-number_text bits = if are_known bits then known_text bits else binary_text bits
+number_text bits = if are_known bits then known_text bits else open_text bits

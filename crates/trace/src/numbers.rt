@@ -2,7 +2,7 @@
 
 ghost use Rattle.std.specs.Prelude.{◌≡◌, ◌+◌, ◌-◌, ◌*◌, ◌/◌, ◌^◌, ◌<◌, ◌≤◌, length, take, drop, decimal};
 ghost use Rattle.base.specs.Devices.{CountsFailure, Puts};
-ghost use Rattle.trace.specs.Numbers.{are_known as are_known_bits, binary_digit as digit_of_bit, binary_text, bit_number, digit_of, hex_below, known_text, number_of, number_text};
+ghost use Rattle.trace.specs.Numbers.{are_known as are_known_bits, binary_digit as digit_of_bit, binary_text, bit_number, digit_of, hex_below, known_text, number_of, number_text, open_text};
 
 use graph::{Failed, Sink, put_all};
 use itoa::Buffer;
@@ -108,11 +108,22 @@ fn known_length(bits: &[Option<bool>]) -> usize
     }
 }
 
+/// The length of the digits of bits of which one is open.
+fn open_length(bits: &[Option<bool>]) -> usize
+    ensures { result ≡ length (open_text bits.now) }
+{
+    match bits {
+        [] => 0,
+        [_bit] => 1,
+        [_, _, ..] => 2 + bits.len(),
+    }
+}
+
 /// The length of the text of the number of the bits.
 pub fn number_length(bits: &[Option<bool>]) -> usize
     ensures { result ≡ length (number_text bits.now) }
 {
-    if are_known(bits) { known_length(bits) } else { bits.len() }
+    if are_known(bits) { known_length(bits) } else { open_length(bits) }
 }
 
 /// Puts the digits of the bits in binary, the highest first.
@@ -125,6 +136,22 @@ fn put_binary<W: Sink>(out: &mut W, bits: &[Option<bool>]) -> Result<(), Failed>
         put_all(out, &[binary_digit(bits[k])])?;
     }
     Ok(())
+}
+
+/// Puts the digits of bits of which one is open.
+fn put_open<W: Sink>(out: &mut W, bits: &[Option<bool>]) -> Result<(), Failed>
+    requires { W.failed out.old < 2 ^ 64 - 1 }
+    ensures puts { Puts result (W.contents out.old) (W.contents out.new) (open_text bits.now) }
+    ensures counts { CountsFailure (W.failed out.old) (W.failed out.new) result }
+{
+    match bits {
+        [] => Ok(()),
+        [bit] => put_all(out, &[binary_digit(*bit)]),
+        [_, _, ..] => {
+            put_all(out, b"0b")?;
+            put_binary(out, bits)
+        }
+    }
 }
 
 /// Puts the number of bits that are known.
@@ -141,11 +168,11 @@ fn put_known<W: Sink>(out: &mut W, bits: &[Option<bool>]) -> Result<(), Failed>
     put_hex(out, bits)
 }
 
-/// Puts the number of the bits: in decimal, in hexadecimal where there are more than 64, or in binary where one is open.
+/// Puts the number of the bits: in decimal, in hexadecimal where there are more than 64, or where one is open in binary.
 pub fn put_number<W: Sink>(out: &mut W, bits: &[Option<bool>]) -> Result<(), Failed>
     requires { W.failed out.old < 2 ^ 64 - 1 }
     ensures puts { Puts result (W.contents out.old) (W.contents out.new) (number_text bits.now) }
     ensures counts { CountsFailure (W.failed out.old) (W.failed out.new) result }
 {
-    if are_known(bits) { put_known(out, bits) } else { put_binary(out, bits) }
+    if are_known(bits) { put_known(out, bits) } else { put_open(out, bits) }
 }
