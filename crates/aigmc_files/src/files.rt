@@ -89,16 +89,25 @@ pub enum Shown {
     Open(Loose),
 }
 
+/// Whether a value of the row is open.
+fn is_open(row: &[Option<bool>]) -> bool {
+    row.iter().any(|value| value.is_none())
+}
+
 /// Whether a value of the rows is open.
 fn has_open(rows: &[Seq<Option<bool>>]) -> bool {
-    rows.iter().any(|row| row.as_slice().iter().any(|value| value.is_none()))
+    rows.iter().any(|row| is_open(row.as_slice()))
 }
 
 /// What a text says that leaves values open, and that has one property and a first state.
 fn open_of(rt: &HostRuntime, circuit: &Model, text: &[u8]) -> Option<Loose> {
-    let loose = witness::read(rt.alloc(), circuit, text).ok()?;
-    let is_open = loose.has_state && loose.properties.len() == 1 && has_open(loose.rows.as_slice());
-    is_open.then_some(loose)
+    let Ok(loose) = witness::read(rt.alloc(), circuit, text) else {
+        return None;
+    };
+    if loose.has_state && loose.properties.len() == 1 && has_open(loose.rows.as_slice()) {
+        return Some(loose);
+    }
+    None
 }
 
 /// What a trace shows of the file of this name. The refusal of a text is that of a stimulus.
