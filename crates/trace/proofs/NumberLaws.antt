@@ -85,6 +85,13 @@ open_several [] more = absurd (omega (arith, more))
 open_several (b ∷ []) more = absurd (omega (arith, more))
 open_several (b ∷ c ∷ bits) more = refl
 
+pub open_long : (bits : List (Option Bool)) → 2 ≤ length bits → 2 + length bits ≡ length (open_text bits)
+open_long bits more =
+    let whole = ap (λ (t : List ℕ). length t) (open_several bits more) in
+    let parts = length-append (codes "0b") (binary_text bits) in
+    let two : length (codes "0b") ≡ 2 = refl in
+    omega (arith, whole, parts, two, binary_long bits)
+
 -- digits were put, and those of the lowest k bits are left
 pub record BinaryPut (bits : List (Option Bool)) (k : ℕ) (before after : Option (List ℕ)) : Type 0 where
   pub done : List ℕ

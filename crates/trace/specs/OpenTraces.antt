@@ -1,16 +1,16 @@
 -- Traces of all replays that have what is given of a first state and of lines: what is known of them.
-use Rattle.std.specs.Prelude.{◌≡◌, ◌≢◌, ℕ, ◌+◌, ◌*◌, ◌<◌, ◌⊎◌, Bool, List, [], length, map, Option, None, Some, slice_index_or, All}
+use Rattle.std.specs.Prelude.{◌≡◌, ◌≢◌, ℕ, ◌+◌, ◌*◌, ◌<◌, ◌⊎◌, Bool, true, false, List, [], length, map, Option, None, slice_index_or, All}
 use Rattle.std.specs.Io.KnownBytes.{Appends}
 use Rattle.base.specs.Devices.{PutsBeginning}
 use Rattle.graph.specs.declared.circuit.Latch.{Latch}
 use Rattle.graph.specs.declared.parts.Parts.{Parts}
 use Rattle.graph.specs.Valuation.{Valuation}
 use Rattle.graph.specs.File.{File}
-use Rattle.simulate.specs.Starts.{IsFine, Starts}
+use Rattle.simulate.specs.Starts.{Starts}
 use Rattle.stimulus.specs.declared.sim_error.SimError.{SimError}
 use Rattle.stimulus.specs.declared.sim_error.SimError.TheVariants.{NotViolated, LineLength, NoInputLine, InitialReset, Device, OutOfMemory}
 use Rattle.stimulus.specs.Shown.{IsReplay}
-use Rattle.witness.specs.Completions.{Completes}
+use Rattle.witness.specs.Completions.{Completes, Keeps}
 use Rattle.witness.specs.Cleared.{CompleteAll}
 use Rattle.trace.specs.declared.bits.Bit.{Bit}
 use Rattle.trace.specs.declared.signals.Signal.{Signal}
@@ -39,9 +39,9 @@ pub record HasFitRows (m : Parts) (initial : List (Option Bool)) (inputs : List 
   pub inputs_fit : All (λ row. length row ≡ length m.inputs) inputs
 
 -- a latch that is reset to 0 or to 1 is open, or has that value
-abbrev pub IsOpenFine : Latch → Option Bool → Type 0
-IsOpenFine l None = Unit {0}
-IsOpenFine l (Some value) = IsFine l value
+pub record IsOpenFine (l : Latch) (given : Option Bool) : Type 0 where
+  pub low : l.reset.0 ≡ 0 → Keeps given false
+  pub high : l.reset.0 ≡ 1 → Keeps given true
 
 -- so is the k-th latch
 abbrev pub IsOpenFineAt : List Latch → List (Option Bool) → ℕ → Type 0

@@ -1,9 +1,9 @@
 //! Whether what is given of a first state and of lines can be replayed.
 
-ghost use Rattle.std.specs.Prelude.{◌≡◌, ◌≢◌, ℕ, ◌<◌, ◌↔◌, IsTrue, All, List, Option, Bool, length, IfErr, OnOk, MatchOption};
+ghost use Rattle.std.specs.Prelude.{◌≡◌, ◌≢◌, ℕ, ◌<◌, ◌↔◌, IsTrue, [], All, length, IfErr, OnOk, MatchOption};
 ghost use Rattle.trace.specs.OpenTraces.{AreOpenFine, HasFitRows, HasOpenCause, IsFirstOpenAgainst, IsOpenFine, IsOpenPlayable, IsWrongRow, IsWrongRowOf};
 
-use graph::{Latch, Parts, Seq};
+use graph::{Latch, Model, Parts, Seq};
 use stimulus::SimError;
 
 /// The position of the first row that has another length.
@@ -62,13 +62,14 @@ fn first_open_against(latches: &[Latch], given: &[Option<bool>]) -> Option<usize
     None
 }
 
-/// Refuses what cannot be replayed.
-pub fn check_open(
+/// Refuses a row of another length, and no row of inputs.
+fn check_rows(
     parts: &Parts,
     initial: &[Option<bool>],
     inputs: &[Seq<Option<bool>>],
 ) -> Result<(), SimError>
-    ensures playable { OnOk result (IsOpenPlayable parts.now initial.now inputs.now) }
+    ensures fit { OnOk result (HasFitRows parts.now initial.now inputs.now) }
+    ensures some { OnOk result (inputs.now ≢ []) }
     ensures refused { IfErr result (λ e. (e ≢ SimError.Device) × HasOpenCause parts.now initial.now inputs.now e) }
 {
     if let Some(line) = wrong_row(parts, initial, inputs) {
@@ -77,6 +78,20 @@ pub fn check_open(
     if inputs.is_empty() {
         return Err(SimError::NoInputLine);
     }
+    Ok(())
+}
+
+/// Refuses what cannot be replayed.
+pub fn check_open(
+    circuit: &Model,
+    initial: &[Option<bool>],
+    inputs: &[Seq<Option<bool>>],
+) -> Result<(), SimError>
+    ensures playable { OnOk result (IsOpenPlayable circuit.now initial.now inputs.now) }
+    ensures refused { IfErr result (λ e. (e ≢ SimError.Device) × HasOpenCause circuit.now initial.now inputs.now e) }
+{
+    let parts = circuit.parts();
+    check_rows(parts, initial, inputs)?;
     match first_open_against(parts.latches.as_slice(), initial) {
         Some(latch) => Err(SimError::InitialReset {
             latch: latch as u32,

@@ -92,7 +92,8 @@ impl<'a> SignalValues<'a> {
         ensures refused { IfErr result (λ e. (e ≢ SimError.Device) × HasOpenCause file.now.model initial.now inputs.now e) }
     {
         let model = file.model();
-        check_open(model.parts(), initial, inputs)?;
+        model.well_formed();
+        check_open(model, initial, inputs)?;
         let bits = sorted_bits(alloc, file, all)?;
         let signals = signals_of(alloc, &bits)?;
         let values = open_rows(alloc, model, initial, inputs, &bits)?;

@@ -1,5 +1,5 @@
-use Rattle.std.proofs.Common.{◌≡◌, ◌*◌, ◌<◌, ◌≤◌, ◌∙◌, ◌++◌, List, Bool, Option, [], length, drop, arith, ap}
-use Rattle.std.proofs.lemmas.List.{drop_all}
+use Rattle.std.proofs.Common.{◌≡◌, ◌<◌, ◌∙◌, ◌++◌, ℕ, length, arith, ap}
+use Rattle.trace.specs.Changes.{stamp_text}
 use Rattle.trace.specs.Columns.{rows_of}
 use Rattle.trace.proofs.ChangeLaws.{times_all, times_more}
 use Rattle.trace.proofs.ColumnLaws.{row_fits, row_front, row_later, row_long, rows_long}
@@ -30,3 +30,10 @@ loop-time-preserved c =
       put = times_more bits c.args.signals.now rows n c.loop-time.before.now c.split_at.result.0.now c.loop-time.text.items c.push_stamp.new.text.items c.push_changes.new.text.items _ n_row row
           c.in_ok-push_stamp.ensures c.in_ok-push_changes.ensures c.loop-time.invariant.put;
     }
+
+pub returns : goal.returns
+returns c =
+    let rows = rows_of (length c.args.bits.now) c.args.times c.args.values.now in
+    let ended : c.args.times ≡ c.loop-time.time = omega arith in
+    times_all c.args.bits.now c.args.signals.now rows c.loop-time.time c.loop-time.before.now c.loop-time.text.items c.push_stamp-2.new.text.items _ (omega (arith, rows_long (length c.args.bits.now) c.args.times c.args.values.now))
+    (c.in_ok-push_stamp-2.ensures ∙ ap (λ (n : ℕ). c.loop-time.text.items ++ stamp_text n) ended) c.loop-time.invariant.put

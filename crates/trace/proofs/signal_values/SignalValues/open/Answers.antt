@@ -13,22 +13,18 @@ pub returns-in_err-check_open-clause-refused : goal.returns-in_err-check_open-cl
 returns-in_err-check_open-clause-refused c =
     let refused = c.in_err-check_open.ensures.refused in
     err_at c.from_residual.result c.in_err-check_open.field-0.0 (λ x. (x ≢ Device) × HasOpenCause c.args.file.now.model c.args.initial.now c.args.inputs.now x) c.from_residual.ensures.1
-    (refused.0, rw (c.parts.ensures.parts, c.model-model.ensures) at refused.1)
+    (refused.0, rw (c.model-model.ensures) at refused.1)
 
 pub open_rows-requires-clause-initial : goal.open_rows-requires-clause-initial
-open_rows-requires-clause-initial c =
-    let playable = rw (c.parts.ensures.parts) at c.in_ok-check_open.ensures.playable in
-    playable.rows.latches
+open_rows-requires-clause-initial c = c.in_ok-check_open.ensures.playable.rows.latches
 
 pub open_rows-requires-clause-lines_fit : goal.open_rows-requires-clause-lines_fit
-open_rows-requires-clause-lines_fit c =
-    let playable = rw (c.parts.ensures.parts) at c.in_ok-check_open.ensures.playable in
-    playable.rows.inputs_fit
+open_rows-requires-clause-lines_fit c = c.in_ok-check_open.ensures.playable.rows.inputs_fit
 
 pub open_rows-requires-clause-in_range : goal.open_rows-requires-clause-in_range
 open_rows-requires-clause-in_range c =
     let f = c.args.file.now in
-    let well : IsWellFormed f.model = subst IsWellFormed c.model-model.ensures c.parts.ensures.well_formed in
+    let well : IsWellFormed f.model = subst IsWellFormed c.model-model.ensures c.well_formed-2.ensures in
     rw (c.deref-2.ensures.value, c.model-model.ensures) (shown_in_range f c.args.all c.in_ok-bits.bits.items well c.in_ok-bits.ensures)
 
 pub returns-clause-values : goal.returns-clause-values
@@ -39,7 +35,7 @@ returns-clause-values c =
     let values = c.in_ok-values.values.items in
     let stand = rw (c.deref-2.ensures.value, c.model-model.ensures) at c.in_ok-values.ensures.stand in
     record {
-      playable = rw (c.parts.ensures.parts, c.model-model.ensures) at c.in_ok-check_open.ensures.playable;
+      playable = rw (c.model-model.ensures) at c.in_ok-check_open.ensures.playable;
       are_shown = c.in_ok-bits.ensures;
       are_signals = rw (c.deref.ensures.value) at c.in_ok-signals.ensures;
       long = rw (c.deref-2.ensures.value) at c.in_ok-values.ensures.long;
