@@ -9,7 +9,7 @@ use Rattle.std.proofs.KnownBytes.{Appends-trans}
 use Rattle.std.proofs.lemmas.List.{append-nil, drop_all, drop_more, length-drop, take_all, take_more}
 use Rattle.base.specs.Devices.{PutsBeginning}
 use Rattle.base.proofs.Putting.{begins_behind, begins_more}
-use Rattle.trace.specs.Numbers.{are_known, binary_digit, binary_text, bit_number, number_of, digit_of, hex_below, known_text, number_text, open_text}
+use Rattle.trace.specs.Numbers.{are_known, binary_digit, binary_text, bit_number, number_of, digit_of, hex_below, known_text, open_text}
 
 pub bit_small : (b : Option Bool) → bit_number b < 2
 bit_small None = omega arith

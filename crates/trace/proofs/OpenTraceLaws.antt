@@ -1,5 +1,5 @@
 -- Why there is no trace of what is known.
-use Rattle.std.proofs.Common.{◌≢◌, ℕ, Bool, List, Option, refl}
+use Rattle.std.proofs.Common.{ℕ, Bool, List, Option}
 use Rattle.base.specs.Devices.{PutsBeginning}
 use Rattle.graph.specs.File.{File}
 use Rattle.stimulus.specs.declared.sim_error.SimError.{SimError}

@@ -3,7 +3,7 @@ use Rattle.std.proofs.Common.{◌≡◌, ℕ, zero, suc, ◌+◌, ◌-◌, ◌<�
 use Rattle.std.specs.Io.KnownBytes.{Appends}
 use Rattle.std.proofs.KnownBytes.{Appends-trans}
 use Rattle.std.proofs.Math.Nat.{max_comm}
-use Rattle.std.proofs.lemmas.List.{get_or-map, length-map, map_more, take_all, take-append-drop, take-replicate, drop-replicate, replicate_more, take-map, drop-map}
+use Rattle.std.proofs.lemmas.List.{get_or-map, length-map, map_more, take_all, take-append-drop, take-replicate, drop-replicate, replicate_more}
 use Rattle.base.specs.Devices.{PutsBeginning}
 use Rattle.base.proofs.Putting.{begins_behind, begins_more}
 use Rattle.trace.specs.declared.signals.Signal.{Signal}

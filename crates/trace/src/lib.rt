@@ -8,12 +8,12 @@
 //! - `put_vcd` puts the same replay as a waveform: a value change dump of IEEE 1364, with a variable for each signal
 //!   (`wave_text`).
 //! - Both tell the time at which the loop of a lasso begins (`IsLoopStart`).
-//! - `put_open_trace` and `put_open_vcd` put what is known of all replays of which only some values are given, and `x` for
-//!   what is open (`PutsOpenTrace`).
+//! - `put_open_trace` and `put_open_vcd` put what is known of all replays of which only some values are given, and `x`
+//!   for what is open (`PutsOpenTrace`).
 //!
-//! Replaying costs the gates for each time, for a justice property at most twice that, and the order of the names n log n.
-//! The memory is that of the bits, and a value of each bit and a width at each time; a waveform's text is in memory too
-//! before it is put.
+//! Replaying costs the gates for each time, for a justice property at most twice that, and n log n for the order of the
+//! names. The memory is that of the bits, and a value of each bit and a width at each time; a waveform's text is in
+//! memory too before it is put.
 #![tactic(auto)]
 
 mod bits;

@@ -168,7 +168,8 @@ fn put_known<W: Sink>(out: &mut W, bits: &[Option<bool>]) -> Result<(), Failed>
     put_hex(out, bits)
 }
 
-/// Puts the number of the bits: in decimal, in hexadecimal where there are more than 64, or where one is open in binary.
+/// Puts the number of the bits: in decimal, in hexadecimal where there are more than 64, or where one is open in
+/// binary.
 pub fn put_number<W: Sink>(out: &mut W, bits: &[Option<bool>]) -> Result<(), Failed>
     requires { W.failed out.old < 2 ^ 64 - 1 }
     ensures puts { Puts result (W.contents out.old) (W.contents out.new) (number_text bits.now) }

@@ -78,8 +78,8 @@ impl<'a> SignalValues<'a> {
         })
     }
 
-    /// Replays what is given of a first state and of lines. It has no loop. Without `all` it has no signals whose names begin
-    /// with a dollar sign.
+    /// Replays what is given of a first state and of lines. It has no loop. Without `all` it has no signals whose names
+    /// begin with a dollar sign.
     pub fn open(
         alloc: Global,
         file: &'a AigerFile,

@@ -41,7 +41,8 @@ fn put_value<W: Sink>(out: &mut W, bits: &[Option<bool>], width: usize) -> Resul
     put_number(out, bits)
 }
 
-/// Puts the values of a signal, one for each time, in columns of these widths. `values` has those of all bits, time after time.
+/// Puts the values of a signal, one for each time, in columns of these widths. `values` has those of all bits, time
+/// after time.
 fn put_values<W: Sink>(
     out: &mut W,
     bits: &[Bit<'_>],
@@ -188,17 +189,17 @@ fn put_violated<W: Sink>(
     put_shown(alloc, &shown, inputs.len(), out)
 }
 
-/// Puts the trace of a stimulus's replay: for each signal a line `NAME VALUE VALUE ..`, with a value for each time. Signals are
-/// in the order inputs, latches, outputs, bad literals, constraints and fairness literals, each kind by its names. Without
-/// `all`, names that begin with a dollar sign are left out. A value is in decimal, or where a vector has more than 64 bits
-/// in hexadecimal behind `0x`. Names are put as they are, so a name may hold spaces. Behind each name are spaces up to the
-/// length of the longest, and before each value up to that of the longest at its time.
+/// Puts the trace of a stimulus's replay: for each signal a line `NAME VALUE VALUE ..`, with a value for each time.
+/// Signals are in the order inputs, latches, outputs, bad literals, constraints and fairness literals, each kind by its
+/// names. Without `all`, names that begin with a dollar sign are left out. A value is in decimal, or where a vector has
+/// more than 64 bits in hexadecimal behind `0x`. Names are put as they are, so a name may hold spaces. Behind each name
+/// are spaces up to the length of the longest, and before each value up to that of the longest at its time.
 ///
 /// Where the replay closes a lasso of a justice property, the last line is `loop TIME`, with the first time at which it
 /// begins. It looks neither at the constraints nor, apart from that, at the property.
 ///
-/// It refuses the first of no violation (65), a line's length (66), no input line (64) and a latch against its reset (60),
-/// with nothing put. After a failure of the sink a beginning of the trace was put.
+/// It refuses the first of no violation (65), a line's length (66), no input line (64) and a latch against its reset
+/// (60), with nothing put. After a failure of the sink a beginning of the trace was put.
 pub fn put_trace<W: Sink>(
     alloc: Global,
     file: &AigerFile,
@@ -217,12 +218,12 @@ pub fn put_trace<W: Sink>(
     put_violated(alloc, file, property, initial, inputs, all, out)
 }
 
-/// Puts the trace of all replays that have what is given of the first state and of the lines: a value is put where it is
-/// known, so where it is the same in each of them. An open bit is `x`, and a vector with an open bit is in binary, the highest
-/// bit first. Otherwise the text is that of `put_trace`; no loop is told.
+/// Puts the trace of all replays that have what is given of the first state and of the lines: a value is put where it
+/// is known, so where it is the same in each of them. An open bit is `x`, and a vector with an open bit is in binary
+/// behind `0b`, the highest bit first. Otherwise the text is that of `put_trace`; no loop is told.
 ///
-/// It refuses the first of a line's length (66), no input line (64) and a latch that is given against its reset (60), with
-/// nothing put. After a failure of the sink a beginning of the trace was put.
+/// It refuses the first of a line's length (66), no input line (64) and a latch that is given against its reset (60),
+/// with nothing put. After a failure of the sink a beginning of the trace was put.
 pub fn put_open_trace<W: Sink>(
     alloc: Global,
     file: &AigerFile,

@@ -109,23 +109,23 @@ fn put_violated<W: Sink>(
     put_shown(alloc, &shown, inputs.len(), out)
 }
 
-/// Puts a stimulus's replay as a value change dump (IEEE 1364), which viewers of waveforms read. It has a variable for each
-/// signal, in the order of `put_trace`, and without `all` none whose name begins with a dollar sign.
+/// Puts a stimulus's replay as a value change dump (IEEE 1364), which viewers of waveforms read. It has a variable for
+/// each signal, in the order of `put_trace`, and without `all` none whose name begins with a dollar sign.
 ///
 /// A name `a.b.c` is the variable `c` in the scope `b` of the scope `a`. A vector has its indices behind its name, the
-/// greatest first. The code of a variable is the letter of its kind and the position of its lowest bit, as `l3`; where there
-/// is no symbol it is the name too. In names a byte that is no printable character of ASCII is put as `_`, an empty part as
-/// `_`, and a part that begins with a dollar sign gets a backslash before it.
+/// greatest first. The code of a variable is the letter of its kind and the position of its lowest bit, as `l3`; where
+/// there is no symbol it is the name too. In names a byte that is no printable character of ASCII is put as `_`, an
+/// empty part as `_`, and a part that begins with a dollar sign gets a backslash before it.
 ///
-/// Time `t` of the replay is time `t` of the dump, a nanosecond each; at time 0 each variable has its value, and at each
-/// later time those that changed. The last line is the time after the last, so that the last values last as long as the
-/// others. It has no date.
+/// Time `t` of the replay is time `t` of the dump, a nanosecond each; at time 0 each variable has its value, and at
+/// each later time those that changed. The last line is the time after the last, so that the last values last as long
+/// as the others. It has no date.
 ///
-/// Where the replay closes a lasso of a justice property, the last declaration is `$comment loop TIME $end`, with the first
-/// time at which it begins. It looks neither at the constraints nor, apart from that, at the property.
+/// Where the replay closes a lasso of a justice property, the last declaration is `$comment loop TIME $end`, with the
+/// first time at which it begins. It looks neither at the constraints nor, apart from that, at the property.
 ///
-/// The text is made in memory and then put. It refuses the first of no violation (65), a line's length (66), no input line
-/// (64) and a latch against its reset (60), with nothing put. After a failure of the sink a beginning was put.
+/// The text is made in memory and then put. It refuses the first of no violation (65), a line's length (66), no input
+/// line (64) and a latch against its reset (60), with nothing put. After a failure of the sink a beginning was put.
 pub fn put_vcd<W: Sink>(
     alloc: Global,
     file: &AigerFile,
@@ -144,12 +144,12 @@ pub fn put_vcd<W: Sink>(
     put_violated(alloc, file, property, initial, inputs, all, out)
 }
 
-/// Puts all replays that have what is given of the first state and of the lines as a value change dump: a value is put where
-/// it is known, so where it is the same in each of them. An open bit is `x`. Otherwise the text is that of `put_vcd`; no
-/// loop is told.
+/// Puts all replays that have what is given of the first state and of the lines as a value change dump: a value is put
+/// where it is known, so where it is the same in each of them. An open bit is `x`. Otherwise the text is that of
+/// `put_vcd`; no loop is told.
 ///
-/// It refuses the first of a line's length (66), no input line (64) and a latch that is given against its reset (60), with
-/// nothing put. After a failure of the sink a beginning was put.
+/// It refuses the first of a line's length (66), no input line (64) and a latch that is given against its reset (60),
+/// with nothing put. After a failure of the sink a beginning was put.
 pub fn put_open_vcd<W: Sink>(
     alloc: Global,
     file: &AigerFile,

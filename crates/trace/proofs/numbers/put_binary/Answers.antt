@@ -1,5 +1,4 @@
-use Rattle.std.proofs.Common.{◌≡◌, ◌∙◌, ◌-◌, None, get_or, ap, arith, length}
-use Rattle.std.proofs.lemmas.List.{get_or_default}
+use Rattle.std.proofs.Common.{◌∙◌, ◌-◌, arith}
 use Rattle.base.proofs.Putting.{puts_err}
 use Rattle.trace.specs.Numbers.{binary_digit, binary_text}
 use Rattle.trace.proofs.NumberLaws.{binary_all, binary_cut, binary_more}

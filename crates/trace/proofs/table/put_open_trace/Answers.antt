@@ -1,4 +1,4 @@
-use Rattle.std.proofs.Common.{ℕ, Option, None, length, subst}
+use Rattle.std.proofs.Common.{ℕ, Option, length, subst}
 use Rattle.std.specs.Io.KnownBytes.{Appends}
 use Rattle.base.specs.Devices.{PutsBeginning}
 use Rattle.stimulus.proofs.RowLaws.{err_at}
