@@ -1,6 +1,6 @@
 use Rattle.std.proofs.Common.{◌∙◌, ◌-◌, arith}
 use Rattle.base.proofs.Putting.{puts_err}
-use Rattle.trace.specs.Numbers.{binary_digit, binary_text}
+use Rattle.trace.specs.Numbers.{binary_text}
 use Rattle.trace.proofs.NumberLaws.{binary_all, binary_cut, binary_more}
 use Rattle.trace.proofs.numbers.put_binary.Goals as goal
 
