@@ -1,6 +1,6 @@
 //! The command `trace`.
 
-use aigmc_files::{DONE, Stop, circuit, is_same, make_waveform, path_of, print_trace, stimulus_of};
+use aigmc_files::{DONE, Stop, circuit, is_same, make_waveform, path_of, print_trace, shown_of};
 use inputs::is_standard;
 
 /// Whether the file to make is the one that is read by that name.
@@ -8,8 +8,8 @@ fn is_read(rt: &HostRuntime, out: &str, name: &str) -> bool {
     !is_standard(out) && is_same(rt, out, path_of(name))
 }
 
-/// Prints the replay of a stimulus by the names of its signals, or makes the file of that name with its waveform, where one
-/// is named.
+/// Prints the trace of a stimulus, or of a text that leaves values open, by the names of the signals, or makes the file of
+/// that name with its waveform, where one is named.
 pub fn trace(
     rt: &HostRuntime,
     name: &str,
@@ -24,10 +24,10 @@ pub fn trace(
         return Err(Stop::Taken);
     }
     let file = circuit(rt, name)?;
-    let stimulus = stimulus_of(rt, stimulus)?;
+    let shown = shown_of(rt, stimulus, file.model())?;
     match waveform {
-        None => print_trace(rt, &file, &stimulus, all)?,
-        Some(out) => make_waveform(rt, out, &file, &stimulus, all)?,
+        None => print_trace(rt, &file, &shown, all)?,
+        Some(out) => make_waveform(rt, out, &file, &shown, all)?,
     }
     Ok(DONE)
 }

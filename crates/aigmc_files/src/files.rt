@@ -4,14 +4,15 @@ use crate::making::{Making, is_same};
 use crate::stop::{DONE, Role, Stop, about, at, finished, read_of};
 use base::buffered;
 use cli::{CliError, Layout, Verdict, load, put_certificate, put_file, put_table, show};
-use graph::{AigerFile, FromRead, Property, ReadAllError, ToWrite, read_all};
+use graph::{AigerFile, FromRead, Model, Property, ReadAllError, Seq, ToWrite, read_all};
 use inputs::{is_standard, open};
 use property_names::Name;
 use std::fs::File;
 use std::io;
 use std::io::{BufWriter, Write};
 use stimulus::Stimulus;
-use trace::{put_trace, put_vcd};
+use trace::{put_open_trace, put_open_vcd, put_trace, put_vcd};
+use witness::Loose;
 
 /// The status of a violation.
 pub const VIOLATED: u8 = 1;
@@ -77,6 +78,61 @@ fn read_stimulus(rt: &HostRuntime, name: &str) -> Result<Stimulus, Stop> {
 /// The stimulus in the file of this name.
 pub fn stimulus_of(rt: &HostRuntime, name: &str) -> Result<Stimulus, Stop> {
     read_of(Role::Stimulus, read_stimulus(rt, name))
+}
+
+/// What a trace shows.
+#[derive(Drop)]
+pub enum Shown {
+    /// The replay of a stimulus.
+    Whole(Stimulus),
+    /// What is known of all replays of a text that leaves values open.
+    Open(Loose),
+}
+
+/// Whether a value of the row is open.
+fn is_open(row: &[Option<bool>]) -> bool {
+    row.iter().any(|value| value.is_none())
+}
+
+/// Whether a value of the rows is open.
+fn has_open(rows: &[Seq<Option<bool>>]) -> bool {
+    rows.iter().any(|row| is_open(row.as_slice()))
+}
+
+/// What a text says that leaves values open, and that has one property and a first state.
+fn open_of(rt: &HostRuntime, circuit: &Model, text: &[u8]) -> Option<Loose> {
+    let Ok(loose) = witness::read(rt.alloc(), circuit, text) else {
+        return None;
+    };
+    if loose.has_state && loose.properties.len() == 1 && has_open(loose.rows.as_slice()) {
+        return Some(loose);
+    }
+    None
+}
+
+/// What a trace shows of the file of this name. The refusal of a text is that of a stimulus.
+fn read_shown(rt: &HostRuntime, name: &str, circuit: &Model) -> Result<Shown, Stop> {
+    let text = read_text(rt, name)?;
+    match stimulus::read(rt.alloc(), text.as_slice()) {
+        Ok(stimulus) => Ok(Shown::Whole(stimulus)),
+        Err(error) => match open_of(rt, circuit, text.as_slice()) {
+            Some(loose) => Ok(Shown::Open(loose)),
+            None => Err(Stop::from(CliError::Stimulus(error))),
+        },
+    }
+}
+
+/// What a trace shows of the file of this name.
+pub fn shown_of(rt: &HostRuntime, name: &str, circuit: &Model) -> Result<Shown, Stop> {
+    read_of(Role::Stimulus, read_shown(rt, name, circuit))
+}
+
+/// The first state and the inputs at each time.
+fn parts_of(loose: &Loose) -> (&[Option<bool>], &[Seq<Option<bool>>]) {
+    match loose.rows.as_slice() {
+        [] => (&[], &[]),
+        [initial, inputs @ ..] => (initial.as_slice(), inputs),
+    }
 }
 
 /// What a call put to the buffered writer, once all of it stands with the device. After a failure nothing
@@ -186,46 +242,60 @@ pub fn print_table(rt: &HostRuntime, file: &AigerFile, stimulus: &Stimulus) -> R
     settled(out, about(Role::Stimulus, put.map_err(Stop::from)))
 }
 
-/// Prints the replay of a stimulus by the names of its signals.
+/// Prints a trace by the names of the signals.
 pub fn print_trace(
     rt: &HostRuntime,
     file: &AigerFile,
-    stimulus: &Stimulus,
+    shown: &Shown,
     all: bool,
 ) -> Result<(), Stop> {
     let out = buffered(rt.alloc(), io::writer(rt))?;
     let mut out = ToWrite::new(out);
-    let put = put_trace(rt.alloc(), file, stimulus, all, &mut out).map_err(CliError::from);
+    let put = match shown {
+        Shown::Whole(stimulus) => put_trace(rt.alloc(), file, stimulus, all, &mut out),
+        Shown::Open(loose) => {
+            let (initial, inputs) = parts_of(loose);
+            put_open_trace(rt.alloc(), file, initial, inputs, all, &mut out)
+        }
+    };
+    let put = put.map_err(CliError::from);
     settled(out, about(Role::Stimulus, put.map_err(Stop::from)))
 }
 
-/// Writes the waveform of a stimulus's replay.
+/// Writes the waveform of a trace.
 fn write_waveform<W: Write + Drop>(
     rt: &HostRuntime,
     out: W,
     file: &AigerFile,
-    stimulus: &Stimulus,
+    shown: &Shown,
     all: bool,
 ) -> Result<(), Stop> {
     let out = buffered(rt.alloc(), out)?;
     let mut out = ToWrite::new(out);
-    let put = put_vcd(rt.alloc(), file, stimulus, all, &mut out).map_err(CliError::from);
+    let put = match shown {
+        Shown::Whole(stimulus) => put_vcd(rt.alloc(), file, stimulus, all, &mut out),
+        Shown::Open(loose) => {
+            let (initial, inputs) = parts_of(loose);
+            put_open_vcd(rt.alloc(), file, initial, inputs, all, &mut out)
+        }
+    };
+    let put = put.map_err(CliError::from);
     settled(out, about(Role::Stimulus, put.map_err(Stop::from)))
 }
 
-/// Makes the file of this name with the waveform of a stimulus's replay.
+/// Makes the file of this name with the waveform of a trace.
 pub fn make_waveform(
     rt: &HostRuntime,
     name: &str,
     file: &AigerFile,
-    stimulus: &Stimulus,
+    shown: &Shown,
     all: bool,
 ) -> Result<(), Stop> {
     if is_standard(name) {
-        return write_waveform(rt, io::writer(rt), file, stimulus, all);
+        return write_waveform(rt, io::writer(rt), file, shown, all);
     }
     let (making, out) = at(Role::Made, Making::begin(rt, name))?;
-    let written = write_waveform(rt, out, file, stimulus, all);
+    let written = write_waveform(rt, out, file, shown, all);
     at(Role::Made, making.end(rt, written))
 }
 

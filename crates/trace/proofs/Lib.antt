@@ -15,3 +15,4 @@ pub mod OpenLaws
 pub mod OpenReplayLaws
 pub mod OpenOrderLaws
 pub mod OpenFillLaws
+pub mod OpenTraceLaws

@@ -71,7 +71,7 @@ no_loop_output m n closing x = λ t l. let e = l.names in absurd cc
 
 -- ---- the state after the last line
 
-pub closing_at : (m : Parts) (initial : List Bool) (inputs : List (List Bool)) (bits : List Bit) (now : Replayed) (values : List Bool) → inputs ≢ [] → HasValues m initial inputs bits (length inputs) now values →
+pub closing_at : (m : Parts) (initial : List Bool) (inputs : List (List Bool)) (bits : List Bit) (now : Replayed) (values : List (Option Bool)) → inputs ≢ [] → HasValues m initial inputs bits (length inputs) now values →
     (x : List Valuation) → IsReplay m initial inputs x → now.state ≡ closing_state m x
 closing_at m initial inputs bits now values some h x x_is =
     let one = one_replay m initial inputs now h.valuations some h.played in

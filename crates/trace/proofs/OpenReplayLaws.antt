@@ -139,7 +139,7 @@ open_more m bits initial lines i line state after values rows more i_in is_line 
       };
 }
 
-complete_length : (lines : List (List (Option Bool))) (inputs : List (List Bool)) → CompleteAll lines inputs → length lines ≡ length inputs
+pub complete_length : (lines : List (List (Option Bool))) (inputs : List (List Bool)) → CompleteAll lines inputs → length lines ≡ length inputs
 complete_length [] [] all = refl
 complete_length [] (x ∷ inputs) all = absurd all
 complete_length (line ∷ lines) [] all = absurd all

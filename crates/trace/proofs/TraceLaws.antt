@@ -1,10 +1,9 @@
 -- What is put of a trace.
-use Rattle.std.proofs.Common.{◌≡◌, ◌≢◌, ℕ, Bool, List, [], length, Option, refl, sym, ap, ◌∙◌, arith}
-use Rattle.std.specs.List.{flat_map}
+use Rattle.std.proofs.Common.{◌≡◌, ◌≢◌, ◌*◌, ℕ, Bool, List, [], length, map, Option, Result, Ok, Err, OnOk, IfErr, refl, sym, ap, ◌∙◌, arith}
+use Rattle.base.specs.Devices.{PutsBeginning}
 use Rattle.graph.specs.declared.parts.Parts.{Parts}
 use Rattle.graph.specs.declared.circuit.Property.{Property}
 use Rattle.graph.specs.File.{File}
-use Rattle.graph.specs.Valuation.{Valuation}
 use Rattle.simulate.specs.Replays.{Replayed}
 use Rattle.stimulus.specs.declared.value.Stimulus.{Stimulus}
 use Rattle.stimulus.specs.declared.value.Stimulus.TheVariants.{Holds, Violated, Unknown}
@@ -14,10 +13,11 @@ use Rattle.stimulus.specs.Tables.{HasSimCauseIn}
 use Rattle.stimulus.proofs.PlayLaws.{one_replay}
 use Rattle.stimulus.proofs.PlaySteps.{played_long}
 use Rattle.trace.specs.declared.bits.Bit.{Bit}
-use Rattle.trace.specs.Columns.{AreValues, HasValues, values_at}
+use Rattle.trace.specs.Columns.{HasValues, known_at, rows_of}
 use Rattle.trace.specs.SignalValues.{AreOfReplay}
 use Rattle.trace.specs.Lines.{HasLines}
-use Rattle.trace.specs.Traces.{HasTraceCause, HasTraceCauseIn}
+use Rattle.trace.specs.Traces.{HasTraceCause, HasTraceCauseIn, IsCutShort, IsTraceCutOff}
+use Rattle.trace.proofs.ColumnLaws.{rows_known, values_long}
 
 -- what comes before the sink is the same for a table
 pub trace_cause : (f : File) (all : Bool) (p : Property) (initial : List Bool) (inputs : List (List Bool)) (before after : Option (List ℕ)) (e : SimError) → e ≢ Device →
@@ -37,7 +37,7 @@ no_trace f all (Holds p) before after none = refl
 no_trace f all (Unknown p) before after none = refl
 
 -- all lines were stepped: the values are those of their one replay
-pub of_replay : (m : Parts) (initial : List Bool) (inputs : List (List Bool)) (bits : List Bit) (now : Replayed) (values : List Bool) → inputs ≢ [] → HasValues m initial inputs bits (length inputs) now values →
+pub of_replay : (m : Parts) (initial : List Bool) (inputs : List (List Bool)) (bits : List Bit) (now : Replayed) (values : List (Option Bool)) → inputs ≢ [] → HasValues m initial inputs bits (length inputs) now values →
     AreOfReplay m initial inputs bits values
 of_replay m initial inputs bits now values some h =
     let one = one_replay m initial inputs now h.valuations some h.played in
@@ -46,10 +46,26 @@ of_replay m initial inputs bits now values some h =
       replay = h.valuations;
       replays = one.replays;
       only = one.only;
-      values_are = λ x x_is. h.are ∙ ap (flat_map (values_at bits)) (sym (one.only x x_is));
-      long = λ x x_is. ap (λ (r : List Valuation). length r) (one.only x x_is) ∙ long;
+      rows_are = λ x x_is. ap (λ (n : ℕ). rows_of (length bits) n values) (sym long) ∙ ap (λ (vs : List (Option Bool)). rows_of (length bits) (length h.valuations) vs) h.are ∙ rows_known bits h.valuations
+          ∙ ap (map (known_at bits)) (sym (one.only x x_is));
+      long = ap (λ (vs : List (Option Bool)). length vs) h.are ∙ values_long bits h.valuations ∙ ap (λ (n : ℕ). n * length bits) long;
     }
 
--- what the values of the bits at each time are for what puts them
-pub are_values : {m : Parts} {initial : List Bool} {inputs : List (List Bool)} {bits : List Bit} {values : List Bool} → AreOfReplay m initial inputs bits values → AreValues bits (length inputs) values
-are_values of = (of.replay, of.values_are of.replay of.replays, of.long of.replay of.replays)
+-- ---- a text that was put, or cut short
+
+pub on_ok : {X E : Type 0} (A B : Type 0) (r : Result X E) → (A → B) → OnOk r A → OnOk r B
+on_ok A B (Ok x) f h = f h
+on_ok A B (Err e) f h = tt
+
+pub if_err : {X E : Type 0} (P Q : E → Type 0) (r : Result X E) → ((e : E) → P e → Q e) → IfErr r P → IfErr r Q
+if_err P Q (Ok x) f h = tt
+if_err P Q (Err e) f h = f e h
+
+pub trace_cut : (f : File) (all : Bool) (p : Property) (initial : List Bool) (inputs : List (List Bool)) (before after : Option (List ℕ)) (text : List ℕ) → (PutsBeginning before after text → IsTraceCutOff f all p initial inputs before after) →
+    (e : SimError) → IsCutShort before after text e → HasTraceCauseIn f all p initial inputs before after e
+trace_cut f all p initial inputs before after text begins NotViolated h = h
+trace_cut f all p initial inputs before after text begins (LineLength k) h = absurd h
+trace_cut f all p initial inputs before after text begins NoInputLine h = absurd h
+trace_cut f all p initial inputs before after text begins (InitialReset k) h = absurd h
+trace_cut f all p initial inputs before after text begins Device h = begins h
+trace_cut f all p initial inputs before after text begins (OutOfMemory refused) h = tt

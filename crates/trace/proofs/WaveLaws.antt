@@ -1,9 +1,8 @@
 -- What is put of a waveform.
-use Rattle.std.proofs.Common.{◌≡◌, ◌≢◌, ℕ, Bool, List, Option, length, refl, sym, ap, ◌∙◌}
-use Rattle.std.specs.List.{flat_map}
+use Rattle.std.proofs.Common.{◌≡◌, ◌≢◌, ℕ, Bool, List, Option, length, refl, ap, ◌∙◌}
+use Rattle.base.specs.Devices.{PutsBeginning}
 use Rattle.graph.specs.declared.circuit.Property.{Property}
 use Rattle.graph.specs.File.{File}
-use Rattle.graph.specs.Valuation.{Valuation}
 use Rattle.stimulus.specs.declared.value.Stimulus.{Stimulus}
 use Rattle.stimulus.specs.declared.value.Stimulus.TheVariants.{Holds, Violated, Unknown}
 use Rattle.stimulus.specs.declared.sim_error.SimError.{SimError}
@@ -11,9 +10,10 @@ use Rattle.stimulus.specs.declared.sim_error.SimError.TheVariants.{NotViolated, 
 use Rattle.stimulus.specs.Tables.{HasSimCauseIn}
 use Rattle.trace.specs.declared.bits.Bit.{Bit}
 use Rattle.trace.specs.declared.signals.Signal.{Signal}
-use Rattle.trace.specs.Columns.{values_at}
+use Rattle.trace.specs.Columns.{rows_of}
 use Rattle.trace.specs.Lines.{HasLines}
-use Rattle.trace.specs.Waves.{HasWaveCause, HasWaveCauseIn, wave_text}
+use Rattle.trace.specs.Traces.{IsCutShort}
+use Rattle.trace.specs.Waves.{HasWaveCause, HasWaveCauseIn, IsWaveCutOff, wave_text}
 
 -- what comes before the sink is the same for a table
 pub wave_cause : (f : File) (all : Bool) (p : Property) (initial : List Bool) (inputs : List (List Bool)) (before after : Option (List ℕ)) (e : SimError) → e ≢ Device →
@@ -32,10 +32,18 @@ no_wave f all (Violated p initial inputs) before after none = absurd (none p ini
 no_wave f all (Holds p) before after none = refl
 no_wave f all (Unknown p) before after none = refl
 
+pub wave_cut : (f : File) (all : Bool) (p : Property) (initial : List Bool) (inputs : List (List Bool)) (before after : Option (List ℕ)) (text : List ℕ) → (PutsBeginning before after text → IsWaveCutOff f all p initial inputs before after) →
+    (e : SimError) → IsCutShort before after text e → HasWaveCauseIn f all p initial inputs before after e
+wave_cut f all p initial inputs before after text begins NotViolated h = h
+wave_cut f all p initial inputs before after text begins (LineLength k) h = absurd h
+wave_cut f all p initial inputs before after text begins NoInputLine h = absurd h
+wave_cut f all p initial inputs before after text begins (InitialReset k) h = absurd h
+wave_cut f all p initial inputs before after text begins Device h = begins h
+wave_cut f all p initial inputs before after text begins (OutOfMemory refused) h = tt
+
 -- what is said of a text by references is said by what they are of
-pub wave_at : (bits same_bits : List Bit) (signals same_signals : List Signal) (values same_values : List Bool) (times : ℕ) (start : Option ℕ) (text : List ℕ) → bits ≡ same_bits → signals ≡ same_signals → values ≡ same_values →
-    ((r : List Valuation) → values ≡ flat_map (values_at bits) r → length r ≡ times → text ≡ wave_text bits signals r start) →
-    (r : List Valuation) → same_values ≡ flat_map (values_at same_bits) r → length r ≡ times → text ≡ wave_text same_bits same_signals r start
-wave_at bits same_bits signals same_signals values same_values times start text is_bits is_signals is_values h r is long =
-    let before : values ≡ flat_map (values_at bits) r = is_values ∙ is ∙ sym (ap (λ (b : List Bit). flat_map (values_at b) r) is_bits) in
-    h r before long ∙ ap (λ (b : List Bit). wave_text b signals r start) is_bits ∙ ap (λ (s : List Signal). wave_text same_bits s r start) is_signals
+pub wave_at : (bits same_bits : List Bit) (signals same_signals : List Signal) (values same_values : List (Option Bool)) (times : ℕ) (start : Option ℕ) (text : List ℕ) → bits ≡ same_bits → signals ≡ same_signals → values ≡ same_values →
+    text ≡ wave_text bits signals (rows_of (length bits) times values) start → text ≡ wave_text same_bits same_signals (rows_of (length same_bits) times same_values) start
+wave_at bits same_bits signals same_signals values same_values times start text is_bits is_signals is_values h =
+    h ∙ ap (λ (b : List Bit). wave_text b signals (rows_of (length b) times values) start) is_bits ∙ ap (λ (s : List Signal). wave_text same_bits s (rows_of (length same_bits) times values) start) is_signals
+    ∙ ap (λ (v : List (Option Bool)). wave_text same_bits same_signals (rows_of (length same_bits) times v) start) is_values

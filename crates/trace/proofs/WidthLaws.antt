@@ -1,22 +1,18 @@
 -- Widths of columns, and spaces.
 use Rattle.std.proofs.Common.{◌≡◌, ℕ, zero, suc, ◌+◌, ◌-◌, ◌<◌, ◌≤◌, max, Bool, List, [], ◌∷◌, ◌++◌, length, get_or, take, drop, map, Option, refl, sym, ap, ◌∙◌, arith, subst}
-use Rattle.std.specs.List.{flat_map}
 use Rattle.std.specs.Io.KnownBytes.{Appends}
 use Rattle.std.proofs.KnownBytes.{Appends-trans}
 use Rattle.std.proofs.Math.Nat.{max_comm}
-use Rattle.std.proofs.lemmas.List.{get_or-map, length-map, map_more, take_all, take-append-drop, take-replicate, drop-replicate, replicate_more, take-map, drop-map}
+use Rattle.std.proofs.lemmas.List.{get_or-map, length-map, map_more, take_all, take-append-drop, take-replicate, drop-replicate, replicate_more}
 use Rattle.base.specs.Devices.{PutsBeginning}
 use Rattle.base.proofs.Putting.{begins_behind, begins_more}
-use Rattle.graph.specs.Valuation.{Valuation, value_of}
-use Rattle.trace.specs.declared.bits.Bit.{Bit}
 use Rattle.trace.specs.declared.signals.Signal.{Signal}
 use Rattle.trace.specs.Changes.{part_of}
-use Rattle.trace.specs.Columns.{values_at}
-use Rattle.trace.specs.Numbers.{hex_below, number_text}
-use Rattle.trace.specs.Signals.{bits_of}
-use Rattle.trace.specs.Traces.{cell_text, number_cell, value_text, values_width}
+use Rattle.trace.specs.Columns.{rows_of}
+use Rattle.trace.specs.Numbers.{hex_below}
+use Rattle.trace.specs.Traces.{cell_text, number_cell, values_width}
 use Rattle.trace.specs.Widths.{spaces, width_of}
-use Rattle.trace.proofs.ColumnLaws.{row_now}
+use Rattle.trace.proofs.ColumnLaws.{rows_long}
 
 -- one text more
 width_push : (texts : List (List ℕ)) (text : List ℕ) → width_of (texts ++ text ∷ []) ≡ max (width_of texts) (length text)
@@ -30,32 +26,18 @@ width_more f xs i d now new i_in is more =
 pub width_all : {A : Type 0} (f : A → List ℕ) (xs : List A) (i now : ℕ) → length xs ≤ i → now ≡ width_of (map f (take i xs)) → now ≡ width_of (map f xs)
 width_all {A} f xs i now all is = is ∙ ap (λ (ys : List A). width_of (map f ys)) (take_all i xs all)
 
--- what a signal has of the values at a time are the values of its bits
-pub part_values : (bits : List Bit) (w : Valuation) (s : Signal) → part_of (values_at bits w) s ≡ values_at (bits_of bits s) w
-part_values bits w s =
-    ap (λ (xs : List Bool). take (s.end - s.first) xs) (drop-map (λ b. value_of w b.lit) s.first bits) ∙ take-map (λ b. value_of w b.lit) (s.end - s.first) (drop s.first bits)
-
-pub row_widths : (bits : List Bit) (w : Valuation) (signals : List Signal) → width_of (map (λ s. number_text (part_of (values_at bits w) s)) signals) ≡ values_width bits signals w
-row_widths bits w [] = refl
-row_widths bits w (s ∷ signals) =
-    let first : length (number_text (part_of (values_at bits w) s)) ≡ length (value_text (bits_of bits s) w) = ap (λ (xs : List Bool). length (number_text xs)) (part_values bits w s) in
-    let rest = row_widths bits w signals in
-    omega (arith, first, rest)
-
-pub widths_long : (bits : List Bit) (signals : List Signal) (r : List Valuation) (widths : List ℕ) → widths ≡ map (values_width bits signals) r → length r ≡ length widths
-widths_long bits signals r widths is = sym (ap (λ (xs : List ℕ). length xs) is ∙ length-map r (values_width bits signals))
+pub widths_long : (width times : ℕ) (signals : List Signal) (values : List (Option Bool)) (widths : List ℕ) → widths ≡ map (values_width signals) (rows_of width times values) → length widths ≡ times
+widths_long width times signals values widths is = ap (λ (xs : List ℕ). length xs) is ∙ length-map (rows_of width times values) (values_width signals) ∙ rows_long width times values
 
 -- the value of a signal at time n, in its column
-pub cell_now : (bits : List Bit) (signals : List Signal) (r : List Valuation) (n : ℕ) (rest : List Bool) (widths : List ℕ) (s : Signal) (now : List Bool) → n < length r → rest ≡ flat_map (values_at bits) (drop n r) →
-    widths ≡ map (values_width bits signals) r → now ≡ take (length bits) rest →
-    number_cell (get_or widths n 0) (take (s.end - s.first) (drop s.first now)) ≡ cell_text bits signals s (get_or r n [])
-cell_now bits signals r n rest widths s now n_in is is_widths is_now =
-    let w = get_or r n [] in
-    let wide : get_or widths n 0 ≡ values_width bits signals (get_or r n []) = ap (λ (xs : List ℕ). get_or xs n 0) is_widths ∙ get_or-map (values_width bits signals) r n [] 0 n_in in
-    let values = ap (λ (xs : List Bool). take (s.end - s.first) (drop s.first xs)) is_now ∙ row_now bits r n rest s n_in is in
-    ap (λ (k : ℕ). number_cell k (take (s.end - s.first) (drop s.first now))) wide ∙ ap (λ (xs : List Bool). number_cell (values_width bits signals w) xs) values
+pub cell_now : (signals : List Signal) (rows : List (List (Option Bool))) (n : ℕ) (widths : List ℕ) (s : Signal) (now : List (Option Bool)) → n < length rows → widths ≡ map (values_width signals) rows → now ≡ get_or rows n [] →
+    number_cell (get_or widths n 0) (part_of now s) ≡ cell_text signals s (get_or rows n [])
+cell_now signals rows n widths s now n_in is_widths is_now =
+    let row = get_or rows n [] in
+    let wide : get_or widths n 0 ≡ values_width signals (get_or rows n []) = ap (λ (xs : List ℕ). get_or xs n 0) is_widths ∙ get_or-map (values_width signals) rows n [] 0 n_in in
+    ap (λ (k : ℕ). number_cell k (part_of now s)) wide ∙ ap (λ (xs : List (Option Bool)). number_cell (values_width signals row) (part_of xs s)) is_now
 
-pub hex_long : (n : ℕ) (bits : List Bool) → length (hex_below n bits) ≡ n
+pub hex_long : (n : ℕ) (bits : List (Option Bool)) → length (hex_below n bits) ≡ n
 hex_long zero bits = refl
 hex_long (suc n) bits = ap suc (hex_long n bits)
 

@@ -1,46 +1,39 @@
 -- The values of a waveform, at each time those that changed.
-use Rattle.std.specs.Prelude.{ℕ, ◌+◌, ◌-◌, Bool, List, [], ◌∷◌, ◌++◌, take, drop, codes, decimal, if◌then◌else◌}
+use Rattle.std.specs.Prelude.{ℕ, ◌+◌, ◌-◌, Bool, Option, List, [], ◌∷◌, ◌++◌, take, drop, codes, decimal, if◌then◌else◌}
 use Rattle.std.specs.List.{flat_map}
 use Rattle.std.specs.Bool.{beq}
+use Rattle.std.specs.Option.{option_eq}
 use Rattle.std.specs.Cmp.Lexicographic.{pointwise}
 use Rattle.trace.specs.declared.bits.Bit.{Bit}
 use Rattle.trace.specs.declared.signals.Signal.{Signal}
 use Rattle.trace.specs.Signals.{bits_of}
+use Rattle.trace.specs.Numbers.{binary_digit, binary_text}
 use Rattle.trace.specs.Variables.{code_of}
 
--- the digit of a bit
-abbrev pub binary_digit : Bool → ℕ
-binary_digit b = if b then 49 else 48
-
--- the digits of bits that are given the lowest first, the highest first
-abbrev pub binary_text : List Bool → List ℕ
-binary_text [] = []
-binary_text (b ∷ bits) = binary_text bits ++ binary_digit b ∷ []
-
 -- the value of a vector
-abbrev pub vector_text : List Bool → List ℕ
+abbrev pub vector_text : List (Option Bool) → List ℕ
 vector_text bits = (codes "b" ++ binary_text bits) ++ codes " "
 
 -- the value of a variable: the digit of one bit, or `b`, the digits of several and a space
-abbrev pub wave_value : List Bool → List ℕ
+abbrev pub wave_value : List (Option Bool) → List ℕ
 wave_value [] = vector_text []
 wave_value (b ∷ []) = binary_digit b ∷ []
 wave_value (b ∷ c ∷ bits) = vector_text (b ∷ c ∷ bits)
 
 -- what a signal has of a row of values, one of each bit
-abbrev pub part_of : List Bool → Signal → List Bool
+abbrev pub part_of : List (Option Bool) → Signal → List (Option Bool)
 part_of row s = take (s.end - s.first) (drop s.first row)
 
 -- a signal's value and code
-abbrev pub told_text : List Bit → List Bool → List ℕ
+abbrev pub told_text : List Bit → List (Option Bool) → List ℕ
 told_text bits values = (wave_value values ++ code_of bits) ++ codes "\n"
 
 -- a signal's change from a row of values to the next: nothing where its value stays
-abbrev pub change_text : List Bit → List Bool → List Bool → Signal → List ℕ
-change_text bits before now s = if pointwise beq (part_of before s) (part_of now s) then [] else told_text (bits_of bits s) (part_of now s)
+abbrev pub change_text : List Bit → List (Option Bool) → List (Option Bool) → Signal → List ℕ
+change_text bits before now s = if pointwise (option_eq beq) (part_of before s) (part_of now s) then [] else told_text (bits_of bits s) (part_of now s)
 
 -- the changes of all signals from a row of values to the next
-abbrev pub changes_text : List Bit → List Signal → List Bool → List Bool → List ℕ
+abbrev pub changes_text : List Bit → List Signal → List (Option Bool) → List (Option Bool) → List ℕ
 changes_text bits signals before now = flat_map (change_text bits before now) signals
 
 -- a time begins
@@ -48,6 +41,6 @@ abbrev pub stamp_text : ℕ → List ℕ
 stamp_text t = (codes "#" ++ decimal t) ++ codes "\n"
 
 -- each time from t on with its changes, behind a row of values, and the time after the last
-abbrev pub times_text : List Bit → List Signal → ℕ → List Bool → List (List Bool) → List ℕ
+abbrev pub times_text : List Bit → List Signal → ℕ → List (Option Bool) → List (List (Option Bool)) → List ℕ
 times_text bits signals t before [] = stamp_text t
 times_text bits signals t before (now ∷ rows) = (stamp_text t ++ changes_text bits signals before now) ++ times_text bits signals (t + 1) now rows

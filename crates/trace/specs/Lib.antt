@@ -7,8 +7,9 @@ pub mod Loops
 pub mod Widths
 pub mod OpenValues
 pub mod SignalValues
-pub mod Traces
 pub mod Scopes
 pub mod Variables
 pub mod Changes
+pub mod Traces
 pub mod Waves
+pub mod OpenTraces

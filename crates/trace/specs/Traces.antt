@@ -15,36 +15,33 @@ use Rattle.stimulus.specs.Shown.{IsReplay, closing_state}
 use Rattle.stimulus.specs.Causes.{HasFitLines, IsPlayable, IsWrongLine}
 use Rattle.trace.specs.declared.bits.Bit.{Bit}
 use Rattle.trace.specs.declared.signals.Signal.{Signal}
+use Rattle.trace.specs.Changes.{part_of}
 use Rattle.trace.specs.Numbers.{number_text}
 use Rattle.trace.specs.Bits.{AreShown}
 use Rattle.trace.specs.Signals.{AreSignals, bits_of, signal_name}
-use Rattle.trace.specs.Columns.{values_at}
+use Rattle.trace.specs.Columns.{known_at}
 use Rattle.trace.specs.Loops.{IsLoopStart}
 use Rattle.trace.specs.Widths.{at_left, at_right, width_of}
-
--- the value of a signal of these bits at a time
-abbrev pub value_text : List Bit → Valuation → List ℕ
-value_text bits w = number_text (values_at bits w)
 
 -- the width of the names
 abbrev pub names_width : List Bit → List Signal → ℕ
 names_width bits signals = width_of (map (λ s. signal_name (bits_of bits s)) signals)
 
--- the width of the values at a time
-abbrev pub values_width : List Bit → List Signal → Valuation → ℕ
-values_width bits signals w = width_of (map (λ s. value_text (bits_of bits s) w) signals)
+-- the width of the values in a row, which has those of all bits at a time
+abbrev pub values_width : List Signal → List (Option Bool) → ℕ
+values_width signals row = width_of (map (λ s. number_text (part_of row s)) signals)
 
 -- a space, and the number of some bits at the right of a column of this width
-abbrev pub number_cell : ℕ → List Bool → List ℕ
+abbrev pub number_cell : ℕ → List (Option Bool) → List ℕ
 number_cell width bits = codes " " ++ at_right width (number_text bits)
 
 -- the value of a signal in the column of its time
-abbrev pub cell_text : List Bit → List Signal → Signal → Valuation → List ℕ
-cell_text bits signals s w = number_cell (values_width bits signals w) (values_at (bits_of bits s) w)
+abbrev pub cell_text : List Signal → Signal → List (Option Bool) → List ℕ
+cell_text signals s row = number_cell (values_width signals row) (part_of row s)
 
--- the line of a signal: its name at the left of the column of names, its value at each time of the replay, and a line end
-abbrev pub row_text : List Bit → List Signal → List Valuation → Signal → List ℕ
-row_text bits signals r s = at_left (names_width bits signals) (signal_name (bits_of bits s)) ++ (flat_map (cell_text bits signals s) r ++ codes "\n")
+-- the line of a signal: its name at the left of the column of names, its value at each time, and a line end
+abbrev pub row_text : List Bit → List Signal → List (List (Option Bool)) → Signal → List ℕ
+row_text bits signals rows s = at_left (names_width bits signals) (signal_name (bits_of bits s)) ++ (flat_map (cell_text signals s) rows ++ codes "\n")
 
 -- the line that tells where the loop begins, where there is one
 abbrev pub loop_text : Option ℕ → List ℕ
@@ -52,8 +49,8 @@ loop_text None = []
 loop_text (Some start) = (codes "loop " ++ decimal start) ++ codes "\n"
 
 -- a line for each signal, and the loop
-abbrev pub trace_text : List Bit → List Signal → List Valuation → Option ℕ → List ℕ
-trace_text bits signals r start = flat_map (row_text bits signals r) signals ++ loop_text start
+abbrev pub trace_text : List Bit → List Signal → List (List (Option Bool)) → Option ℕ → List ℕ
+trace_text bits signals rows start = flat_map (row_text bits signals rows) signals ++ loop_text start
 
 -- the signals of a file: the bits that are shown, each in one signal
 pub record Signals (f : File) (all : Bool) : Type 0 where
@@ -61,6 +58,15 @@ pub record Signals (f : File) (all : Bool) : Type 0 where
   pub signals : List Signal
   pub are_shown : AreShown f all bits
   pub are_signals : AreSignals bits signals
+
+-- where a text is not put whole: a beginning of it, or nothing where memory is refused
+abbrev pub IsCutShort : Option (List ℕ) → Option (List ℕ) → List ℕ → SimError → Type 0
+IsCutShort before after text NotViolated = ⊥
+IsCutShort before after text (LineLength k) = ⊥
+IsCutShort before after text NoInputLine = ⊥
+IsCutShort before after text (InitialReset k) = ⊥
+IsCutShort before after text Device = PutsBeginning before after text
+IsCutShort before after text (OutOfMemory refused) = Unit {0}
 
 -- the trace of the one replay of the lines was put
 pub record PutsTraceIn (f : File) (all : Bool) (p : Property) (initial : List Bool) (inputs : List (List Bool)) (before after : Option (List ℕ)) : Type 0 where
@@ -71,7 +77,7 @@ pub record PutsTraceIn (f : File) (all : Bool) (p : Property) (initial : List Bo
   pub shows : Signals f all
   pub start : Option ℕ
   pub loops : IsLoopStart f.model p (closing_state f.model replay) replay start
-  pub appends : Appends before after (trace_text shows.bits shows.signals replay start)
+  pub appends : Appends before after (trace_text shows.bits shows.signals (map (known_at shows.bits) replay) start)
 
 -- the trace of the stimulus's replay was put
 abbrev pub PutsTrace : File → Bool → Stimulus → Option (List ℕ) → Option (List ℕ) → Type 0
@@ -86,7 +92,7 @@ pub record IsTraceCutOff (f : File) (all : Bool) (p : Property) (initial : List 
   pub shows : Signals f all
   pub start : Option ℕ
   pub loops : (r : List Valuation) → IsReplay f.model initial inputs r → IsLoopStart f.model p (closing_state f.model r) r start
-  pub begins : (r : List Valuation) → IsReplay f.model initial inputs r → PutsBeginning before after (trace_text shows.bits shows.signals r start)
+  pub begins : (r : List Valuation) → IsReplay f.model initial inputs r → PutsBeginning before after (trace_text shows.bits shows.signals (map (known_at shows.bits) r) start)
 
 -- the reason for which there is no trace of the lines stands, and none that comes before it: no violation, a line's
 -- length, no input line, a latch against its reset

@@ -15,7 +15,7 @@ use Rattle.stimulus.specs.Causes.{HasFitLines, IsPlayable, IsWrongLine}
 use Rattle.trace.specs.declared.bits.Bit.{Bit}
 use Rattle.trace.specs.declared.signals.Signal.{Signal}
 use Rattle.trace.specs.Signals.{bits_of}
-use Rattle.trace.specs.Columns.{values_at}
+use Rattle.trace.specs.Columns.{known_at}
 use Rattle.trace.specs.Loops.{IsLoopStart}
 use Rattle.trace.specs.Traces.{Signals}
 use Rattle.trace.specs.Variables.{variables_text}
@@ -30,10 +30,10 @@ comment_text (Some start) = (codes "$comment loop " ++ decimal start) ++ codes "
 abbrev pub head_text : List Bit → List Signal → Option ℕ → List ℕ
 head_text bits signals start = ((codes "$timescale 1 ns $end\n" ++ variables_text [] (map (bits_of bits) signals)) ++ comment_text start) ++ codes "$enddefinitions $end\n"
 
--- a variable for each signal, and each time of the replay with the values that changed: at the first time all, since none stand
--- before it
-abbrev pub wave_text : List Bit → List Signal → List Valuation → Option ℕ → List ℕ
-wave_text bits signals r start = head_text bits signals start ++ times_text bits signals 0 [] (map (values_at bits) r)
+-- a variable for each signal, and each time, with a row of the values of all bits, with what changed: at the first time all, since
+-- none stand before it
+abbrev pub wave_text : List Bit → List Signal → List (List (Option Bool)) → Option ℕ → List ℕ
+wave_text bits signals rows start = head_text bits signals start ++ times_text bits signals 0 [] rows
 
 -- the waveform of the one replay of the lines was put
 pub record PutsWaveIn (f : File) (all : Bool) (p : Property) (initial : List Bool) (inputs : List (List Bool)) (before after : Option (List ℕ)) : Type 0 where
@@ -44,7 +44,7 @@ pub record PutsWaveIn (f : File) (all : Bool) (p : Property) (initial : List Boo
   pub shows : Signals f all
   pub start : Option ℕ
   pub loops : IsLoopStart f.model p (closing_state f.model replay) replay start
-  pub appends : Appends before after (wave_text shows.bits shows.signals replay start)
+  pub appends : Appends before after (wave_text shows.bits shows.signals (map (known_at shows.bits) replay) start)
 
 -- the waveform of the stimulus's replay was put
 abbrev pub PutsWave : File → Bool → Stimulus → Option (List ℕ) → Option (List ℕ) → Type 0
@@ -59,7 +59,7 @@ pub record IsWaveCutOff (f : File) (all : Bool) (p : Property) (initial : List B
   pub shows : Signals f all
   pub start : Option ℕ
   pub loops : (r : List Valuation) → IsReplay f.model initial inputs r → IsLoopStart f.model p (closing_state f.model r) r start
-  pub begins : (r : List Valuation) → IsReplay f.model initial inputs r → PutsBeginning before after (wave_text shows.bits shows.signals r start)
+  pub begins : (r : List Valuation) → IsReplay f.model initial inputs r → PutsBeginning before after (wave_text shows.bits shows.signals (map (known_at shows.bits) r) start)
 
 -- the reason for which there is no waveform of the lines stands, and none that comes before it: no violation, a line's
 -- length, no input line, a latch against its reset

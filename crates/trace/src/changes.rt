@@ -1,35 +1,28 @@
 //! The values of a waveform, at each time those that changed.
 
-ghost use Rattle.std.specs.Prelude.{◌≡◌, ◌≤◌, ◌<◌, ◌++◌, [], List, All, OnOk, length, map};
-ghost use Rattle.std.specs.List.{flat_map};
-ghost use Rattle.graph.specs.Valuation.{Valuation};
-ghost use Rattle.trace.specs.Columns.{AreValues, values_at};
-ghost use Rattle.trace.specs.Changes.{binary_digit, binary_text, change_text, changes_text, part_of as part_of_row, stamp_text, times_text, told_text, vector_text, wave_value};
+ghost use Rattle.std.specs.Prelude.{◌≡◌, ◌≤◌, ◌<◌, ◌*◌, ◌++◌, [], All, OnOk, length};
+ghost use Rattle.trace.specs.Columns.{rows_of};
+ghost use Rattle.trace.specs.Changes.{change_text, changes_text, part_of as part_of_row, stamp_text, times_text, told_text, vector_text, wave_value};
+ghost use Rattle.trace.specs.Numbers.{binary_text};
 
 use crate::bits::Bit;
+use crate::numbers::binary_digit;
 use crate::signals::Signal;
 use crate::variables::{push_code, push_number};
 use base::{Refused, push};
 
-/// The digit of a bit.
-fn digit(bit: bool) -> u8
-    ensures { result ≡ binary_digit bit }
-{
-    if bit { b'1' } else { b'0' }
-}
-
 /// Adds the digits of the bits, the highest first.
-fn push_digits(text: &mut Vec<u8>, bits: &[bool]) -> Result<(), Refused>
+fn push_digits(text: &mut Vec<u8>, bits: &[Option<bool>]) -> Result<(), Refused>
     ensures { OnOk result (text.new.items ≡ text.old.items ++ binary_text bits.now) }
 {
     for k in (0..bits.len()).rev() {
-        push(text, digit(bits[k]))?;
+        push(text, binary_digit(bits[k]))?;
     }
     Ok(())
 }
 
 /// Adds the value of a vector.
-fn push_vector(text: &mut Vec<u8>, bits: &[bool]) -> Result<(), Refused>
+fn push_vector(text: &mut Vec<u8>, bits: &[Option<bool>]) -> Result<(), Refused>
     ensures { OnOk result (text.new.items ≡ text.old.items ++ vector_text bits.now) }
 {
     push(text, b'b')?;
@@ -39,18 +32,18 @@ fn push_vector(text: &mut Vec<u8>, bits: &[bool]) -> Result<(), Refused>
 }
 
 /// Adds the value of a variable.
-fn push_value(text: &mut Vec<u8>, bits: &[bool]) -> Result<(), Refused>
+fn push_value(text: &mut Vec<u8>, bits: &[Option<bool>]) -> Result<(), Refused>
     ensures { OnOk result (text.new.items ≡ text.old.items ++ wave_value bits.now) }
 {
     match bits {
         [] => push_vector(text, bits),
-        [bit] => push(text, digit(*bit)),
+        [bit] => push(text, binary_digit(*bit)),
         [_, ..] => push_vector(text, bits),
     }
 }
 
 /// Adds a signal's value and code.
-fn push_told(text: &mut Vec<u8>, bits: &[Bit<'_>], values: &[bool]) -> Result<(), Refused>
+fn push_told(text: &mut Vec<u8>, bits: &[Bit<'_>], values: &[Option<bool>]) -> Result<(), Refused>
     ensures { OnOk result (text.new.items ≡ text.old.items ++ told_text bits.now values.now) }
 {
     push_value(text, values)?;
@@ -60,7 +53,7 @@ fn push_told(text: &mut Vec<u8>, bits: &[Bit<'_>], values: &[bool]) -> Result<()
 }
 
 /// What a signal has of a row of values, or nothing of a row of none.
-fn part_of(row: &[bool], signal: Signal) -> &[bool]
+fn part_of(row: &[Option<bool>], signal: Signal) -> &[Option<bool>]
     requires order { signal.first < signal.end }
     requires inside { 0 < length row.now → signal.end ≤ length row.now }
     ensures { result.now ≡ part_of_row row.now signal }
@@ -76,8 +69,8 @@ fn push_change(
     text: &mut Vec<u8>,
     bits: &[Bit<'_>],
     signal: Signal,
-    before: &[bool],
-    now: &[bool],
+    before: &[Option<bool>],
+    now: &[Option<bool>],
 ) -> Result<(), Refused>
     requires inside { (signal.first < signal.end) × (signal.end ≤ length bits.now) }
     requires before { 0 < length before.now → length before.now ≡ length bits.now }
@@ -97,8 +90,8 @@ fn push_changes(
     text: &mut Vec<u8>,
     bits: &[Bit<'_>],
     signals: &[Signal],
-    before: &[bool],
-    now: &[bool],
+    before: &[Option<bool>],
+    now: &[Option<bool>],
 ) -> Result<(), Refused>
     requires inside { All (λ s. (s.first < s.end) × (s.end ≤ length bits.now)) signals.now }
     requires before { 0 < length before.now → length before.now ≡ length bits.now }
@@ -126,12 +119,12 @@ pub fn push_times(
     text: &mut Vec<u8>,
     bits: &[Bit<'_>],
     signals: &[Signal],
-    values: &[bool],
+    values: &[Option<bool>],
     times: usize,
 ) -> Result<(), Refused>
     requires inside { All (λ s. (s.first < s.end) × (s.end ≤ length bits.now)) signals.now }
-    requires values { AreValues bits.now times values.now }
-    ensures { OnOk result ((r : List Valuation) → values.now ≡ flat_map (values_at bits.now) r → length r ≡ times → text.new.items ≡ text.old.items ++ times_text bits.now signals.now 0 [] (map (values_at bits.now) r)) }
+    requires values { length values.now ≡ times * length bits.now }
+    ensures { OnOk result (text.new.items ≡ text.old.items ++ times_text bits.now signals.now 0 [] (rows_of (length bits.now) times values.now)) }
 {
     let mut before = &values[..0];
     let mut rest = values;

@@ -2,7 +2,7 @@
 
 ghost use Rattle.std.specs.Prelude.{◌≡◌, ◌≤◌, ◌++◌, All, Some, IsSome, IfOk, OnOk, length};
 ghost use Rattle.graph.specs.Valuation.{Valuation, variable};
-ghost use Rattle.trace.specs.Columns.{HasValues, values_at};
+ghost use Rattle.trace.specs.Columns.{HasValues, known_at};
 
 use crate::bits::Bit;
 use base::{Refused, push};
@@ -11,13 +11,13 @@ use simulate::Replay;
 use std::alloc::Global;
 
 /// Adds the values of the bits at the time stepped last.
-fn push_values(values: &mut Vec<bool>, replay: &Replay<'_>, bits: &[Bit<'_>]) -> Result<(), Refused>
+fn push_values(values: &mut Vec<Option<bool>>, replay: &Replay<'_>, bits: &[Bit<'_>]) -> Result<(), Refused>
     requires stepped { IsSome replay.now.now }
     requires in_range { All (λ b. variable b.lit ≤ replay.now.circuit.max_var) bits.now }
-    ensures { OnOk result ((w : Valuation) → replay.now.now ≡ Some w → values.new.items ≡ values.old.items ++ values_at bits.now w) }
+    ensures { OnOk result ((w : Valuation) → replay.now.now ≡ Some w → values.new.items ≡ values.old.items ++ known_at bits.now w) }
 {
     for bit in bits {
-        push(values, replay.value(bit.lit))?;
+        push(values, Some(replay.value(bit.lit)))?;
     }
     Ok(())
 }
@@ -28,7 +28,7 @@ pub fn play(
     replay: &mut Replay<'_>,
     bits: &[Bit<'_>],
     lines: &[Seq<bool>],
-) -> Result<Vec<bool>, Refused>
+) -> Result<Vec<Option<bool>>, Refused>
     requires lines_fit { All (λ line. length line ≡ length replay.old.circuit.inputs) lines.now }
     requires in_range { All (λ b. variable b.lit ≤ replay.old.circuit.max_var) bits.now }
     ensures { IfOk result (λ v. HasValues replay.old.circuit replay.old.state lines.now bits.now (length lines.now) replay.new v.items) }

@@ -81,8 +81,8 @@ fn wanted(alloc: Global, parts: &Parts, j: u32) -> Result<Vec<Lit>, Refused>
     Ok(wanted)
 }
 
-/// The first time of this state, where each wanted literal is set from there on. Where one is not, no later time has them all:
-/// what is set from a later time on is set from the first on.
+/// The first time of this state, where each wanted literal is set from there on. Where one is not, no later time has
+/// them all: what is set from a later time on is set from the first on.
 fn first_lasso(
     alloc: Global,
     circuit: &Model,
@@ -110,8 +110,8 @@ fn first_lasso(
     }
 }
 
-/// The first time from which the replay of these lines closes a lasso of the property at this state, which is that after the
-/// last line.
+/// The first time from which the replay of these lines closes a lasso of the property at this state, which is that
+/// after the last line.
 pub fn loop_start(
     alloc: Global,
     circuit: &Model,

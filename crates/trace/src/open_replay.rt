@@ -33,7 +33,8 @@ fn first_value(latch: Latch, given: Option<bool>) -> Option<bool>
     }
 }
 
-/// What is known of a first state of which this is given: an open value of a latch that is reset to 0 or to 1 is known too.
+/// What is known of a first state of which this is given: an open value of a latch that is reset to 0 or to 1 is known
+/// too.
 fn first_state(
     alloc: Global,
     latches: &[Latch],
@@ -125,8 +126,8 @@ fn play_lines(
     Ok(rows)
 }
 
-/// What is known of the bits at each time of a replay of these lines, time after time: it is the value in each course of lines that
-/// have what is known of these.
+/// What is known of the bits at each time of a replay of these lines, time after time: it is the value in each course
+/// of lines that have what is known of these.
 fn play_open(
     alloc: Global,
     circuit: &Model,
@@ -155,8 +156,8 @@ fn play_open(
     )
 }
 
-/// What is known of the bits at each time of a replay of which this is given, time after time. What is known is the value in each
-/// replay of each first state and lines that have what is given. A step touches each gate once.
+/// What is known of the bits at each time of a replay of which this is given, time after time. What is known is the
+/// value in each replay of each first state and lines that have what is given. A step touches each gate once.
 pub fn open_rows(
     alloc: Global,
     circuit: &Model,

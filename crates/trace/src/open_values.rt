@@ -91,8 +91,8 @@ fn fill_gates(gates: &[Gate], order: &[u32], out: &mut [Option<bool>])
     }
 }
 
-/// The values of the variables at a time of this state and these inputs: what is known is the value in each time whose state
-/// and inputs have what is known of these. It touches each gate once.
+/// The values of the variables at a time of this state and these inputs: what is known is the value in each time whose
+/// state and inputs have what is known of these. It touches each gate once.
 pub fn evaluate(
     circuit: &Model,
     latches: &[Lit],

@@ -1,15 +1,18 @@
 //! The values of a file's signals at each time of a replay.
 
-ghost use Rattle.std.specs.Prelude.{◌≡◌, ◌≢◌, ◌≤◌, ℕ, List, Option, All, IfOk, IfErr};
+ghost use Rattle.std.specs.Prelude.{◌≡◌, ◌≢◌, ◌≤◌, ℕ, List, Option, None, All, IfOk, IfErr};
 ghost use Rattle.graph.specs.Valuation.{variable};
 ghost use Rattle.simulate.specs.Starts.{Starts};
 ghost use Rattle.stimulus.specs.Causes.{IsPlayable};
 ghost use Rattle.stimulus.specs.Tables.{HasSimCauseIn};
+ghost use Rattle.trace.specs.OpenTraces.{AreOpenValues, HasOpenCause};
 ghost use Rattle.trace.specs.SignalValues.{AreOfReplay, AreSignalValues, IsLoopStartIn};
 
 use crate::bits::{Bit, sorted_bits};
 use crate::columns::play;
 use crate::loops::loop_start;
+use crate::open_lines::check_open;
+use crate::open_replay::open_rows;
 use crate::signals::{Signal, signals_of};
 use graph::{AigerFile, Model, Property, Seq};
 use simulate::Replay;
@@ -23,7 +26,7 @@ pub struct SignalValues<'a> {
     pub bits: Vec<Bit<'a>>,
     pub signals: Vec<Signal>,
     /// The values of all bits, time after time.
-    pub values: Vec<bool>,
+    pub values: Vec<Option<bool>>,
     pub start: Option<usize>,
 }
 
@@ -35,7 +38,7 @@ fn replayed(
     property: Property,
     initial: &[bool],
     inputs: &[Seq<bool>],
-) -> Result<(Vec<bool>, Option<usize>), SimError>
+) -> Result<(Vec<Option<bool>>, Option<usize>), SimError>
     requires playable { IsPlayable circuit.now initial.now inputs.now }
     requires in_range { All (λ b. variable b.lit ≤ circuit.now.max_var) bits.now }
     ensures starts { IfOk result (λ _. Starts circuit.now.latches initial.now) }
@@ -72,6 +75,33 @@ impl<'a> SignalValues<'a> {
             signals,
             values,
             start,
+        })
+    }
+
+    /// Replays what is given of a first state and of lines. It has no loop. Without `all` it has no signals whose names
+    /// begin with a dollar sign.
+    pub fn open(
+        alloc: Global,
+        file: &'a AigerFile,
+        initial: &[Option<bool>],
+        inputs: &[Seq<Option<bool>>],
+        all: bool,
+    ) -> Result<SignalValues<'a>, SimError>
+        ensures values { IfOk result (λ v. AreOpenValues file.now all initial.now inputs.now v.bits.items v.signals.items v.values.items) }
+        ensures no_loop { IfOk result (λ v. v.start ≡ None) }
+        ensures refused { IfErr result (λ e. (e ≢ SimError.Device) × HasOpenCause file.now.model initial.now inputs.now e) }
+    {
+        let model = file.model();
+        model.well_formed();
+        check_open(model, initial, inputs)?;
+        let bits = sorted_bits(alloc, file, all)?;
+        let signals = signals_of(alloc, &bits)?;
+        let values = open_rows(alloc, model, initial, inputs, &bits)?;
+        Ok(SignalValues {
+            bits,
+            signals,
+            values,
+            start: None,
         })
     }
 }

@@ -1,11 +1,9 @@
 //! The widths of a table's columns.
 
-ghost use Rattle.std.specs.Prelude.{◌≡◌, ◌≤◌, ◌<◌, ◌-◌, ◌^◌, ◌++◌, List, All, length, map, IfOk};
-ghost use Rattle.std.specs.List.{flat_map};
+ghost use Rattle.std.specs.Prelude.{◌≡◌, ◌≤◌, ◌<◌, ◌*◌, ◌-◌, ◌^◌, All, length, map, IfOk};
 ghost use Rattle.base.specs.Devices.{CountsFailure, Puts};
-ghost use Rattle.graph.specs.Valuation.{Valuation};
 ghost use Rattle.trace.specs.Changes.{part_of};
-ghost use Rattle.trace.specs.Columns.{AreValues, values_at};
+ghost use Rattle.trace.specs.Columns.{rows_of};
 ghost use Rattle.trace.specs.Numbers.{number_text};
 ghost use Rattle.trace.specs.Traces.{names_width as width_of_names, values_width as width_of_values};
 ghost use Rattle.trace.specs.Widths.{spaces, width_of};
@@ -42,7 +40,7 @@ pub fn names_width(bits: &[Bit<'_>], signals: &[Signal]) -> usize
 }
 
 /// The width of the values of the signals in a row.
-fn row_width(row: &[bool], signals: &[Signal]) -> usize
+fn row_width(row: &[Option<bool>], signals: &[Signal]) -> usize
     requires { All (λ s. (s.first < s.end) × (s.end ≤ length row.now)) signals.now }
     ensures { result ≡ width_of (map (λ s. number_text (part_of row.now s)) signals.now) }
 {
@@ -58,12 +56,12 @@ pub fn values_widths(
     alloc: Global,
     bits: &[Bit<'_>],
     signals: &[Signal],
-    values: &[bool],
+    values: &[Option<bool>],
     times: usize,
 ) -> Result<Vec<usize>, Refused>
     requires inside { All (λ s. (s.first < s.end) × (s.end ≤ length bits.now)) signals.now }
-    requires values { AreValues bits.now times values.now }
-    ensures { IfOk result (λ v. (r : List Valuation) → values.now ≡ flat_map (values_at bits.now) r → length r ≡ times → v.items ≡ map (width_of_values bits.now signals.now) r) }
+    requires values { length values.now ≡ times * length bits.now }
+    ensures { IfOk result (λ v. v.items ≡ map (width_of_values signals.now) (rows_of (length bits.now) times values.now)) }
 {
     let mut widths = Vec::new(alloc);
     let mut rest = values;

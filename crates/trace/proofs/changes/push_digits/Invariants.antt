@@ -1,5 +1,5 @@
 use Rattle.std.proofs.Common.{◌≡◌, ◌++◌, drop}
-use Rattle.trace.specs.Changes.{binary_text}
+use Rattle.trace.specs.Numbers.{binary_text}
 use Rattle.trace.proofs.changes.push_digits.Given as goal
 
 abbrev pub invariant-loop-k : goal.invariant-loop-k

@@ -1,8 +1,12 @@
-use Rattle.stimulus.specs.declared.sim_error.SimError.TheVariants.{Device}
+use Rattle.std.proofs.Common.{List, Bool, Option, length, subst}
+use Rattle.std.specs.Io.KnownBytes.{Appends}
+use Rattle.base.specs.Devices.{PutsBeginning}
 use Rattle.stimulus.proofs.RowLaws.{err_at}
-use Rattle.trace.specs.Traces.{HasTraceCauseIn, Signals}
-use Rattle.trace.proofs.TraceLaws.{are_values, trace_cause}
-use Rattle.trace.proofs.WidthLaws.{widths_long}
+use Rattle.trace.specs.Columns.{rows_of}
+use Rattle.trace.specs.Traces.{Signals}
+use Rattle.trace.specs.Traces.{HasTraceCauseIn, trace_text}
+use Rattle.trace.proofs.TraceLaws.{if_err, on_ok}
+use Rattle.trace.proofs.TraceLaws.{trace_cause, trace_cut}
 use Rattle.trace.proofs.table.put_violated.Goals as goal
 
 pub returns-in_err-shown-clause-refused : goal.returns-in_err-shown-clause-refused
@@ -13,54 +17,44 @@ returns-in_err-shown-clause-refused g c =
     err_at c.from_residual.result e (HasTraceCauseIn c.args.file.now c.args.all c.args.property c.args.initial.now c.args.inputs.now before before) c.from_residual.ensures.1
     (trace_cause c.args.file.now c.args.all c.args.property c.args.initial.now c.args.inputs.now before before e refused.0 (refused.1 before before))
 
-pub values_widths-requires-clause-values : goal.values_widths-requires-clause-values
-values_widths-requires-clause-values g c =
-    rw (c.deref.ensures.value, c.deref-3.ensures.value) (are_values c.in_ok-shown.ensures.values.of)
+pub put_shown-requires-clause-inside : goal.put_shown-requires-clause-inside
+put_shown-requires-clause-inside g c = c.in_ok-shown.ensures.values.are_signals.inside
 
-pub put_table-requires-clause-values : goal.put_table-requires-clause-values
-put_table-requires-clause-values g c =
-    let is = c.in_ok-shown.ensures.values in
-    let r = is.of.replay in
-    let shown = c.in_ok-shown.shown in
-    let widths = rw (c.deref.ensures.value, c.deref-2.ensures.value, c.deref-3.ensures.value) at c.in_ok-widths.ensures in
-    let long = widths_long shown.bits.items shown.signals.items r c.in_ok-widths.widths.items (widths r (is.of.values_are r is.of.replays) (is.of.long r is.of.replays)) in
-    rw (c.deref-4.ensures.value, c.deref-6.ensures.value, c.deref-7.ensures.value) (r, is.of.values_are r is.of.replays, long)
-
-pub returns-in_err-put_table-clause-refused : goal.returns-in_err-put_table-clause-refused
-returns-in_err-put_table-clause-refused g c =
-    let f = c.args.file.now in
-    let initial = c.args.initial.now in
-    let inputs = c.args.inputs.now in
-    let is = c.in_ok-shown.ensures.values in
-    let shows : Signals f c.args.all = record { bits = _; signals = _; are_shown = is.are_shown; are_signals = is.are_signals } in
-    let r = c.from_residual-in_err-put_table in
-    let widths = rw (c.deref.ensures.value, c.deref-2.ensures.value, c.deref-3.ensures.value) at c.in_ok-widths.ensures in
-    let puts = rw (c.deref-4.ensures.value, c.deref-5.ensures.value, c.deref-6.ensures.value, c.deref-7.ensures.value) at c.in_err-put_table.ensures.puts in
-    err_at r.result Device (HasTraceCauseIn f c.args.all c.args.property initial inputs (g.W.Sink.contents c.args.out.now) (g.W.Sink.contents c.put_table.new.out)) r.ensures.1
-    (record {
-      playable = is.playable;
-      starts = is.starts;
-      shows = shows;
-      start = c.in_ok-shown.shown.start;
-      loops = is.loops;
-      begins = λ x x_is. puts x (is.of.values_are x x_is) (widths x (is.of.values_are x x_is) (is.of.long x x_is));
-    })
+pub put_shown-requires-clause-values : goal.put_shown-requires-clause-values
+put_shown-requires-clause-values g c = c.in_ok-shown.ensures.values.of.long
 
 pub returns-clause-put : goal.returns-clause-put
 returns-clause-put g c =
+    let shown = c.in_ok-shown.shown in
     let is = c.in_ok-shown.ensures.values in
     let x = is.of.replay in
-    let x_is = is.of.replays in
     let shows : Signals c.args.file.now c.args.all = record { bits = _; signals = _; are_shown = is.are_shown; are_signals = is.are_signals } in
-    let widths = rw (c.deref.ensures.value, c.deref-2.ensures.value, c.deref-3.ensures.value) at c.in_ok-widths.ensures in
-    let puts = rw (c.deref-4.ensures.value, c.deref-5.ensures.value, c.deref-6.ensures.value, c.deref-7.ensures.value) at c.in_ok-put_table.ensures.puts in
-    record {
+    on_ok _ _ c.put_shown.result (λ h. record {
       replay = x;
-      replays = x_is;
+      replays = is.of.replays;
       only = is.of.only;
       starts = is.starts;
       shows = shows;
-      start = c.in_ok-shown.shown.start;
-      loops = is.loops x x_is;
-      appends = puts x (is.of.values_are x x_is) (widths x (is.of.values_are x x_is) (is.of.long x x_is));
-    }
+      start = shown.start;
+      loops = is.loops x is.of.replays;
+      appends = subst (λ (rows : List (List (Option Bool))). Appends (g.W.Sink.contents c.args.out.now) (g.W.Sink.contents c.put_shown.new.out) (trace_text shown.bits.items shown.signals.items rows shown.start)) (is.of.rows_are x is.of.replays) h;
+    }) c.put_shown.ensures.put
+
+pub returns-clause-refused : goal.returns-clause-refused
+returns-clause-refused g c =
+    let shown = c.in_ok-shown.shown in
+    let is = c.in_ok-shown.ensures.values in
+    let before = g.W.Sink.contents c.args.out.now in
+    let after = g.W.Sink.contents c.put_shown.new.out in
+    let shows : Signals c.args.file.now c.args.all = record { bits = _; signals = _; are_shown = is.are_shown; are_signals = is.are_signals } in
+    if_err _ _ c.put_shown.result
+    (trace_cut c.args.file.now c.args.all c.args.property c.args.initial.now c.args.inputs.now before after
+    (trace_text shown.bits.items shown.signals.items (rows_of (length shown.bits.items) (length c.args.inputs.now) shown.values.items) shown.start)
+    (λ begins. record {
+      playable = is.playable;
+      starts = is.starts;
+      shows = shows;
+      start = shown.start;
+      loops = is.loops;
+      begins = λ x x_is. subst (λ (rows : List (List (Option Bool))). PutsBeginning before after (trace_text shown.bits.items shown.signals.items rows shown.start)) (is.of.rows_are x x_is) begins;
+    })) c.put_shown.ensures.cut

@@ -3,7 +3,7 @@ use Rattle.std.specs.Prelude.{codes}
 use Rattle.trace.specs.Numbers.{hex_below}
 use Rattle.trace.proofs.NumberLaws.{hex_number}
 use Rattle.trace.proofs.WidthLaws.{hex_long}
-use Rattle.trace.proofs.numbers.number_length.Goals as goal
+use Rattle.trace.proofs.numbers.known_length.Goals as goal
 
 pub returns-else-bits-le64 : goal.returns-else-bits-le64
 returns-else-bits-le64 c =

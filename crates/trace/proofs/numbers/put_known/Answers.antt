@@ -5,7 +5,7 @@ use Rattle.base.proofs.Putting.{puts_then}
 use Rattle.stimulus.proofs.WriteLaws.{first_fails}
 use Rattle.trace.specs.Numbers.{hex_below}
 use Rattle.trace.proofs.NumberLaws.{hex_number}
-use Rattle.trace.proofs.numbers.put_number.Goals as goal
+use Rattle.trace.proofs.numbers.put_known.Goals as goal
 
 pub returns-in_err-put_all-clause-puts : goal.returns-in_err-put_all-clause-puts
 returns-in_err-put_all-clause-puts g c =
