@@ -52,7 +52,8 @@ impl Found<'_> {
         }
     }
 
-    /// Prints what JSON says of it, and answers its status. It takes no memory.
+    /// Prints what JSON says of it, and answers its status. It takes no memory. Evidence of each verdict was judged before
+    /// that was given (`cli::decide`).
     fn print_line(self, rt: &HostRuntime) -> Result<u8, Stop> {
         let line = Line {
             file: self.name,
@@ -70,11 +71,11 @@ impl Found<'_> {
                     is_over: self.is_over,
                 };
                 println!(rt;
-                    "{line},\"steps\":{steps},\"reason\":\"{why}\",\"vacuous\":{is_vacuous}}}"
+                    "{line},\"checked\":null,\"steps\":{steps},\"reason\":\"{why}\",\"vacuous\":{is_vacuous}}}"
                 )
             }
             _ => println!(rt;
-                "{line},\"steps\":{steps},\"reason\":null,\"vacuous\":{is_vacuous}}}"
+                "{line},\"checked\":true,\"steps\":{steps},\"reason\":null,\"vacuous\":{is_vacuous}}}"
             ),
         };
         finished(printed)?;
