@@ -33,6 +33,15 @@ pub struct Found<'a> {
     pub is_vacuous: bool,
 }
 
+/// Whether the judge accepted the evidence before the verdict was given, or nothing where none was asked: `cli::decide` has each
+/// run replayed, and no certificate that it makes.
+fn checked(verdict: &Verdict) -> &'static str {
+    match verdict {
+        Verdict::Unsafe(_) => "true",
+        Verdict::Safe(_) | Verdict::Unknown(_) => "null",
+    }
+}
+
 /// The word for what was found.
 fn word_of(verdict: &Verdict) -> &'static str {
     match verdict {
@@ -52,8 +61,7 @@ impl Found<'_> {
         }
     }
 
-    /// Prints what JSON says of it, and answers its status. It takes no memory. Evidence of each verdict was judged before
-    /// that was given (`cli::decide`).
+    /// Prints what JSON says of it, and answers its status. It takes no memory.
     fn print_line(self, rt: &HostRuntime) -> Result<u8, Stop> {
         let line = Line {
             file: self.name,
@@ -63,7 +71,7 @@ impl Found<'_> {
             evidence: self.evidence,
             time: self.time(rt),
         };
-        let (steps, is_vacuous) = (self.steps, self.is_vacuous);
+        let (checked, steps, is_vacuous) = (checked(self.verdict), self.steps, self.is_vacuous);
         let printed = match self.verdict {
             Verdict::Unknown(reason) => {
                 let why = Why {
@@ -71,11 +79,11 @@ impl Found<'_> {
                     is_over: self.is_over,
                 };
                 println!(rt;
-                    "{line},\"checked\":null,\"steps\":{steps},\"reason\":\"{why}\",\"vacuous\":{is_vacuous}}}"
+                    "{line},\"checked\":{checked},\"steps\":{steps},\"reason\":\"{why}\",\"vacuous\":{is_vacuous}}}"
                 )
             }
             _ => println!(rt;
-                "{line},\"checked\":true,\"steps\":{steps},\"reason\":null,\"vacuous\":{is_vacuous}}}"
+                "{line},\"checked\":{checked},\"steps\":{steps},\"reason\":null,\"vacuous\":{is_vacuous}}}"
             ),
         };
         finished(printed)?;
