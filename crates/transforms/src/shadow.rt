@@ -87,7 +87,7 @@ fn add_seen(
     latches: u32,
 ) -> Result<(), TransformError> {
     for position in first..latches {
-        let number = position - first;
+        let number = position.saturating_sub(first);
         let Ok(name) = format!(in alloc; "{SEEN}{number}") else {
             return Err(TransformError::Name);
         };
