@@ -18,4 +18,4 @@ mod watch;
 
 pub use drawing::draw;
 pub use random::Random;
-pub use watch::Watch;
+pub use watch::{Unwatched, Watch};

@@ -7,7 +7,7 @@ ghost use Rattle.engine.specs.Findings.{IsForBad, IsSo};
 ghost use Rattle.engine_random.specs.Findings.{IsRunOrSpent};
 
 use crate::batch::Batch;
-use crate::watch::Watch;
+use crate::watch::{Unwatched, Watch};
 use engine::{Engine, EngineError, Finding, Reason};
 use graph::{Budget, Model};
 use rand_core::SeedableRng;
@@ -38,13 +38,28 @@ impl<W> std::marker::Model for Random<W> {
     ghost invariant = { λ r. r.depth ≤ 255 };
 }
 
-impl<W: Watch> Random<W> {
-    /// Random simulation from this seed, of runs of up to `depth` steps, until the watch says that it is over.
-    pub fn new(seed: u64, depth: u32, watch: W) -> Random<W>
+impl Random<Unwatched> {
+    /// Random simulation from this seed, of runs of up to `depth` steps.
+    pub fn new(seed: u64, depth: u32) -> Random<Unwatched>
         requires { depth ≤ 255 }
         ensures { result ≡ record { seed = seed; depth = depth } }
     {
-        Random { seed, depth, watch }
+        Random {
+            seed,
+            depth,
+            watch: Unwatched,
+        }
+    }
+
+    /// The same, until the watch says that it is over.
+    pub fn with_watch<W: Watch>(self, watch: W) -> Random<W>
+        ensures { result ≡ self }
+    {
+        Random {
+            seed: self.seed,
+            depth: self.depth,
+            watch,
+        }
     }
 }
 

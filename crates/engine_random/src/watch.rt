@@ -5,3 +5,13 @@ pub trait Watch: Drop {
     /// Whether the search is to end.
     fn is_over(&self) -> bool;
 }
+
+/// A watch that lets the search go on.
+#[derive(Drop)]
+pub struct Unwatched;
+
+impl Watch for Unwatched {
+    fn is_over(&self) -> bool {
+        false
+    }
+}
