@@ -8,8 +8,8 @@ use crate::showing::Found;
 use crate::timed::{Deadline, Timed};
 use crate::vacuity::is_vacuous;
 use aigmc_files::{
-    DONE, Role, Stop, UNKNOWN, VIOLATED, about, asked_for, at, circuit, expect_folder, fault_of, finished,
-    is_taken, property_in,
+    DONE, Role, Stop, UNKNOWN, VIOLATED, about, asked_for, at, circuit, expect_folder, fault_of,
+    finished, is_taken, property_in,
 };
 use arguments::{Kept, Search};
 use cdcl::Cdcl;
@@ -278,11 +278,7 @@ fn first_status(properties: &[Property]) -> u8
     ensures none { length properties.now ≡ 0 → result ≡ 2 }
     ensures some { 0 < length properties.now → result ≡ 0 }
 {
-    if properties.is_empty() {
-        UNKNOWN
-    } else {
-        DONE
-    }
+    if properties.is_empty() { UNKNOWN } else { DONE }
 }
 
 /// The status of two verdicts: that of a violation, else that of an unknown.

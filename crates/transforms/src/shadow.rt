@@ -37,11 +37,7 @@ fn add_old(
 }
 
 /// The names in the shadow circuit of what the circuit has: each input and latch has one.
-fn old_names(
-    alloc: Global,
-    file: &AigerFile,
-    justice: u32,
-) -> Result<Vec<Symbol>, TransformError> {
+fn old_names(alloc: Global, file: &AigerFile, justice: u32) -> Result<Vec<Symbol>, TransformError> {
     let mut symbols = Vec::new(alloc);
     for symbol in file.symbols() {
         add_old(alloc, &mut symbols, symbol, justice)?;
