@@ -157,16 +157,7 @@ Examples:
   aigmc all design.aig
   aigmc all design.aig --out evidence --budget 1000000",
         words: &[
-            FILE,
-            FOLDER,
-            BUDGET,
-            DEPTH,
-            ENGINE,
-            SEED,
-            TIMEOUT,
-            QUIET,
-            JSON,
-            VERBOSE,
+            FILE, FOLDER, BUDGET, DEPTH, ENGINE, SEED, TIMEOUT, QUIET, JSON, VERBOSE,
         ],
     },
     Row {
