@@ -109,7 +109,7 @@ def told_in_json(scratch):
     expect(lines(done), ([safe, shows], 1), "what aigcheck all does")
     (scratch / folder / "b0.cert").replace(scratch / folder / "b1.cert")
     (scratch / folder / "b1.stim").unlink()
-    none = first | {"verdict": "none", "evidence": None, "number": None}
+    none = first | {"verdict": "none", "evidence": None, "checked": None, "number": None}
     refused = other | {"verdict": "refused", "evidence": f"{shown}/b1.cert", "checked": False, "number": 30}
     done = program(scratch, "aigcheck", "all", "circuit.aag", folder, "--json")
     expect(lines(done), ([none, refused], 2), "what aigcheck all says of evidence of another property")
