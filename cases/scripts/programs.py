@@ -98,19 +98,19 @@ def told_in_json(scratch):
     other = {"file": "circuit.aag", "property": "b1", "name": "t\t\\é".encode().decode("latin-1")}
     shown = folder.encode().decode("latin-1")
     found = {"reason": None, "vacuous": False}
-    holds = first | {"verdict": "holds", "evidence": f"{shown}/b0.cert"} | found
-    violated = other | {"verdict": "violated", "evidence": f"{shown}/b1.stim"} | found
+    holds = first | {"verdict": "holds", "evidence": f"{shown}/b0.cert", "checked": None} | found
+    violated = other | {"verdict": "violated", "evidence": f"{shown}/b1.stim", "checked": True} | found
     done = program(scratch, "aigmc", "all", "circuit.aag", "--json", "--out", folder)
     expect(lines(done), ([holds, violated], 1), "what aigmc all does")
     expect(done[0].count(b'"steps":'), 2, "lines with steps")
-    safe = first | {"verdict": "safe", "evidence": f"{shown}/b0.cert", "number": None}
-    shows = other | {"verdict": "violated", "evidence": f"{shown}/b1.stim", "number": None}
+    safe = first | {"verdict": "safe", "evidence": f"{shown}/b0.cert", "checked": True, "number": None}
+    shows = other | {"verdict": "violated", "evidence": f"{shown}/b1.stim", "checked": True, "number": None}
     done = program(scratch, "aigcheck", "all", "circuit.aag", folder, "--json")
     expect(lines(done), ([safe, shows], 1), "what aigcheck all does")
     (scratch / folder / "b0.cert").replace(scratch / folder / "b1.cert")
     (scratch / folder / "b1.stim").unlink()
-    none = first | {"verdict": "none", "evidence": None, "number": None}
-    refused = other | {"verdict": "refused", "evidence": f"{shown}/b1.cert", "number": 30}
+    none = first | {"verdict": "none", "evidence": None, "checked": None, "number": None}
+    refused = other | {"verdict": "refused", "evidence": f"{shown}/b1.cert", "checked": False, "number": 30}
     done = program(scratch, "aigcheck", "all", "circuit.aag", folder, "--json")
     expect(lines(done), ([none, refused], 2), "what aigcheck all says of evidence of another property")
     done = program(scratch, "aigmc", "check", "circuit.aag", "-p", "b0", "--json", "--cert", "made")
@@ -118,10 +118,29 @@ def told_in_json(scratch):
     expect(program(scratch, "aigcheck", "safe", "circuit.aag", "made")[2], 0, "what the judge says of the certificate")
 
 
+@case("aigmc check --out: evidence of each kind goes to the folder, beside JSON")
+def into_a_folder(scratch):
+    make(scratch / "circuit.aag", BOTH)
+    (scratch / "made").mkdir()
+    run = b"1\nb1\n00\n\n\n.\n"
+    words = ("check", "circuit.aag", "--out", "made")
+    expect(program(scratch, "aigmc", *words, "-p", "b1"), (run, b"", 1), "what it does of a violation")
+    expect((scratch / "made" / "b1.stim").read_bytes(), run, "the stimulus")
+    done = program(scratch, "aigmc", *words, "-p", "b0", "--json")
+    expect((json.loads(done[0])["evidence"], done[1:]), ("made/b0.cert", (b"", 0)), "what it says of one that holds")
+    said = b"yes safe b0\nyes run b1\n1 safe, 1 violated, 0 without evidence\n"
+    expect(program(scratch, "aigcheck", "all", "circuit.aag", "made"), (said, b"", 1), "what the judge says")
+    done = program(scratch, "aigmc", *words, "-p", "b0", "--cert", "cert")
+    expect((done, (scratch / "cert").exists()), ((b"", b"aigmc: bad argument\n", 3), False), "a file and a folder")
+    make(scratch / "b0.cert", BOTH)
+    done = program(scratch, "aigmc", "check", "b0.cert", "-p", "b0", "--out", ".", "-v")
+    expect((done[0], done[2], (scratch / "b0.cert").read_text()), (b"", 3, BOTH), "what it does to the circuit")
+
+
 @case("aigmc --timeout: the search ends, and what was found stays")
 def timed(scratch):
     make(scratch / "circuit.aag", counter(64, 3))
-    for engine in ("ic3", "all"):
+    for engine in ("ic3", "all", "random"):
         words = ("check", "circuit.aag", "-p", "b1", "--timeout", "1", "--engine", engine, "--depth", "255", "-v")
         out, told, status = program(scratch, "aigmc", *words, "--budget", ALL_STEPS)
         last = told.splitlines()[-1]
@@ -318,7 +337,7 @@ def mitered(scratch):
     names = "i0 x\ni1 y\nl0 a.both\nl1 b.lo0\nl2 b.x\nb0 differs\n"
     expect((scratch / "miter.aag").read_text(), head + gates + names, "the miter")
     wanted = {"file": "one.aag other.aag", "property": "b0", "name": "differs", "verdict": "holds"}
-    wanted |= {"evidence": "made/b0.cert", "reason": None, "vacuous": False}
+    wanted |= {"evidence": "made/b0.cert", "checked": None, "reason": None, "vacuous": False}
     done = program(scratch, "aigmc", "equal", "one.aag", "other.aag", "--json", "--out", "made")
     expect(lines(done), ([wanted], 0), "what JSON says")
 

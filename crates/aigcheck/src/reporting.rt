@@ -27,6 +27,15 @@ fn word_of(shown: Shown, last: &Option<Said>) -> &'static str {
     }
 }
 
+/// Whether the file that was judged last is accepted, or nothing where none was judged.
+fn checked(last: &Option<Said>) -> &'static str {
+    match last {
+        Some(said) if said.is_yes => "true",
+        Some(_) => "false",
+        None => "null",
+    }
+}
+
 /// How long it took since then, where the clock says so.
 fn time_since(rt: &HostRuntime, begun: Option<Instant>) -> Option<Duration> {
     let begun = begun?;
@@ -37,7 +46,7 @@ fn time_since(rt: &HostRuntime, begun: Option<Instant>) -> Option<Duration> {
 }
 
 /// Puts what JSON says of the property of the circuit in the file of this name: what is shown of it, the file that was
-/// judged last, and the number of its no. It takes no memory.
+/// judged last, whether it is accepted, and the number of its no. It takes no memory.
 pub fn put_shown(
     rt: &HostRuntime,
     circuit: &str,
@@ -59,8 +68,9 @@ pub fn put_shown(
         evidence,
         time: time_since(rt, begun),
     };
+    let checked = checked(last);
     given(match number {
-        Some(number) => println!(rt; "{line},\"number\":{number}}}"),
-        None => println!(rt; "{line},\"number\":null}}"),
+        Some(number) => println!(rt; "{line},\"checked\":{checked},\"number\":{number}}}"),
+        None => println!(rt; "{line},\"checked\":{checked},\"number\":null}}"),
     })
 }

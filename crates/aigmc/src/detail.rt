@@ -19,7 +19,7 @@ fn name_of<'a>(request: Request<'a>, role: Role) -> Option<&'a str> {
         (Request::Trace { stimulus, .. }, Role::Stimulus) => Some(stimulus),
         (Request::Trace { waveform, .. }, Role::Made) => waveform,
         (Request::Check { file, .. }, Role::Circuit) => Some(file),
-        (Request::Check { certificate, .. }, Role::Made) => certificate,
+        (Request::Check { kept, .. }, Role::Made) => kept.name(),
         (Request::All { file, .. }, Role::Circuit) => Some(file),
         (Request::All { folder, .. }, Role::Made) => folder,
         (Request::Equal { file, .. }, Role::Circuit) => Some(file),

@@ -25,10 +25,10 @@
 //! steps, then register correspondence, then the two again; or `random`, random simulation from `--seed`.
 //! `--budget` is how many steps the search may cost. With `--cert OUT` the certificate of a property that
 //! holds is written to OUT before anything is printed; OUT may name neither the circuit's file nor the file
-//! that standard output goes to. What is said is `cli::decide`'s. `--timeout` ends bounded search, IC3 and
-//! correspondence after so many seconds, of `all` for all properties together: what is left of the budget is spent then. `--quiet` leaves out a run, and `--json` prints a line
-//! of JSON for each property instead. P may be a name of
-//! the symbol table here and in all other commands, where exactly one property has it.
+//! that standard output goes to. With `--out DIR` evidence goes to the folder DIR, as with `all`. What is said is
+//! `cli::decide`'s. `--timeout` ends the search after so many seconds, of `all` for all properties together: what is left of
+//! the budget is spent then. `--quiet` leaves out a run, and `--json` prints a line of JSON for each property instead. P may
+//! be a name of the symbol table here and in all other commands, where exactly one property has it.
 //!
 //! `aigmc all FILE` does the same for all properties of the circuit, in their order
 //! (`properties::all_properties`), and prints one stimulus after the other. The budget is for each. With
@@ -64,8 +64,8 @@
 //! With `-v` the fault of a file has a second line, with the file, the reason, and the line and column of a text.
 //!
 //! The status of `check` is 0 where the property holds, 1 for a violation and 2 where nothing is known. That
-//! of `all` is 1 where a property is violated, else 2 where nothing is known of one, and else 0. Else the
-//! status is 0, and 3 where the command failed.
+//! of `all` is 1 where a property is violated, else 2 where nothing is known of one or the circuit has none, and else
+//! 0. Else the status is 0, and 3 where the command failed.
 #![tactic(auto)]
 
 mod detail;
@@ -138,9 +138,9 @@ fn done(rt: &HostRuntime, request: Request<'_>) -> Result<u8, Stop> {
         Request::Check {
             file,
             property,
-            certificate,
+            kept,
             search,
-        } => check(rt, file, property, certificate, search),
+        } => check(rt, file, property, kept, search),
         Request::Equal {
             file,
             other,

@@ -94,7 +94,7 @@ impl Question<'_> {
             push(&mut engines, engine)?;
         }
         if search.engine == EngineKind::Random {
-            let random = Random::new(search.seed, depth);
+            let random = Random::new(search.seed, depth).with_watch(timing.deadline);
             let engine: Box<dyn Engine> = boxed(alloc, random)?;
             push(&mut engines, engine)?;
         }

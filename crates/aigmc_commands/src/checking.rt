@@ -1,15 +1,17 @@
 //! The commands `check` and `all`.
 
+ghost use Rattle.std.specs.Prelude.{◌≡◌, ◌≢◌, ◌<◌, ◌≤◌, ◌⊎◌, length};
+
 use crate::asking::Question;
 use crate::progress::Shown;
 use crate::showing::Found;
 use crate::timed::{Deadline, Timed};
 use crate::vacuity::is_vacuous;
 use aigmc_files::{
-    DONE, Role, Stop, VIOLATED, about, asked_for, at, circuit, expect_folder, fault_of, finished,
-    is_taken, property_in,
+    DONE, Role, Stop, UNKNOWN, VIOLATED, about, asked_for, at, circuit, expect_folder, fault_of,
+    finished, is_taken, property_in,
 };
-use arguments::Search;
+use arguments::{Kept, Search};
 use cdcl::Cdcl;
 use cli::{CliError, Verdict};
 use graph::{AigerFile, Budget, Lit, Model, Property, Seq};
@@ -123,9 +125,9 @@ impl<'a> Whole<'a> {
 }
 
 /// The file to make of a certificate, where there is one and a file is named.
-fn certificate_in<'a>(verdict: &Verdict, certificate: Option<&'a str>) -> Option<&'a str> {
-    match verdict {
-        Verdict::Safe(_) => certificate,
+fn certificate_in<'a>(verdict: &Verdict, kept: Kept<'a>) -> Option<&'a str> {
+    match (verdict, kept) {
+        (Verdict::Safe(_), Kept::Certificate(out)) => Some(out),
         _ => None,
     }
 }
@@ -144,19 +146,19 @@ fn show<'a>(
 }
 
 /// Looks for evidence about the property of the circuit, and prints the verdict. A certificate goes to the
-/// file of that name first, where one is named.
+/// file of that name first, where one is named, or evidence to the folder.
 fn check_in<'a>(
     rt: &HostRuntime,
     name: &'a str,
     file: &'a AigerFile,
     property: Property,
-    certificate: Option<&'a str>,
+    kept: Kept<'a>,
     timing: Timing,
 ) -> Result<u8, Stop> {
     let whole = Whole {
         name,
         file,
-        folder: None,
+        folder: kept.folder(),
         timing,
         is_vacuous: timing.is_vacuous(rt, file.model())?,
     };
@@ -170,30 +172,39 @@ fn check_in<'a>(
     match about(Role::Circuit, question.ask(rt, candidates)) {
         Ok((verdict, steps)) => {
             let spent = Spent { begun, steps };
-            let evidence = certificate_in(&verdict, certificate);
-            show(rt, whole, property, &verdict, evidence, spent)
+            match certificate_in(&verdict, kept) {
+                Some(out) => show(rt, whole, property, &verdict, Some(out), spent),
+                None => keep_in_and_print(rt, whole, property, &verdict, spent),
+            }
         }
         Err(stop) => Err(fault_of(rt.alloc(), file.model(), property, stop)),
     }
 }
 
+/// Refuses a file for a certificate that is taken, and a folder for evidence that is none.
+fn expect_place(rt: &HostRuntime, name: &str, kept: Kept<'_>) -> Result<(), Stop> {
+    match kept {
+        Kept::Certificate(out) if is_taken(rt, name, out) => Err(Stop::Taken),
+        Kept::Folder(folder) => at(Role::Made, expect_folder(rt, folder)),
+        _ => Ok(()),
+    }
+}
+
 /// Looks for evidence about the property of this name, and prints the verdict. A certificate goes to the
-/// file of that name first, where one is named.
+/// file of that name first, where one is named, or evidence to the folder.
 pub fn check(
     rt: &HostRuntime,
     name: &str,
     property: &str,
-    certificate: Option<&str>,
+    kept: Kept<'_>,
     search: Search,
 ) -> Result<u8, Stop> {
     let timing = Timing::begin(rt, search)?;
     let asked = asked_for(property)?;
-    if certificate.is_some_and(|out| is_taken(rt, name, out)) {
-        return Err(Stop::Taken);
-    }
+    expect_place(rt, name, kept)?;
     let file = circuit(rt, name)?;
     let property = property_in(rt, name, &file, asked, search.verbose)?;
-    check_in(rt, name, &file, property, certificate, timing)
+    check_in(rt, name, &file, property, kept, timing)
 }
 
 /// The file of the folder to make of the verdict's evidence, where it has some and a folder is named.
@@ -262,8 +273,19 @@ pub fn check_miter<'a>(
     keep_in_and_print(rt, whole, property, &verdict, spent)
 }
 
+/// The status of `all` before the first verdict: that of an unknown where there is no property.
+fn first_status(properties: &[Property]) -> u8
+    ensures none { length properties.now ≡ 0 → result ≡ 2 }
+    ensures some { 0 < length properties.now → result ≡ 0 }
+{
+    if properties.is_empty() { UNKNOWN } else { DONE }
+}
+
 /// The status of two verdicts: that of a violation, else that of an unknown.
-fn joined(one: u8, other: u8) -> u8 {
+fn joined(one: u8, other: u8) -> u8
+    ensures violated { (one ≡ 1) ⊎ (other ≡ 1) → result ≡ 1 }
+    ensures greater { one ≢ 1 → other ≢ 1 → (one ≤ result) × (other ≤ result) × ((result ≡ one) ⊎ (result ≡ other)) }
+{
     if one == VIOLATED || other == VIOLATED {
         VIOLATED
     } else {
@@ -309,7 +331,7 @@ fn check_next(
 /// Looks for evidence about each property of the circuit in turn, and prints each verdict as it comes.
 /// Evidence goes to the folder of that name first, where one is named. IC3 begins with clauses of the last
 /// certificate of the circuit itself, which are asked for anew: those over latches on which the property or a constraint
-/// rests.
+/// rests. Where there are no properties, standard error says so, and nothing is known.
 pub fn check_all(
     rt: &HostRuntime,
     name: &str,
@@ -330,7 +352,10 @@ pub fn check_all(
     };
     let properties = all_properties(rt.alloc(), file.model()).map_err(CliError::from)?;
     let mut clauses = Seq::new(rt.alloc());
-    let mut status = DONE;
+    let mut status = first_status(properties.as_slice());
+    if properties.is_empty() {
+        let _ = eprintln!(rt; "aigmc: the circuit has no property");
+    }
     for property in properties {
         let found = check_next(rt, whole, property, &mut clauses)?;
         status = joined(status, found);

@@ -3,7 +3,7 @@
 use crate::asking::Question;
 use crate::checking::Timing;
 use crate::progress::Why;
-use aigmc_files::{DONE, Role, Stop, about, circuit, print_stimulus};
+use aigmc_files::{DONE, Role, Stop, UNKNOWN, about, circuit, print_stimulus};
 use arguments::Search;
 use cli::Verdict;
 use engine::Reason;
@@ -13,8 +13,6 @@ use transforms::{bad_behind, no_bad};
 
 /// The status where no run keeps the constraints so long.
 const NO_RUN: u8 = 1;
-/// The status where nothing is known.
-const UNKNOWN: u8 = 2;
 
 /// Prints a run of the circuit that counts as one of the circuit itself. Its property is a bad literal that the circuit does
 /// not have: the run is to violate none.

@@ -33,6 +33,15 @@ pub struct Found<'a> {
     pub is_vacuous: bool,
 }
 
+/// Whether the judge accepted the evidence before the verdict was given, or nothing where none was asked: `cli::decide` has each
+/// run replayed, and no certificate that it makes.
+fn checked(verdict: &Verdict) -> &'static str {
+    match verdict {
+        Verdict::Unsafe(_) => "true",
+        Verdict::Safe(_) | Verdict::Unknown(_) => "null",
+    }
+}
+
 /// The word for what was found.
 fn word_of(verdict: &Verdict) -> &'static str {
     match verdict {
@@ -62,7 +71,7 @@ impl Found<'_> {
             evidence: self.evidence,
             time: self.time(rt),
         };
-        let (steps, is_vacuous) = (self.steps, self.is_vacuous);
+        let (checked, steps, is_vacuous) = (checked(self.verdict), self.steps, self.is_vacuous);
         let printed = match self.verdict {
             Verdict::Unknown(reason) => {
                 let why = Why {
@@ -70,11 +79,11 @@ impl Found<'_> {
                     is_over: self.is_over,
                 };
                 println!(rt;
-                    "{line},\"steps\":{steps},\"reason\":\"{why}\",\"vacuous\":{is_vacuous}}}"
+                    "{line},\"checked\":{checked},\"steps\":{steps},\"reason\":\"{why}\",\"vacuous\":{is_vacuous}}}"
                 )
             }
             _ => println!(rt;
-                "{line},\"steps\":{steps},\"reason\":null,\"vacuous\":{is_vacuous}}}"
+                "{line},\"checked\":{checked},\"steps\":{steps},\"reason\":null,\"vacuous\":{is_vacuous}}}"
             ),
         };
         finished(printed)?;

@@ -1,4 +1,4 @@
-//! Solvers that spend the budget when the time is over.
+//! Solvers and random simulation that spend the budget when the time is over.
 
 ghost use Rattle.std.specs.Prelude.{◌≡◌, All, IfOk, IfErr, IfSome};
 ghost use Rattle.base.specs.Budget.{Spends};
@@ -7,6 +7,7 @@ ghost use Rattle.solver.specs.Answers.{IsLawful};
 ghost use Rattle.solver.specs.Full.{full};
 ghost use Rattle.solver.specs.declared.sat_error.SatError.TheVariants.{Limit};
 
+use engine_random::Watch;
 use graph::Budget;
 use solver::{Answer, Part, PartSat, Sat, SatError};
 use std::alloc::Global;
@@ -52,6 +53,12 @@ impl Deadline {
             Ok(now) => now.duration_since(begun).as_secs() >= self.seconds,
             Err(_) => true,
         }
+    }
+}
+
+impl Watch for Deadline {
+    fn is_over(&self) -> bool {
+        Deadline::is_over(self)
     }
 }
 

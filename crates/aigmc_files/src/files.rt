@@ -17,7 +17,7 @@ use witness::Loose;
 /// The status of a violation.
 pub const VIOLATED: u8 = 1;
 /// The status where nothing is known.
-const UNKNOWN: u8 = 2;
+pub const UNKNOWN: u8 = 2;
 /// How many bytes a stimulus or clauses may have.
 const MOST: usize = 1_073_741_824;
 /// The number of a text that is too long.

@@ -12,9 +12,9 @@ mod stop;
 mod terminal;
 
 pub use files::{
-    Shown, VIOLATED, circuit, circuit_of, is_taken, keep, keep_and_print, make, make_bytes,
-    make_stimulus, make_waveform, path_of, print_alone, print_stimulus, print_table, print_trace,
-    read_text, shown_of, status_of, stimulus_of,
+    Shown, UNKNOWN, VIOLATED, circuit, circuit_of, is_taken, keep, keep_and_print, make,
+    make_bytes, make_stimulus, make_waveform, path_of, print_alone, print_stimulus, print_table,
+    print_trace, read_text, shown_of, status_of, stimulus_of,
 };
 pub use making::{expect_folder, is_same};
 pub use missing::fault_of;

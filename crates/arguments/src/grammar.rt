@@ -34,6 +34,14 @@ const STIMULUS: Argument = Argument {
     ..FILE
 };
 
+/// The folder for evidence.
+const FOLDER: Argument = Argument {
+    name: "out",
+    help: "The folder for the evidence, which is there: b0.cert, b1.stim and so on",
+    value: "DIR",
+    ..OPTION
+};
+
 /// How many steps a search may cost.
 const BUDGET: Argument = Argument {
     name: "budget",
@@ -91,7 +99,7 @@ const REASONS: Argument = Argument {
 /// How long a search may take.
 const TIMEOUT: Argument = Argument {
     name: "timeout",
-    help: "How many seconds bounded search, IC3 and correspondence may take in all",
+    help: "How many seconds the search may take in all",
     value: "SECONDS",
     takes: Takes::Number,
     ..OPTION
@@ -130,6 +138,7 @@ Examples:
                 value: "OUT",
                 ..OPTION
             },
+            FOLDER,
             BUDGET,
             DEPTH,
             ENGINE,
@@ -143,26 +152,12 @@ Examples:
     Row {
         name: "all",
         about: "Looks for evidence about all properties of a circuit, one after the other",
-        behind: "Status: 1 a property is violated, else 2 one is unknown, else 0; 3 failed.
+        behind: "Status: 1 a property is violated, else 2 one is unknown or there is none, else 0; 3 failed.
 Examples:
   aigmc all design.aig
   aigmc all design.aig --out evidence --budget 1000000",
         words: &[
-            FILE,
-            Argument {
-                name: "out",
-                help: "The folder for the evidence, which is there: b0.cert, b1.stim and so on",
-                value: "DIR",
-                ..OPTION
-            },
-            BUDGET,
-            DEPTH,
-            ENGINE,
-            SEED,
-            TIMEOUT,
-            QUIET,
-            JSON,
-            VERBOSE,
+            FILE, FOLDER, BUDGET, DEPTH, ENGINE, SEED, TIMEOUT, QUIET, JSON, VERBOSE,
         ],
     },
     Row {

@@ -14,6 +14,6 @@ mod wrong;
 
 pub use adopting::{Claim, Extraction, Shadow};
 pub use layouts::AskedLayout;
-pub use request::{Asked, EngineKind, Request, Search, parse};
+pub use request::{Asked, EngineKind, Kept, Request, Search, parse};
 pub use witnessing::Counterexample;
 pub use wrong::Wrong;

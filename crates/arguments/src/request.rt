@@ -47,7 +47,7 @@ pub struct Search {
     pub budget: u64,
     /// where random simulation begins
     pub seed: u64,
-    /// how many seconds bounded search and IC3 may take in all, where that is said
+    /// how many seconds the search may take in all, where that is said
     pub timeout: Option<u64>,
     /// whether verdicts are printed without a run, and standard error does not say how far it is
     pub quiet: bool,
@@ -55,6 +55,35 @@ pub struct Search {
     pub json: bool,
     /// whether standard error says how far it is
     pub verbose: bool,
+}
+
+/// Where evidence about a property is kept.
+#[derive(Clone, Copy)]
+pub enum Kept<'a> {
+    /// nowhere
+    Nowhere,
+    /// a certificate, in this file
+    Certificate(&'a str),
+    /// a certificate or a stimulus, in this folder
+    Folder(&'a str),
+}
+
+impl<'a> Kept<'a> {
+    /// The folder, where it is one.
+    pub fn folder(self) -> Option<&'a str> {
+        match self {
+            Kept::Folder(folder) => Some(folder),
+            _ => None,
+        }
+    }
+
+    /// The name of the file or the folder, where there is one.
+    pub fn name(self) -> Option<&'a str> {
+        match self {
+            Kept::Nowhere => None,
+            Kept::Certificate(name) | Kept::Folder(name) => Some(name),
+        }
+    }
 }
 
 /// What is to be done. Files go by their names.
@@ -98,8 +127,8 @@ pub enum Request<'a> {
         file: &'a str,
         /// the property's name
         property: &'a str,
-        /// the file to make of a certificate, where one is named
-        certificate: Option<&'a str>,
+        /// where its evidence is kept
+        kept: Kept<'a>,
         /// how the search is to go
         search: Search,
     },
@@ -168,14 +197,20 @@ fn asked_search(words: &ArgMatches<'_>) -> Search {
     }
 }
 
-/// What `check` asks for.
-fn asked_check<'a>(words: &ArgMatches<'a>) -> Request<'a> {
-    Request::Check {
+/// What `check` asks for, or nothing where it asks for a file and a folder.
+fn asked_check<'a>(words: &ArgMatches<'a>) -> Option<Request<'a>> {
+    let kept = match (words.get_str("cert"), words.get_str("out")) {
+        (None, None) => Kept::Nowhere,
+        (Some(file), None) => Kept::Certificate(file),
+        (None, Some(folder)) => Kept::Folder(folder),
+        (Some(_), Some(_)) => return None,
+    };
+    Some(Request::Check {
         file: word(words, "FILE"),
         property: word(words, "property"),
-        certificate: words.get_str("cert"),
+        kept,
         search: asked_search(words),
-    }
+    })
 }
 
 /// What `all` asks for.
@@ -262,7 +297,7 @@ pub struct Asked<'a> {
 /// What the words of a command ask for, where there is such a command.
 fn asked_of<'a>(name: &str, words: &ArgMatches<'a>) -> Option<Request<'a>> {
     match name {
-        "check" => Some(asked_check(words)),
+        "check" => asked_check(words),
         "all" => Some(asked_all(words)),
         "equal" => Some(asked_equal(words)),
         "cover" => Some(asked_cover(words)),

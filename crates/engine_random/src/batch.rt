@@ -16,6 +16,7 @@ ghost use Rattle.engine_random.specs.Findings.{IsLowestOf, IsRunOf, run_of};
 
 use crate::drawing::{draw_lanes, draw_row};
 use crate::rows::{row, rows};
+use crate::watch::Watch;
 use base::{Refused, filled_like};
 use engine::{EngineError, Finding};
 use graph::{Budget, Latch, Lit, Model, Property, Seq};
@@ -203,13 +204,14 @@ impl<'a> Batch<'a> {
     }
 
     /// Plays one time after another, for which the inputs' values are drawn, until a run that is in sets the bad
-    /// literal, `depth` steps are played, no run is in, or the budget is exhausted. The first time is
-    /// counted already. The lowest run that sets the bad literal is answered.
-    pub fn play(
+    /// literal, `depth` steps are played, no run is in, the watch says that it is over, or the budget is exhausted. The
+    /// first time is counted already. The lowest run that sets the bad literal is answered.
+    pub fn play<W: Watch>(
         &mut self,
         alloc: Global,
         generator: &mut Lcg128Xsl64,
         depth: u32,
+        watch: &W,
         budget: &mut Budget,
     ) -> Result<Option<Finding>, EngineError>
         ensures circuit { IfOk result (λ _. self.new.circuit ≡ self.old.circuit) }
@@ -222,7 +224,7 @@ impl<'a> Batch<'a> {
             if let Some(finding) = self.lowest_bad(alloc)? {
                 return Ok(Some(finding));
             }
-            if self.is_over(depth) || !budget.tick() {
+            if self.is_over(depth) || watch.is_over() || !budget.tick() {
                 return Ok(None);
             }
         }

@@ -1,7 +1,8 @@
 //! Random simulation of 256 runs at once.
 //!
 //! - `Random` is an engine. Each run that it finds was judged (`stimulus::judge`), and so shows the
-//!   bad literal; where it finds none, the budget is exhausted. It has no other answer.
+//!   bad literal; where it finds none, the budget is exhausted. It has no other answer. Where its `Watch`
+//!   says that it is over, it spends what is left of the budget.
 //! - `draw` gives a generator's next four words (PCG XSL RR 128/64, O'Neill 2014, as `rand_pcg` has
 //!   it), one bit for each run: that of run `r` is bit `r mod 64` of word `r / 64`.
 //!
@@ -13,6 +14,8 @@ mod batch;
 mod drawing;
 mod random;
 mod rows;
+mod watch;
 
 pub use drawing::draw;
 pub use random::Random;
+pub use watch::{Unwatched, Watch};

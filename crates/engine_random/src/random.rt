@@ -7,6 +7,7 @@ ghost use Rattle.engine.specs.Findings.{IsForBad, IsSo};
 ghost use Rattle.engine_random.specs.Findings.{IsRunOrSpent};
 
 use crate::batch::Batch;
+use crate::watch::{Unwatched, Watch};
 use engine::{Engine, EngineError, Finding, Reason};
 use graph::{Budget, Model};
 use rand_core::SeedableRng;
@@ -18,14 +19,15 @@ use std::alloc::Global;
 /// Each call draws anew from `Lcg128Xsl64::seed_from_u64(seed)`: at a batch's start for each latch that
 /// its reset leaves open, then at each time for each input, in their order. A time that is played is a
 /// step of the budget, and is counted before its words are drawn. A batch ends at its depth or where no
-/// run is in.
+/// run is in. Where the watch says that it is over, what is left of the budget is spent.
 #[derive(Drop)]
-pub struct Random {
+pub struct Random<W> {
     seed: u64,
     depth: u32,
+    watch: W,
 }
 
-impl std::marker::Model for Random {
+impl<W> std::marker::Model for Random<W> {
     ghost use Rattle.std.specs.Prelude.{◌≤◌};
     ghost use Rattle.engine_random.specs.Settings.{Settings};
 
@@ -36,17 +38,32 @@ impl std::marker::Model for Random {
     ghost invariant = { λ r. r.depth ≤ 255 };
 }
 
-impl Random {
+impl Random<Unwatched> {
     /// Random simulation from this seed, of runs of up to `depth` steps.
-    pub fn new(seed: u64, depth: u32) -> Random
+    pub fn new(seed: u64, depth: u32) -> Random<Unwatched>
         requires { depth ≤ 255 }
         ensures { result ≡ record { seed = seed; depth = depth } }
     {
-        Random { seed, depth }
+        Random {
+            seed,
+            depth,
+            watch: Unwatched,
+        }
+    }
+
+    /// The same, until the watch says that it is over.
+    pub fn with_watch<W: Watch>(self, watch: W) -> Random<W>
+        ensures { result ≡ self }
+    {
+        Random {
+            seed: self.seed,
+            depth: self.depth,
+            watch,
+        }
     }
 }
 
-impl Engine for Random {
+impl<W: Watch> Engine for Random<W> {
     ghost use Rattle.engine.specs.declared.engine_error.EngineError.TheVariants.{OutOfMemory};
 
     ghost honest = { λ _. Unit {0} };
@@ -69,12 +86,15 @@ impl Engine for Random {
         ensures memory { IfErr result (λ e. e ≡ EngineError.OutOfMemory witness) }
     {
         let mut generator = Lcg128Xsl64::seed_from_u64(self.seed);
-        'playing: while budget.tick() {
+        'playing: while !self.watch.is_over() && budget.tick() {
             let mut batch = Batch::begin(alloc, circuit, &mut generator)?;
-            if let Some(finding) = batch.play(alloc, &mut generator, self.depth, budget)? {
+            let found = batch.play(alloc, &mut generator, self.depth, &self.watch, budget)?;
+            if let Some(finding) = found {
                 return Ok(finding);
             }
         }
+        let left = budget.left();
+        budget.spend(left);
         Ok(Finding::Unknown(Reason::Budget))
     }
 }

@@ -2,8 +2,8 @@
 
 use crate::error::TransformError;
 use crate::symbols::{add, count, name_others};
-use base::{Refused, extend};
-use graph::{AigerFile, Seq, Symbol, SymbolKind};
+use base::{Refused, extend, push};
+use graph::{AigerFile, Model, Seq, Symbol, SymbolKind};
 use live_safe::to_safety;
 use std::alloc::Global;
 
@@ -13,6 +13,38 @@ const SAVE: &[u8] = b"save";
 const SAVED: &[u8] = b"saved";
 /// What stands before a latch's name in that of its copy.
 const COPY: &[u8] = b"copy.";
+/// What stands before the number of a literal in the name of the latch that notes it.
+const SEEN: &str = "seen.";
+
+/// Adds what the name of something in the circuit becomes in the shadow circuit of the justice property at the position. An
+/// output's name, and that of another property, becomes nothing.
+fn add_old(
+    alloc: Global,
+    symbols: &mut Vec<Symbol>,
+    symbol: &Symbol,
+    justice: u32,
+) -> Result<(), Refused> {
+    let name = symbol.name.as_slice();
+    match symbol.kind {
+        SymbolKind::Input | SymbolKind::Latch | SymbolKind::Constraint => {
+            add(alloc, symbols, symbol.kind, symbol.position, name)
+        }
+        SymbolKind::Justice if symbol.position == justice => {
+            add(alloc, symbols, SymbolKind::Bad, 0, name)
+        }
+        _ => Ok(()),
+    }
+}
+
+/// The names in the shadow circuit of what the circuit has: each input and latch has one.
+fn old_names(alloc: Global, file: &AigerFile, justice: u32) -> Result<Vec<Symbol>, TransformError> {
+    let mut symbols = Vec::new(alloc);
+    for symbol in file.symbols() {
+        add_old(alloc, &mut symbols, symbol, justice)?;
+    }
+    name_others(alloc, &mut symbols, file.model())?;
+    Ok(symbols)
+}
 
 /// Adds the name of a latch's copy.
 fn add_copy(
@@ -27,57 +59,73 @@ fn add_copy(
     add(alloc, symbols, SymbolKind::Latch, position, name.as_slice())
 }
 
-/// Adds what the name of something in the circuit with `latches` latches becomes in the shadow circuit of the
-/// justice property at the position. An output's name, and that of another property, becomes nothing.
-fn add_old(
+/// Adds the names of the copies of the latches that have these names: the first copy is the latch at the position.
+fn add_copies(
     alloc: Global,
     symbols: &mut Vec<Symbol>,
-    symbol: &Symbol,
-    latches: u32,
-    justice: u32,
+    old: &[Symbol],
+    first: u32,
 ) -> Result<(), Refused> {
-    let name = symbol.name.as_slice();
-    match symbol.kind {
-        SymbolKind::Input | SymbolKind::Constraint => {
-            add(alloc, symbols, symbol.kind, symbol.position, name)
+    for symbol in old {
+        if symbol.kind == SymbolKind::Latch {
+            let position = first.saturating_add(symbol.position);
+            add_copy(alloc, symbols, position, symbol.name.as_slice())?;
         }
-        SymbolKind::Latch => {
-            add(alloc, symbols, symbol.kind, symbol.position, name)?;
-            let copy = latches.saturating_add(1).saturating_add(symbol.position);
-            add_copy(alloc, symbols, copy, name)
-        }
-        SymbolKind::Justice if symbol.position == justice => {
-            add(alloc, symbols, SymbolKind::Bad, 0, name)
-        }
-        _ => Ok(()),
     }
+    Ok(())
 }
 
-/// The names in the shadow circuit: those of the file, those of the copies, and the two of what is new.
-fn names(alloc: Global, file: &AigerFile, justice: u32) -> Result<Vec<Symbol>, Refused> {
-    let latches = count(file.model().latches().len());
-    let inputs = count(file.model().inputs().len());
-    let mut symbols = Vec::new(alloc);
-    for symbol in file.symbols() {
-        add_old(alloc, &mut symbols, symbol, latches, justice)?;
+/// Adds the names of the latches from the position on, one for each literal that is wanted.
+fn add_seen(
+    alloc: Global,
+    symbols: &mut Vec<Symbol>,
+    first: u32,
+    latches: u32,
+) -> Result<(), TransformError> {
+    for position in first..latches {
+        let number = position.saturating_sub(first);
+        let Ok(name) = format!(in alloc; "{SEEN}{number}") else {
+            return Err(TransformError::Name);
+        };
+        add(alloc, symbols, SymbolKind::Latch, position, name.as_bytes())?;
     }
-    add(alloc, &mut symbols, SymbolKind::Input, inputs, SAVE)?;
-    add(alloc, &mut symbols, SymbolKind::Latch, latches, SAVED)?;
+    Ok(())
+}
+
+/// The names in the shadow circuit: those of the circuit, those of the copies, and those of what is new.
+fn names(
+    alloc: Global,
+    file: &AigerFile,
+    shadow: &Model,
+    justice: u32,
+) -> Result<Vec<Symbol>, TransformError> {
+    let inputs = count(file.model().inputs().len());
+    let latches = count(file.model().latches().len());
+    let mut symbols = old_names(alloc, file, justice)?;
+    let mut new = Vec::new(alloc);
+    add(alloc, &mut new, SymbolKind::Input, inputs, SAVE)?;
+    add(alloc, &mut new, SymbolKind::Latch, latches, SAVED)?;
+    let copies = latches.saturating_add(1);
+    add_copies(alloc, &mut new, symbols.as_slice(), copies)?;
+    let seen = copies.saturating_add(latches);
+    add_seen(alloc, &mut new, seen, count(shadow.latches().len()))?;
+    for symbol in new {
+        push(&mut symbols, symbol)?;
+    }
     Ok(symbols)
 }
 
-/// The file of the shadow circuit of the justice property at the position: its inputs, latches and constraints have the
-/// names that they have in the circuit's file, the copy of a latch is called `copy.` and the latch's name, the new input
-/// `save`, the latch that it sets `saved`, and the bad literal as the justice property. Another input or latch is called `i0` or
-/// `lo0`, with its position.
+/// The file of the shadow circuit of the justice property at the position. Its inputs, latches and constraints have the
+/// names that they have in the circuit's file, and the bad literal that of the justice property; an input or latch without a name is
+/// called `i0` or `lo0`, with its position. The copy of a latch is called `copy.` and the latch's name, the new input `save`, the
+/// latch that it sets `saved`, and the latches that note the literals `seen.0`, `seen.1` and so on.
 pub fn shadow_file(
     alloc: Global,
     file: &AigerFile,
     position: u32,
 ) -> Result<AigerFile, TransformError> {
     let model = to_safety(alloc, file.model(), position)?;
-    let mut symbols = names(alloc, file, position)?;
-    name_others(alloc, &mut symbols, &model)?;
+    let symbols = names(alloc, file, &model, position)?;
     let shadow = AigerFile::new(alloc, model, Seq::from_vec(symbols), None)?;
     Ok(shadow)
 }

@@ -2,7 +2,7 @@ use Rattle.base.specs.Budget.{Spends}
 use Rattle.engine_random.proofs.random.RandomEngine.find.Given as goal
 
 abbrev pub invariant-playing : goal.invariant-playing
-invariant-playing l = Spends l.initial.budget l.budget
+invariant-playing g l = Spends l.initial.budget l.budget
 
 abbrev pub decreases-playing : goal.decreases-playing
-decreases-playing l = l.budget.left
+decreases-playing g l = l.budget.left
