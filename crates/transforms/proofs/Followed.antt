@@ -1,5 +1,5 @@
 -- A run of a circuit, and one of a circuit with the same inputs, and latches that move alike where they are marked.
-use Rattle.std.proofs.Common.{◌≡◌, ℕ, ◌+◌, ◌<◌, ◌%◌, Bool, true, false, not, List, [], ◌∷◌, length, map, get_or, refl, inl, inr, arith, All, ◌∙◌, sym, ap, ap₂}
+use Rattle.std.proofs.Common.{◌≡◌, ℕ, ◌<◌, ◌%◌, Bool, true, false, not, List, [], ◌∷◌, length, map, get_or, refl, inl, inr, arith, All, ◌∙◌, sym, ap, ap₂}
 use Rattle.std.proofs.lemmas.Bool.{cases_eq}
 use Rattle.std.proofs.lemmas.List.{length-map}
 use Rattle.std.proofs.lemmas.List.Elements.{All-nil, All-cons, All-head, All-tail}
@@ -8,8 +8,8 @@ use Rattle.graph.specs.declared.circuit.Latch.{Latch}
 use Rattle.graph.specs.declared.parts.Parts.{Parts}
 use Rattle.graph.specs.Justice.{at}
 use Rattle.graph.specs.Valuation.{Valuation, variable, place, value_of, state_of, inputs_of, Agrees}
-use Rattle.graph.specs.Runs.{IsReset, IsInitial, IsStep, Steps, StartsInitial, IsRun, KeepsConstraints, next_state}
-use Rattle.live_safe.proofs.Forced.{all_from_map, map_from_all}
+use Rattle.graph.specs.Runs.{IsInitial, IsStep, Steps, IsRun, next_state}
+use Rattle.live_safe.proofs.Forced.{all_from_map}
 use Rattle.live_safe.proofs.Values.{value-at}
 use Rattle.cones.specs.Marks.{AreSameAt, ExistenceLaw}
 

@@ -1,5 +1,5 @@
 -- The circuit of one property stands for the property.
-use Rattle.std.proofs.Common.{◌≡◌, ◌↔◌, ℕ, ◌<◌, ◌⊎◌, Bool, true, false, List, [], ◌∷◌, length, map, get_or, filter, refl, inl, inr, arith, All, Contains, ◌∙◌, sym, ap, ap₂, subst}
+use Rattle.std.proofs.Common.{◌≡◌, ℕ, ◌<◌, Bool, true, false, List, [], ◌∷◌, length, map, get_or, filter, refl, inl, inr, arith, All, ◌∙◌, sym, ap, ap₂, subst}
 use Rattle.std.proofs.lemmas.Bool.{cases_Bool}
 use Rattle.std.proofs.lemmas.List.{length-map, get_or-map}
 use Rattle.std.proofs.lemmas.List.Elements.{All-contains, All-map, Contains-get_or}
@@ -10,17 +10,17 @@ use Rattle.graph.specs.declared.circuit.Property.{Property}
 use Rattle.graph.specs.declared.circuit.Property.TheVariants.{Bad, Justice, Output}
 use Rattle.graph.specs.declared.parts.Parts.{Parts}
 use Rattle.graph.specs.Properties.{IsWatched}
-use Rattle.graph.specs.Valuation.{Valuation, variable, place, value_of, state_of, Agrees, Fires, defined}
-use Rattle.graph.specs.Runs.{IsRun, IsSafe, KeepsConstraints}
+use Rattle.graph.specs.Valuation.{Valuation, variable, place, value_of, Agrees, Fires}
+use Rattle.graph.specs.Runs.{IsRun, KeepsConstraints}
 use Rattle.graph.specs.Justice.{at}
 use Rattle.graph.specs.WellFormed.{IsWellFormed, used}
 use Rattle.graph.proofs.Alone.{watched_one}
 use Rattle.graph.proofs.Evaluation.{All-unmap}
 use Rattle.graph.proofs.Tabled.{holds_of_used}
 use Rattle.cnf.proofs.Safety.{watched_used}
-use Rattle.cones.specs.Marks.{IsMarked, IsKnown, AgreesOn, AreSameAt, ConeLaw, ExistenceLaw}
+use Rattle.cones.specs.Marks.{IsMarked, IsKnown, AgreesOn, ConeLaw, ExistenceLaw}
 use Rattle.transforms.specs.Cones.{IsConeOf}
-use Rattle.transforms.specs.Extracted.{kept_latch, first_of, outputs_of, bad_of, extract, AreAlike, StandsFor}
+use Rattle.transforms.specs.Extracted.{kept_latch, first_of, extract, AreAlike, StandsFor}
 use Rattle.transforms.proofs.Over.{filter_has}
 use Rattle.transforms.proofs.Followed.{MovesAlike, Follows, Pairs, Carried, same_value, pairs_map, pairs_all, carry}
 

@@ -1,7 +1,7 @@
 -- What latches that count steps say of runs.
-use Rattle.std.proofs.Common.{◌≡◌, ℕ, zero, suc, ◌+◌, ◌-◌, ◌*◌, ◌%◌, ◌<◌, ◌≤◌, ◌⊎◌, ◌↔◌, Bool, true, false, List, [], ◌∷◌, ◌++◌, length, map, take, get_or, refl, inl, inr, arith, All, Contains, get_or-take, ◌∙◌, sym, ap, ap₂, subst, length-append}
+use Rattle.std.proofs.Common.{◌≡◌, ℕ, zero, suc, ◌+◌, ◌-◌, ◌*◌, ◌<◌, ◌≤◌, ◌↔◌, Bool, true, false, List, [], ◌∷◌, ◌++◌, length, map, take, get_or, refl, inl, inr, arith, Contains, get_or-take, ◌∙◌, sym, ap, ap₂, subst, length-append}
 use Rattle.std.proofs.Math.Seq.{take-append_seam}
-use Rattle.std.proofs.lemmas.Bool.{cases_lt, cases_eq, true≢false}
+use Rattle.std.proofs.lemmas.Bool.{cases_lt, true≢false}
 use Rattle.std.proofs.lemmas.List.{map-append, length-map, get_or-map, get_or_append_left, get_or-append-add}
 use Rattle.std.proofs.lemmas.List.Elements.{All-nil, Contains-append_right}
 use Rattle.graph.specs.declared.circuit.Lit.{Lit}
@@ -15,8 +15,6 @@ use Rattle.graph.specs.WellFormed.{IsWellFormed, only_bad}
 use Rattle.graph.proofs.Alone.{run_with, run_without, watched_one}
 use Rattle.graph.proofs.Evaluation.{held, All-right, Contains-map}
 use Rattle.graph.proofs.Times.{Steps-at, Starts-at}
-use Rattle.stimulus.specs.declared.value.Stimulus.TheVariants.{Violated}
-use Rattle.stimulus.specs.Shown.{IsReplay, ShowsBad, last_of}
 use Rattle.live_safe.specs.Shadow.{positive, cleared}
 use Rattle.live_safe.proofs.Values.{value-at}
 use Rattle.live_safe.proofs.Extended.{of_latches}

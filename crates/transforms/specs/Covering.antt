@@ -1,5 +1,5 @@
 -- Circuits that are violated by how long a run is.
-use Rattle.std.specs.Prelude.{◌≡◌, ℕ, zero, suc, ◌+◌, ◌<◌, ◌≤◌, ◌↔◌, Bool, true, List, [], ◌∷◌, ◌++◌, length, map, take}
+use Rattle.std.specs.Prelude.{◌≡◌, ℕ, zero, suc, ◌+◌, ◌<◌, ◌↔◌, Bool, true, List, [], ◌∷◌, ◌++◌, length, map, take}
 use Rattle.graph.specs.declared.circuit.Lit.{Lit}
 use Rattle.graph.specs.declared.circuit.Latch.{Latch}
 use Rattle.graph.specs.declared.circuit.Property.{Property}

@@ -1,5 +1,5 @@
 -- The circuit of one property alone.
-use Rattle.std.specs.Prelude.{◌≡◌, ◌↔◌, ℕ, Bool, if◌then◌else◌, List, [], ◌∷◌, map, filter}
+use Rattle.std.specs.Prelude.{◌≡◌, ◌↔◌, Bool, if◌then◌else◌, List, [], ◌∷◌, map, filter}
 use Rattle.graph.specs.declared.circuit.Lit.{Lit}
 use Rattle.graph.specs.declared.circuit.Latch.{Latch}
 use Rattle.graph.specs.declared.circuit.Property.{Property}

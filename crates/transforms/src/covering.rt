@@ -132,7 +132,7 @@ pub fn bad_behind(alloc: Global, circuit: &Model, steps: u8) -> Result<AigerFile
 
 /// A bad literal that the circuit does not have: no run violates it.
 pub fn no_bad(circuit: &Model) -> Property
-    ensures behind { result ≡ Property.Bad (length circuit.now.bad) }
+    ensures position { result ≡ Property.Bad (length circuit.now.bad) }
     ensures none { HasProperty circuit.now result → ⊥ }
 {
     circuit.well_formed();

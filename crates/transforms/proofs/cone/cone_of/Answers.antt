@@ -1,6 +1,4 @@
-use Rattle.std.proofs.Common.{◌≡◌, ◌+◌, replicate, true, arith}
-use Rattle.std.specs.declared.vec.Vec.{Vec}
-use Rattle.transforms.specs.Cones.{IsConeOf}
+use Rattle.std.proofs.Common.{◌+◌, arith}
 use Rattle.transforms.proofs.Over.{all_cone, if_ok_then}
 use Rattle.transforms.proofs.cone.cone_of.Goals as goal
 

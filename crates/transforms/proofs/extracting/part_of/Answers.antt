@@ -1,4 +1,4 @@
-use Rattle.std.proofs.Common.{◌≡◌, ◌∙◌, ap}
+use Rattle.std.proofs.Common.{◌∙◌, ap}
 use Rattle.graph.specs.declared.parts.Parts.{Parts}
 use Rattle.stimulus.proofs.Watching.{watched_in_range}
 use Rattle.transforms.specs.Extracted.{extract}
