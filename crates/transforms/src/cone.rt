@@ -1,13 +1,17 @@
 //! The variables on which literals rest at any time.
 
+ghost use Rattle.std.specs.Prelude.{◌≡◌, ◌≤◌, ◌↔◌, All, IfOk, IsTrue};
+ghost use Rattle.graph.specs.Valuation.{variable as variable_of, place};
+ghost use Rattle.cones.specs.Marks.{IsMarked};
+ghost use Rattle.transforms.specs.Cones.{IsConeOf, is_over as is_over_of};
+
 use base::{Refused, filled, push};
-use graph::{Lit, Model};
+use graph::{Gate, Latch, Lit, Model};
 use std::alloc::Global;
 
-/// The variables on which a property and the constraints rest, at any time (the sequential cone of
-/// influence). What is marked only says which clauses are tried.
+/// The search for the variables on which literals rest, at any time (the sequential cone of influence).
 #[derive(Drop)]
-pub struct Cone {
+struct Search {
     /// for each variable two on which its value rests: those of a gate's right sides, or of a latch's
     /// next literal; else 0
     below: Vec<[u32; 2]>,
@@ -16,9 +20,9 @@ pub struct Cone {
     open: Vec<u32>,
 }
 
-impl Cone {
+impl Search {
     /// Nothing yet. It costs the circuit.
-    pub fn new(alloc: Global, circuit: &Model) -> Result<Cone, Refused> {
+    fn new(alloc: Global, circuit: &Model) -> Result<Search, Refused> {
         circuit.well_formed();
         let places = circuit.max_var() as usize + 1;
         let mut below = filled(alloc, [0, 0], places)?;
@@ -34,11 +38,11 @@ impl Cone {
         }
         let marks = filled(alloc, false, places)?;
         let open = Vec::new(alloc);
-        Ok(Cone { below, marks, open })
+        Ok(Search { below, marks, open })
     }
 
     /// Marks a variable.
-    pub fn mark(&mut self, variable: u32) -> Result<(), Refused> {
+    fn mark(&mut self, variable: u32) -> Result<(), Refused> {
         if let Some(mark) = self.marks.get_mut(variable as usize)
             && !*mark
         {
@@ -49,7 +53,7 @@ impl Cone {
     }
 
     /// Marks the variables of all of the literals.
-    pub fn mark_all(&mut self, lits: &[Lit]) -> Result<(), Refused> {
+    fn mark_all(&mut self, lits: &[Lit]) -> Result<(), Refused> {
         for lit in lits {
             self.mark(lit.variable())?;
         }
@@ -57,7 +61,7 @@ impl Cone {
     }
 
     /// Marks all on which what is marked rests. Each variable is opened once.
-    pub fn close(&mut self) -> Result<(), Refused> {
+    fn close(&mut self) -> Result<(), Refused> {
         for _ in 0..self.below.len() {
             let Some(variable) = self.open.pop() else {
                 return Ok(());
@@ -71,9 +75,95 @@ impl Cone {
         }
         Ok(())
     }
+}
 
-    /// Whether each literal's variable is marked.
-    pub fn has_all(&self, lits: &[Lit]) -> bool {
-        lits.iter().all(|lit| self.marks.get(lit.variable() as usize) == Some(&true))
+/// Marks what the literal and the constraints rest on.
+fn searched(alloc: Global, circuit: &Model, watched: Lit) -> Result<Vec<bool>, Refused> {
+    let mut search = Search::new(alloc, circuit)?;
+    search.mark(watched.variable())?;
+    search.mark_all(circuit.constraints())?;
+    search.close()?;
+    let Search {
+        below: _,
+        marks,
+        open: _,
+    } = search;
+    Ok(marks)
+}
+
+/// Whether the variable is marked.
+pub fn is_marked(marks: &[bool], variable: u32) -> bool
+    ensures { result ≡ place marks.now variable }
+{
+    match marks.get(variable as usize) {
+        Some(mark) => *mark,
+        None => false,
     }
+}
+
+/// Whether each literal's variable is marked.
+fn are_marked(marks: &[bool], lits: &[Lit]) -> bool
+    ensures { IsTrue result ↔ All (λ a. IsMarked marks.now (variable_of a)) lits.now }
+{
+    lits.iter().all(|lit| is_marked(marks, lit.variable()))
+}
+
+/// Whether all literals of the clause are marked.
+pub fn is_over(marks: &[bool], clause: &[Lit]) -> bool
+    ensures { result ≡ is_over_of marks.now clause.now }
+{
+    are_marked(marks, clause)
+}
+
+/// Whether with the gate its right sides are marked.
+fn is_closed_at(marks: &[bool], gate: Gate) -> bool
+    ensures { IsTrue result ↔ (IsMarked marks.now (variable_of gate.lhs) → IsMarked marks.now (variable_of gate.rhs0) × IsMarked marks.now (variable_of gate.rhs1)) }
+{
+    !is_marked(marks, gate.lhs.variable())
+        || (is_marked(marks, gate.rhs0.variable()) && is_marked(marks, gate.rhs1.variable()))
+}
+
+/// Whether with the latch its next literal is marked.
+fn is_closed_over(marks: &[bool], latch: Latch) -> bool
+    ensures { IsTrue result ↔ (IsMarked marks.now (variable_of latch.lit) → IsMarked marks.now (variable_of latch.next)) }
+{
+    !is_marked(marks, latch.lit.variable()) || is_marked(marks, latch.next.variable())
+}
+
+/// Whether the gates' right sides are marked with them.
+fn are_closed_at(marks: &[bool], gates: &[Gate]) -> bool
+    ensures { IsTrue result ↔ All (λ g. IsMarked marks.now (variable_of g.lhs) → IsMarked marks.now (variable_of g.rhs0) × IsMarked marks.now (variable_of g.rhs1)) gates.now }
+{
+    gates.iter().all(|gate| is_closed_at(marks, *gate))
+}
+
+/// Whether the latches' next literals are marked with them.
+fn are_closed_over(marks: &[bool], latches: &[Latch]) -> bool
+    ensures { IsTrue result ↔ All (λ l. IsMarked marks.now (variable_of l.lit) → IsMarked marks.now (variable_of l.next)) latches.now }
+{
+    latches.iter().all(|latch| is_closed_over(marks, *latch))
+}
+
+/// Whether the literal, the constraints, and what the marked variables rest on are marked.
+fn is_cone(circuit: &Model, watched: Lit, marks: &[bool]) -> bool
+    ensures { IsTrue result → IsConeOf circuit.now watched marks.now }
+{
+    is_marked(marks, watched.variable())
+        && are_marked(marks, circuit.constraints())
+        && are_closed_at(marks, circuit.gates())
+        && are_closed_over(marks, circuit.latches())
+}
+
+/// The variables on which the literal and the constraints rest, at any time. It costs the circuit.
+pub fn cone_of(alloc: Global, circuit: &Model, watched: Lit) -> Result<Vec<bool>, Refused>
+    requires { variable_of watched ≤ circuit.now.max_var }
+    ensures { IfOk result (λ marks. IsConeOf circuit.now watched marks.items) }
+{
+    circuit.well_formed();
+    let marks = searched(alloc, circuit, watched)?;
+    if is_cone(circuit, watched, &marks) {
+        return Ok(marks);
+    }
+    // The search leaves nothing out, so this never comes; all variables would do.
+    filled(alloc, true, circuit.max_var() as usize + 1)
 }

@@ -1,5 +1,8 @@
 //! Why a circuit was not made.
 
+ghost use Rattle.std.specs.Prelude.{◌≡◌};
+ghost use Rattle.transforms.specs.Causes.{number_of, place_of};
+
 use base::Refused;
 use graph::ReadError;
 use live_safe::LiveError;
@@ -23,18 +26,34 @@ pub enum TransformError {
 }
 
 impl From<ReadError> for TransformError {
+    ghost use Rattle.std.specs.Prelude.{◌≡◌};
+    ghost use Rattle.transforms.specs.declared.error.TransformError.TheVariants.{Circuit};
+
+    ghost from_gives = { λ error e. e ≡ Circuit error };
+
     fn from(error: ReadError) -> TransformError {
         TransformError::Circuit(error)
     }
 }
 
 impl From<LiveError> for TransformError {
+    ghost use Rattle.std.specs.Prelude.{◌≡◌};
+    ghost use Rattle.transforms.specs.declared.error.TransformError.TheVariants.{Shadow};
+
+    ghost from_gives = { λ error e. e ≡ Shadow error };
+
     fn from(error: LiveError) -> TransformError {
         TransformError::Shadow(error)
     }
 }
 
 impl From<Refused> for TransformError {
+    ghost use Rattle.std.specs.Prelude.{◌≡◌};
+    ghost use Rattle.base.specs.Witness.{witness};
+    ghost use Rattle.transforms.specs.declared.error.TransformError.TheVariants.{OutOfMemory};
+
+    ghost from_gives = { λ _ e. e ≡ OutOfMemory witness };
+
     fn from(refused: Refused) -> TransformError {
         TransformError::OutOfMemory(refused)
     }
@@ -42,7 +61,9 @@ impl From<Refused> for TransformError {
 
 impl TransformError {
     /// The refusal's number.
-    pub fn number(&self) -> u8 {
+    pub fn number(&self) -> u8
+        ensures { result ≡ number_of self.now }
+    {
         match self {
             TransformError::NoProperty(_) => 30,
             TransformError::Circuit(error) => error.number(),
@@ -52,7 +73,9 @@ impl TransformError {
     }
 
     /// The refusal's place: the property's position, that of a circuit's fault, or 0.
-    pub fn place(&self) -> u64 {
+    pub fn place(&self) -> u64
+        ensures { result ≡ place_of self.now }
+    {
         match self {
             TransformError::NoProperty(position) => u64::from(*position),
             TransformError::Circuit(error) => error.place(),

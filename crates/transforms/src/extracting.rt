@@ -1,15 +1,27 @@
 //! The circuit of one property alone.
 
-use crate::cone::Cone;
+ghost use Rattle.std.specs.Prelude.{◌≡◌, [], IfOk, IfErr, MatchOption, OnOk, filter, map};
+ghost use Rattle.graph.specs.declared.circuit.Lit.{Lit};
+ghost use Rattle.graph.specs.Properties.{IsWatched, position_of};
+ghost use Rattle.graph.specs.Valuation.{variable, place};
+ghost use Rattle.transforms.specs.Cones.{IsConeOf};
+ghost use Rattle.transforms.specs.Extracted.{HasCause, IsPartOf, IsUnmade, StandsFor, bad_of, extract, kept_latch, outputs_of};
+
+use crate::cone::{cone_of, is_marked};
 use crate::error::TransformError;
 use crate::symbols::{add, name_others};
 use base::Refused;
-use graph::{AigerFile, Gate, Latch, Lit, Model, Parts, Property, Seq, Symbol, SymbolKind};
+use cones::value_laws;
+use graph::{
+    AigerFile, Gate, Latch, Lit, Model, Parts, Property, ReadError, Seq, Symbol, SymbolKind,
+};
 use property_names::symbol_of;
 use std::alloc::Global;
 
 /// The literal that a property watches, where the circuit has that bad literal, or that output as one.
-fn watched(circuit: &Model, property: Property) -> Option<Lit> {
+fn watched(circuit: &Model, property: Property) -> Option<Lit>
+    ensures { MatchOption result ((a : Lit) → IsWatched circuit.now property a → ⊥) (IsWatched circuit.now property) }
+{
     match property {
         Property::Bad(n) => circuit.bad().get(n as usize).copied(),
         Property::Output(n) if circuit.parts().are_outputs_bad() => {
@@ -19,53 +31,57 @@ fn watched(circuit: &Model, property: Property) -> Option<Lit> {
     }
 }
 
-/// The gates of the cone.
-fn gates_in(alloc: Global, cone: &Cone, gates: &[Gate]) -> Result<Seq<Gate>, Refused> {
+/// The gates that are marked.
+fn gates_in(alloc: Global, marks: &[bool], gates: &[Gate]) -> Result<Seq<Gate>, Refused>
+    ensures { IfOk result (λ kept. kept ≡ filter (λ g. place marks.now (variable g.lhs)) gates.now) }
+{
     let mut kept = Seq::new(alloc);
-    for gate in gates {
-        if cone.has_all(&[gate.lhs]) {
+    'choosing: for gate in gates {
+        if is_marked(marks, gate.lhs.variable()) {
             kept.push(*gate)?;
         }
     }
     Ok(kept)
 }
 
-/// The latches, of which each that is not of the cone keeps its value.
-fn latches_in(alloc: Global, cone: &Cone, latches: &[Latch]) -> Result<Seq<Latch>, Refused> {
+/// The latch where it is marked, and else one that keeps its value.
+fn latch_in(marks: &[bool], latch: Latch) -> Latch
+    ensures { result ≡ kept_latch marks.now latch }
+{
+    if is_marked(marks, latch.lit.variable()) {
+        latch
+    } else {
+        Latch {
+            next: latch.lit,
+            ..latch
+        }
+    }
+}
+
+/// The latches, of which each that is not marked keeps its value.
+fn latches_in(alloc: Global, marks: &[bool], latches: &[Latch]) -> Result<Seq<Latch>, Refused>
+    ensures { IfOk result (λ kept. kept ≡ map (kept_latch marks.now) latches.now) }
+{
     let mut kept = Seq::new(alloc);
     for latch in latches {
-        let mut latch = *latch;
-        if !cone.has_all(&[latch.lit]) {
-            latch.next = latch.lit;
-        }
-        kept.push(latch)?;
+        kept.push(latch_in(marks, *latch))?;
     }
     Ok(kept)
 }
 
-/// What the literal and the constraints rest on.
-fn cone_of(alloc: Global, circuit: &Model, watched: Lit) -> Result<Cone, Refused> {
-    let mut cone = Cone::new(alloc, circuit)?;
-    cone.mark(watched.variable())?;
-    cone.mark_all(circuit.constraints())?;
-    cone.close()?;
-    Ok(cone)
-}
-
-/// Leaves the gates out that are not of the cone, and has the latches that are not of it keep their values.
-fn narrow(alloc: Global, parts: &mut Parts, cone: &Cone) -> Result<(), Refused> {
-    parts.gates = gates_in(alloc, cone, parts.gates.as_slice())?;
-    parts.latches = latches_in(alloc, cone, parts.latches.as_slice())?;
+/// Leaves the gates out that are not marked, and has the latches that are not marked keep their values.
+fn narrow(alloc: Global, parts: &mut Parts, marks: &[bool]) -> Result<(), Refused>
+    ensures { OnOk result (parts.new ≡ record parts.old { latches = map (kept_latch marks.now) parts.old.latches; gates = filter (λ g. place marks.now (variable g.lhs)) parts.old.gates }) }
+{
+    parts.gates = gates_in(alloc, marks, parts.gates.as_slice())?;
+    parts.latches = latches_in(alloc, marks, parts.latches.as_slice())?;
     Ok(())
 }
 
 /// Leaves all properties out but this one, which watches the literal.
-fn watch(
-    alloc: Global,
-    parts: &mut Parts,
-    property: Property,
-    watched: Lit,
-) -> Result<(), Refused> {
+fn watch(alloc: Global, parts: &mut Parts, property: Property, watched: Lit) -> Result<(), Refused>
+    ensures { OnOk result (parts.new ≡ record parts.old { outputs = outputs_of property watched; bad = bad_of property watched; justice = []; fairness = [] }) }
+{
     parts.outputs = Seq::new(alloc);
     parts.bad = Seq::new(alloc);
     parts.justice = Seq::new(alloc);
@@ -76,27 +92,47 @@ fn watch(
     }
 }
 
-/// The parts of the circuit of the property that watches this literal: all inputs and latches, the constraints, the gates on which
-/// they and the property rest, and of the properties this one.
+/// The parts of the circuit of the property that watches this literal, with what is marked.
 fn parts_of(
     alloc: Global,
     circuit: &Model,
     property: Property,
     watched: Lit,
-) -> Result<Parts, Refused> {
-    let cone = cone_of(alloc, circuit, watched)?;
+    marks: &[bool],
+) -> Result<Parts, Refused>
+    ensures { IfOk result (λ parts. parts ≡ extract circuit.now property watched marks.now) }
+{
     let mut parts = circuit.parts().copy(alloc)?;
-    narrow(alloc, &mut parts, &cone)?;
+    narrow(alloc, &mut parts, marks)?;
     watch(alloc, &mut parts, property, watched)?;
     Ok(parts)
 }
 
-/// The names in the circuit of the property: each input and latch has one.
-fn names(
+/// The circuit of the property that watches this literal: all inputs and latches, the constraints, the gates on which
+/// they and the property rest, and of the properties this one.
+fn part_of(
     alloc: Global,
-    file: &AigerFile,
+    circuit: &Model,
     property: Property,
-) -> Result<Vec<Symbol>, TransformError> {
+    watched: Lit,
+) -> Result<Model, ReadError>
+    requires { IsWatched circuit.now property watched }
+    ensures part { IfOk result (IsPartOf circuit.now property) }
+    ensures stands { IfOk result (StandsFor circuit.now property) }
+{
+    circuit.well_formed();
+    let marks = cone_of(alloc, circuit, watched)?;
+    let parts = parts_of(alloc, circuit, property, watched, &marks)?;
+    let part = Model::from_parts(alloc, parts)?;
+    value_laws(circuit);
+    value_laws(&part);
+    Ok(part)
+}
+
+/// The names in the circuit of the property: each input and latch has one.
+fn names(alloc: Global, file: &AigerFile, property: Property) -> Result<Vec<Symbol>, TransformError>
+    ensures { IfErr result IsUnmade }
+{
     let mut symbols = Vec::new(alloc);
     for symbol in file.symbols() {
         if matches!(
@@ -118,20 +154,46 @@ fn names(
     Ok(symbols)
 }
 
+/// The file of the circuit of the property that watches this literal, with names.
+fn named_part(
+    alloc: Global,
+    file: &AigerFile,
+    property: Property,
+    watched: Lit,
+) -> Result<AigerFile, TransformError>
+    requires { IsWatched file.now.model property watched }
+    ensures part { IfOk result (λ f. IsPartOf file.now.model property f.model) }
+    ensures stands { IfOk result (λ f. StandsFor file.now.model property f.model) }
+    ensures refused { IfErr result IsUnmade }
+{
+    let part = part_of(alloc, file.model(), property, watched)?;
+    let symbols = Seq::from_vec(names(alloc, file, property)?);
+    let named = AigerFile::new(alloc, part, symbols, None)?;
+    Ok(named)
+}
+
+/// The position of a property among those of its kind.
+fn position(property: Property) -> u32
+    ensures { result ≡ position_of property }
+{
+    match property {
+        Property::Bad(n) | Property::Justice(n) | Property::Output(n) => n,
+    }
+}
+
 /// The file of the circuit of a property, which is no justice property: all inputs and latches, each with a name, the constraints, and
 /// the gates on which they and the property rest. A latch on which they don't rest keeps its value.
 pub fn extracted(
     alloc: Global,
     file: &AigerFile,
     property: Property,
-) -> Result<AigerFile, TransformError> {
+) -> Result<AigerFile, TransformError>
+    ensures part { IfOk result (λ f. IsPartOf file.now.model property f.model) }
+    ensures stands { IfOk result (λ f. StandsFor file.now.model property f.model) }
+    ensures refused { IfErr result (HasCause file.now.model property) }
+{
     let Some(watched) = watched(file.model(), property) else {
-        let (Property::Bad(n) | Property::Justice(n) | Property::Output(n)) = property;
-        return Err(TransformError::NoProperty(n));
+        return Err(TransformError::NoProperty(position(property)));
     };
-    let parts = parts_of(alloc, file.model(), property, watched)?;
-    let part = Model::from_parts(alloc, parts)?;
-    let symbols = Seq::from_vec(names(alloc, file, property)?);
-    let extracted = AigerFile::new(alloc, part, symbols, None)?;
-    Ok(extracted)
+    named_part(alloc, file, property, watched)
 }

@@ -1,5 +1,9 @@
 //! The shadow circuit of a justice property as a file, with names.
 
+ghost use Rattle.std.specs.Prelude.{◌≡◌, ◌<◌, ◌≤◌, length, IfOk, IfErr};
+ghost use Rattle.live_safe.specs.Shadow.{shadow_of};
+ghost use Rattle.transforms.specs.Shadowed.{IsRefused};
+
 use crate::error::TransformError;
 use crate::symbols::{add, count, name_others};
 use base::{Refused, extend, push};
@@ -123,7 +127,12 @@ pub fn shadow_file(
     alloc: Global,
     file: &AigerFile,
     position: u32,
-) -> Result<AigerFile, TransformError> {
+) -> Result<AigerFile, TransformError>
+    ensures shadow { IfOk result (λ f. f.model ≡ shadow_of file.now.model position) }
+    ensures exists { IfOk result (λ _. position < length file.now.model.justice) }
+    ensures within { IfOk result (λ _. (shadow_of file.now.model position).max_var ≤ 4194303) }
+    ensures refused { IfErr result (IsRefused file.now.model position) }
+{
     let model = to_safety(alloc, file.model(), position)?;
     let symbols = names(alloc, file, &model, position)?;
     let shadow = AigerFile::new(alloc, model, Seq::from_vec(symbols), None)?;

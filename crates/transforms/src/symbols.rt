@@ -1,5 +1,8 @@
 //! Names of what a circuit has.
 
+ghost use Rattle.std.specs.Prelude.{◌≡◌, ◌≤◌, IfErr};
+ghost use Rattle.transforms.specs.Extracted.{IsUnmade};
+
 use crate::error::TransformError;
 use base::{Refused, filled_like, push};
 use graph::{Model, Seq, Symbol, SymbolKind};
@@ -25,7 +28,9 @@ pub fn add(
 }
 
 /// How many there are, which the limits of a circuit keep at 4,194,303 at most.
-pub fn count(length: usize) -> u32 {
+pub fn count(length: usize) -> u32
+    ensures { length ≤ 4194303 → result ≡ length }
+{
     if length < 4_194_303 {
         length as u32
     } else {
@@ -47,7 +52,9 @@ fn add_unnamed(
     kind: SymbolKind,
     letters: &str,
     named: &[bool],
-) -> Result<(), TransformError> {
+) -> Result<(), TransformError>
+    ensures { IfErr result IsUnmade }
+{
     let mut position = 0u32;
     for is_named in named {
         if !*is_named {
@@ -66,7 +73,9 @@ pub fn name_others(
     alloc: Global,
     symbols: &mut Vec<Symbol>,
     circuit: &Model,
-) -> Result<(), TransformError> {
+) -> Result<(), TransformError>
+    ensures { IfErr result IsUnmade }
+{
     let mut inputs = filled_like(alloc, false, circuit.inputs())?;
     let mut latches = filled_like(alloc, false, circuit.latches())?;
     for symbol in symbols.as_slice() {

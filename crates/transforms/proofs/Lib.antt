@@ -1,0 +1,5 @@
+pub mod OneBad
+pub mod Steps
+pub mod Over
+pub mod Followed
+pub mod Standing

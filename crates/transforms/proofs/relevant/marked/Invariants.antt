@@ -1,0 +1,6 @@
+use Rattle.std.proofs.Common.{◌≡◌, filter, take}
+use Rattle.transforms.specs.Cones.{is_over}
+use Rattle.transforms.proofs.relevant.marked.Given as goal
+
+abbrev pub invariant-choosing : goal.invariant-choosing
+invariant-choosing l = l.kept ≡ filter (is_over l.marks) (take l.clause-index l.clauses)

@@ -1,0 +1,5 @@
+pub mod Causes
+pub mod Covering
+pub mod Cones
+pub mod Extracted
+pub mod Shadowed
