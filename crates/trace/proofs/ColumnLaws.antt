@@ -110,6 +110,7 @@ rows_complete bits (suc n) values [] long c = absurd (omega (arith, long))
 rows_complete bits (suc n) values (w ∷ r) long c =
     let wide : length (values_at bits w) ≡ length bits = length-map bits (λ b. value_of w b.lit) in
     let front = completes_front values (values_at bits w) (flat_map (values_at bits) r) c in
-    let back = completes_back values (values_at bits w) (flat_map (values_at bits) r) c in
-    (subst (λ (k : ℕ). Completes (take k values) (values_at bits w)) wide front,
-     rows_complete bits n (drop (length bits) values) r (omega (arith, long)) (subst (λ (k : ℕ). Completes (drop k values) (flat_map (values_at bits) r)) wide back))
+    let back = completes_back values (values_at bits w) (flat_map (values_at bits) r) c in (
+      subst (λ (k : ℕ). Completes (take k values) (values_at bits w)) wide front,
+      rows_complete bits n (drop (length bits) values) r (omega (arith, long)) (subst (λ (k : ℕ). Completes (drop k values) (flat_map (values_at bits) r)) wide back),
+    )

@@ -11,7 +11,11 @@ use simulate::Replay;
 use std::alloc::Global;
 
 /// Adds the values of the bits at the time stepped last.
-fn push_values(values: &mut Vec<Option<bool>>, replay: &Replay<'_>, bits: &[Bit<'_>]) -> Result<(), Refused>
+fn push_values(
+    values: &mut Vec<Option<bool>>,
+    replay: &Replay<'_>,
+    bits: &[Bit<'_>],
+) -> Result<(), Refused>
     requires stepped { IsSome replay.now.now }
     requires in_range { All (λ b. variable b.lit ≤ replay.now.circuit.max_var) bits.now }
     ensures { OnOk result ((w : Valuation) → replay.now.now ≡ Some w → values.new.items ≡ values.old.items ++ known_at bits.now w) }

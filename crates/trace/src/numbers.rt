@@ -123,7 +123,11 @@ fn open_length(bits: &[Option<bool>]) -> usize
 pub fn number_length(bits: &[Option<bool>]) -> usize
     ensures { result ≡ length (number_text bits.now) }
 {
-    if are_known(bits) { known_length(bits) } else { open_length(bits) }
+    if are_known(bits) {
+        known_length(bits)
+    } else {
+        open_length(bits)
+    }
 }
 
 /// Puts the digits of the bits in binary, the highest first.
@@ -175,5 +179,9 @@ pub fn put_number<W: Sink>(out: &mut W, bits: &[Option<bool>]) -> Result<(), Fai
     ensures puts { Puts result (W.contents out.old) (W.contents out.new) (number_text bits.now) }
     ensures counts { CountsFailure (W.failed out.old) (W.failed out.new) result }
 {
-    if are_known(bits) { put_known(out, bits) } else { put_open(out, bits) }
+    if are_known(bits) {
+        put_known(out, bits)
+    } else {
+        put_open(out, bits)
+    }
 }

@@ -19,11 +19,7 @@ fn first_wrong(rows: &[Seq<Option<bool>>], long: usize) -> Option<usize>
 }
 
 /// The number of the first row that has another length: 0 for that of the latches, then from 1 on those of the inputs.
-fn wrong_row(
-    parts: &Parts,
-    initial: &[Option<bool>],
-    inputs: &[Seq<Option<bool>>],
-) -> Option<u64>
+fn wrong_row(parts: &Parts, initial: &[Option<bool>], inputs: &[Seq<Option<bool>>]) -> Option<u64>
     ensures { MatchOption result (HasFitRows parts.now initial.now inputs.now) (IsWrongRowOf parts.now initial.now inputs.now) }
 {
     if initial.len() != parts.latches.len() {

@@ -164,7 +164,14 @@ fn put_shown<W: Sink>(
     ensures untouched { IfErr result (λ e. e ≢ SimError.Device → out.new ≡ out.old) }
 {
     let widths = values_widths(alloc, &shown.bits, &shown.signals, &shown.values, times)?;
-    put_table(out, &shown.bits, &shown.signals, &shown.values, &widths, shown.start)?;
+    put_table(
+        out,
+        &shown.bits,
+        &shown.signals,
+        &shown.values,
+        &widths,
+        shown.start,
+    )?;
     Ok(())
 }
 

@@ -83,7 +83,14 @@ fn put_shown<W: Sink>(
     ensures device { IfErr result (λ e. e ≡ SimError.Device → W.failed out.new ≡ W.failed out.old + 1) }
     ensures untouched { IfErr result (λ e. e ≢ SimError.Device → out.new ≡ out.old) }
 {
-    let text = wave(alloc, &shown.bits, &shown.signals, &shown.values, times, shown.start)?;
+    let text = wave(
+        alloc,
+        &shown.bits,
+        &shown.signals,
+        &shown.values,
+        times,
+        shown.start,
+    )?;
     put_all(out, text.as_slice())?;
     Ok(())
 }
