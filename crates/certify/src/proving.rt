@@ -16,7 +16,7 @@ ghost use Rattle.certify.specs.Sections.{AreClosed, AreProofs, case_over};
 use crate::closed_cases::ClosedCases;
 use crate::counterexample::{Case, Counterexample};
 use crate::halt::Halt;
-use crate::sweeping::Sweeping;
+use crate::sweeping::sweep_pairs;
 use base::Budget;
 use cdcl::{Refuted, Refuter};
 use cnf::{NextTable, bad_unit, init_units, shared_base, start_base, step_units};
@@ -122,9 +122,7 @@ fn close_steps(
 {
     let table = NextTable::new(alloc, circuit)?;
     let mut near = Near::new(alloc, circuit)?;
-    let mut sweeping = Sweeping::new(circuit, budget);
     for (place, clause) in invariant.iter().enumerate() {
-        sweeping.run(alloc, circuit, invariant, &mut cases.refuter, budget)?;
         let units = step_units(alloc, circuit, &table, clause.as_slice())?;
         let part = near.part_of(alloc, circuit, units.as_slice())?;
         let case = Case::Step(place as u64);
@@ -167,6 +165,7 @@ fn close_others(
     ensures proved { IfOk result (λ l. (b : Base) × IsShared circuit.now invariant.now (Some l) b × ((cs : List AnyCase) → AreProofs cs sections.old → AreProofs (cs ++ map (step_case circuit.now b) invariant.now ++ bad_case circuit.now b bad ∷ []) sections.new)) }
     ensures halted { IfErr result (IsHalt circuit.now invariant.now bad budget.new) }
 {
+    sweep_pairs(alloc, circuit, invariant, &mut cases.refuter, budget)?;
     close_steps(alloc, circuit, invariant, cases, budget)?;
     let units = Seq::from_slice(alloc, &[bad_unit(circuit, bad)])?;
     let part = Near::new(alloc, circuit)?.part_of(alloc, circuit, units.as_slice())?;

@@ -9,9 +9,6 @@ use solver::SatError;
 use std::alloc::Global;
 use sweep::{STEPS, Sweep};
 
-/// Sweeping begins where the cases have taken so many steps for each gate, which is about what it takes itself.
-const STEPS_OF_A_GATE: u64 = 100;
-
 /// Whether a few steps show that the signals of a pair do not differ in this direction.
 fn is_shown(
     alloc: Global,
@@ -36,8 +33,27 @@ fn is_shown(
     Ok(is_shown)
 }
 
-/// Asks of pairs of signals whether they can differ, for what the refuter learns of it: the lemmas of which short proofs are made.
-fn sweep_pairs(
+/// Whether two clauses say that two literals are equal.
+fn are_equality(one: &[Lit], other: &[Lit]) -> bool {
+    match (one, other) {
+        ([a, b], [c, d]) => {
+            (a.0 ^ 1 == c.0 && b.0 ^ 1 == d.0) || (a.0 ^ 1 == d.0 && b.0 ^ 1 == c.0)
+        }
+        _ => false,
+    }
+}
+
+/// Whether two clauses, one behind the other, say that latches are equal.
+fn has_equality(invariant: &[Seq<Lit>]) -> bool {
+    (1..invariant.len()).any(|place| are_equality(
+        invariant[place - 1].as_slice(),
+        invariant[place].as_slice(),
+    ))
+}
+
+/// Asks of pairs of signals whether they can differ, for what the refuter learns of it: the lemmas of which short proofs are
+/// made. Where no latches are equal it asks nothing: of latches that are constant, constant signals follow at once.
+pub(crate) fn sweep_pairs(
     alloc: Global,
     circuit: &Model,
     invariant: &[Seq<Lit>],
@@ -48,6 +64,9 @@ fn sweep_pairs(
     ensures same { refuter.new ≡ refuter.old }
     ensures spends { Spends budget.old budget.new }
 {
+    if !has_equality(invariant) {
+        return Ok(());
+    }
     let mut sweep = Sweep::new(alloc, circuit, invariant)?;
     'sweeping: for pair in 0..sweep.len() {
         if budget.left() == 0 {
@@ -58,43 +77,4 @@ fn sweep_pairs(
         }
     }
     Ok(())
-}
-
-/// Sweeping that waits until it is worth its steps: cases that are shown at once need none.
-#[derive(Drop)]
-pub(crate) struct Sweeping {
-    /// how many steps the budget has left at most where it begins
-    due: u64,
-    is_done: bool,
-}
-
-impl Sweeping {
-    /// Sweeping that has not begun.
-    pub(crate) fn new(circuit: &Model, budget: &Budget) -> Sweeping {
-        let patience = STEPS_OF_A_GATE.saturating_mul(circuit.gates().len() as u64);
-        Sweeping {
-            due: budget.left().saturating_sub(patience),
-            is_done: false,
-        }
-    }
-
-    /// Sweeps, once, where it is due: what the refuter learns of signals makes the proofs of the further cases short.
-    pub(crate) fn run(
-        &mut self,
-        alloc: Global,
-        circuit: &Model,
-        invariant: &[Seq<Lit>],
-        refuter: &mut Refuter,
-        budget: &mut Budget,
-    ) -> Result<(), SatError>
-        requires { refuter.old.formula.vars ≡ circuit.now.max_var + 1 }
-        ensures same { refuter.new ≡ refuter.old }
-        ensures spends { Spends budget.old budget.new }
-    {
-        if self.is_done || budget.left() > self.due {
-            return Ok(());
-        }
-        self.is_done = true;
-        sweep_pairs(alloc, circuit, invariant, refuter, budget)
-    }
 }

@@ -13,7 +13,7 @@ use Rattle.certify.proofs.proving.close_others.Goals as goal
 
 pub returns-in_err-close_steps-clause-halted : goal.returns-in_err-close_steps-clause-halted
 returns-in_err-close_steps-clause-halted c =
-    err_gives (IsHalt c.args.circuit.now c.args.invariant.now c.args.bad c.close_steps.new.budget) _ c.in_err-close_steps.field-0.0 c.from_residual.ensures.1
+    err_gives (IsHalt c.args.circuit.now c.args.invariant.now c.args.bad c.close_steps.new.budget) _ c.in_err-close_steps.field-0.0 c.from_residual-in_err-close_steps.ensures.1
     (c.in_err-close_steps.ensures.halted c.args.bad)
 
 pub returns-in_err-close-clause-halted : goal.returns-in_err-close-clause-halted

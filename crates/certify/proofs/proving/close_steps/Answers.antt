@@ -1,7 +1,6 @@
 use Rattle.std.proofs.Common.{[], sym, subst}
 use Rattle.cnf.specs.Formulas.{IsOverLatches}
 use Rattle.checker.proofs.InOrder.{clause_is}
-use Rattle.certify.specs.Sections.{AreClosed}
 use Rattle.certify.proofs.proving.close_steps.Goals as goal
 
 pub step_units-requires-clause-over : goal.step_units-requires-clause-over
@@ -9,8 +8,3 @@ step_units-requires-clause-over c =
     let inv = c.args.invariant.now in
     let is = clause_is inv c.loop-place.place c.index-invariant-place.result c.as_slice.result.now c.loop-place-test.true c.index-invariant-place.is c.as_slice.ensures in
     subst (IsOverLatches c.args.circuit.now) (sym is) ((c.requires.invariant.clauses c.loop-place.place [] c.loop-place-test.true).over)
-
-pub close-requires-clause-closed : goal.close-requires-clause-closed
-close-requires-clause-closed c =
-    subst (λ r. AreClosed (record { refuter = r; units = c.loop-place.cases.units; closings = c.loop-place.cases.closings })) (sym c.run.ensures.same)
-    c.loop-place.invariant.closed
