@@ -2,6 +2,7 @@
 
 ghost use Rattle.std.specs.Prelude.{◌≡◌, ◌<◌, ◌≤◌, length, IfOk, IfErr};
 ghost use Rattle.live_safe.specs.Shadow.{shadow_of};
+ghost use Rattle.transforms.specs.Extracted.{IsUnmade};
 ghost use Rattle.transforms.specs.Shadowed.{IsRefused};
 
 use crate::error::TransformError;
@@ -41,7 +42,9 @@ fn add_old(
 }
 
 /// The names in the shadow circuit of what the circuit has: each input and latch has one.
-fn old_names(alloc: Global, file: &AigerFile, justice: u32) -> Result<Vec<Symbol>, TransformError> {
+fn old_names(alloc: Global, file: &AigerFile, justice: u32) -> Result<Vec<Symbol>, TransformError>
+    ensures { IfErr result IsUnmade }
+{
     let mut symbols = Vec::new(alloc);
     for symbol in file.symbols() {
         add_old(alloc, &mut symbols, symbol, justice)?;
@@ -85,7 +88,9 @@ fn add_seen(
     symbols: &mut Vec<Symbol>,
     first: u32,
     latches: u32,
-) -> Result<(), TransformError> {
+) -> Result<(), TransformError>
+    ensures { IfErr result IsUnmade }
+{
     for position in first..latches {
         let number = position.saturating_sub(first);
         let Ok(name) = format!(in alloc; "{SEEN}{number}") else {
@@ -102,7 +107,9 @@ fn names(
     file: &AigerFile,
     shadow: &Model,
     justice: u32,
-) -> Result<Vec<Symbol>, TransformError> {
+) -> Result<Vec<Symbol>, TransformError>
+    ensures { IfErr result IsUnmade }
+{
     let inputs = count(file.model().inputs().len());
     let latches = count(file.model().latches().len());
     let mut symbols = old_names(alloc, file, justice)?;
