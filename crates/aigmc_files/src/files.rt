@@ -2,7 +2,7 @@
 
 use crate::making::{Making, is_same};
 use crate::stop::{DONE, Role, Stop, about, at, finished, read_of};
-use base::buffered;
+use base::{Refused, buffered};
 use cli::{CliError, Layout, Verdict, load, put_certificate, put_file, put_table, show};
 use graph::{AigerFile, FromRead, Model, Property, ReadAllError, Seq, ToWrite, read_all};
 use inputs::{is_standard, open};
@@ -12,7 +12,7 @@ use std::io;
 use std::io::{BufWriter, Write};
 use stimulus::Stimulus;
 use trace::{put_open_trace, put_open_vcd, put_trace, put_vcd};
-use witness::Loose;
+use witness::{Loose, WitnessError};
 
 /// The status of a violation.
 pub const VIOLATED: u8 = 1;
@@ -100,14 +100,16 @@ fn has_open(rows: &[Seq<Option<bool>>]) -> bool {
 }
 
 /// What a text says that leaves values open, and that has one property and a first state.
-fn open_of(rt: &HostRuntime, circuit: &Model, text: &[u8]) -> Option<Loose> {
-    let Ok(loose) = witness::read(rt.alloc(), circuit, text) else {
-        return None;
+fn open_of(rt: &HostRuntime, circuit: &Model, text: &[u8]) -> Result<Option<Loose>, Refused> {
+    let loose = match witness::read(rt.alloc(), circuit, text) {
+        Ok(loose) => loose,
+        Err(WitnessError::OutOfMemory(refused)) => return Err(refused),
+        Err(_) => return Ok(None),
     };
     if loose.has_state && loose.properties.len() == 1 && has_open(loose.rows.as_slice()) {
-        return Some(loose);
+        return Ok(Some(loose));
     }
-    None
+    Ok(None)
 }
 
 /// What a trace shows of the file of this name. The refusal of a text is that of a stimulus.
@@ -115,7 +117,7 @@ fn read_shown(rt: &HostRuntime, name: &str, circuit: &Model) -> Result<Shown, St
     let text = read_text(rt, name)?;
     match stimulus::read(rt.alloc(), text.as_slice()) {
         Ok(stimulus) => Ok(Shown::Whole(stimulus)),
-        Err(error) => match open_of(rt, circuit, text.as_slice()) {
+        Err(error) => match open_of(rt, circuit, text.as_slice())? {
             Some(loose) => Ok(Shown::Open(loose)),
             None => Err(Stop::from(CliError::Stimulus(error))),
         },

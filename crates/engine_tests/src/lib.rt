@@ -14,6 +14,6 @@ mod inductive;
 #[cfg(test)]
 mod literals;
 #[cfg(test)]
-mod random_runs;
+mod random_engine;
 #[cfg(test)]
 mod solvers;
