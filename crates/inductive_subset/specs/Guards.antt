@@ -20,10 +20,12 @@ guarded_clause m inv i = neg_ℤ (guard_of m i) ∷ map (literal m.max_var 0) (c
 abbrev pub IsOfCase : Parts → List (List Lit) → List ℤ → Type 0
 IsOfCase m inv c = Contains (time_clauses m 0) c ⊎ ((i : ℕ) × (i < length inv) × (c ≡ guarded_clause m inv i))
 
--- the solver has room for the guards, and no other clauses
+-- the solver has room for the guards, all these clauses, and no others
 pub record IsLoaded (m : Parts) (inv : List (List Lit)) (vars : ℕ) (cs : List (List ℤ)) : Type 0 where
   pub room : vars ≡ m.max_var + 1 + length inv
   pub only : All (IsOfCase m inv) cs
+  pub time : All (Contains cs) (time_clauses m 0)
+  pub each : (i : ℕ) → i < length inv → Contains cs (guarded_clause m inv i)
 
 -- the clause at a place is needed
 abbrev pub IsMarked : List Bool → ℕ → Type 0

@@ -1,12 +1,14 @@
 -- Which clauses of an invariant a case needs.
-use Rattle.std.specs.Prelude.{◌≡◌, ℕ, ◌<◌, Bool, List, map, length, All, Contains, ℤ}
+use Rattle.std.specs.Prelude.{◌≡◌, ℕ, ◌+◌, ◌<◌, ◌⊎◌, Bool, List, ◌++◌, map, length, All, Contains, ℤ}
+use Rattle.base.specs.Budget.{Steps}
 use Rattle.graph.specs.declared.circuit.Lit.{Lit}
 use Rattle.graph.specs.declared.parts.Parts.{Parts}
 use Rattle.lrat.specs.Literals.{IsSatisfied}
+use Rattle.lrat.specs.Shared.{unit_clauses}
 use Rattle.solver.specs.Answers.{AreTrue}
-use Rattle.cnf.specs.Clauses.{literal, time_clauses, init_clauses, step_units}
+use Rattle.cnf.specs.Clauses.{literal, time_clauses, init_clauses, shared_clauses, step_units}
 use Rattle.cnf.specs.Formulas.{clause_at}
-use Rattle.cnf.specs.Invariants.{AreContradictory}
+use Rattle.cnf.specs.Invariants.{AreContradictory, IsInductive}
 use Rattle.cnf.specs.Meaning.{AreSatisfied}
 use Rattle.inductive_subset.specs.Guards.{IsMarked}
 
@@ -27,3 +29,16 @@ pub record AreMarked (inv : List (List Lit)) (marks : List Bool) (cs : List (Lis
 -- each of the clauses holds in every first state
 abbrev pub HoldAtFirst : Parts → List (List Lit) → Type 0
 HoldAtFirst m inv = All (λ c. AreContradictory (init_clauses m c)) inv
+
+-- an assignment satisfies the circuit at one time and all clauses of the invariant, and makes the units true
+abbrev pub IsPossible : Parts → List (List Lit) → List ℤ → Type 0
+IsPossible m inv units = (v : ℕ → Bool) × AreSatisfied v (shared_clauses m inv ++ unit_clauses units)
+
+-- one satisfies a clause's step case
+abbrev pub IsLeft : Parts → List (List Lit) → Type 0
+IsLeft m inv = (i : ℕ) × (i < length inv) × IsPossible m inv (step_units m (clause_at inv i))
+
+-- why no clauses are kept: the invariant is not inductive or does not exclude the literal, the budget is exhausted, or the circuit and the
+-- guards have more variables than a solver
+abbrev pub AreUnkept : Parts → List (List Lit) → Lit → Steps → Type 0
+AreUnkept m inv a after = (IsInductive m inv a → ⊥) ⊎ ((after.left ≡ 0) ⊎ (2147483647 < m.max_var + 1 + length inv))

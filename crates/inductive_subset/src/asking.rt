@@ -1,12 +1,12 @@
 //! A case that is asked, and the clauses that its core needs.
 
-ghost use Rattle.std.specs.Prelude.{◌≡◌, ◌<◌, ◌≤◌, ◌+◌, ℕ, IsTrue, ℤ, List, length, All, IfOk, OnOk};
+ghost use Rattle.std.specs.Prelude.{◌≡◌, ◌<◌, ◌≤◌, ◌+◌, ◌⊎◌, ℕ, false, IsTrue, ℤ, List, length, slice_index_or, All, Contains, IfOk, OnOk};
 ghost use Rattle.base.specs.Budget.{Spends};
 ghost use Rattle.graph.specs.declared.circuit.Lit.{Lit as Literal};
 ghost use Rattle.lrat.specs.Literals.{IsLiteral};
 ghost use Rattle.cnf.specs.Formulas.{IsOverLatches};
 ghost use Rattle.inductive_subset.specs.Guards.{guard_of, IsLoaded, IsMarked, IsFor, IsAssumed, IsOfCore, IsLonger};
-ghost use Rattle.inductive_subset.specs.Subsets.{IsExcluded};
+ghost use Rattle.inductive_subset.specs.Subsets.{IsExcluded, IsPossible};
 
 use crate::loading::guard;
 use crate::needed::Needed;
@@ -19,7 +19,8 @@ use std::alloc::Global;
 fn push_needed(literals: &mut Vec<i32>, circuit: &Model, needed: &Needed) -> Result<(), Refused>
     requires well { IsFor (length needed.now.marks.items) needed.now }
     requires fits { circuit.now.max_var + 1 + length needed.now.marks.items ≤ 2147483647 }
-    ensures { (units : List ℤ) → All (IsAssumed circuit.now (length needed.now.marks.items) units) literals.old.items →
+    ensures guards { (i : ℕ) → Contains needed.now.order.items i → OnOk result (Contains literals.new.items (guard_of circuit.now i)) }
+    ensures assumed { (units : List ℤ) → All (IsAssumed circuit.now (length needed.now.marks.items) units) literals.old.items →
         OnOk result (All (IsAssumed circuit.now (length needed.now.marks.items) units) literals.new.items) }
 {
     'pushing: for place in needed.order.as_slice() {
@@ -31,7 +32,9 @@ fn push_needed(literals: &mut Vec<i32>, circuit: &Model, needed: &Needed) -> Res
 /// Adds the guards of the other clauses.
 fn push_others(literals: &mut Vec<i32>, circuit: &Model, needed: &Needed) -> Result<(), Refused>
     requires { circuit.now.max_var + 1 + length needed.now.marks.items ≤ 2147483647 }
-    ensures { (units : List ℤ) → All (IsAssumed circuit.now (length needed.now.marks.items) units) literals.old.items →
+    ensures kept { (l : ℤ) → Contains literals.old.items l → OnOk result (Contains literals.new.items l) }
+    ensures others { (i : ℕ) → i < length needed.now.marks.items → slice_index_or needed.now.marks.items i false ≡ false → OnOk result (Contains literals.new.items (guard_of circuit.now i)) }
+    ensures assumed { (units : List ℤ) → All (IsAssumed circuit.now (length needed.now.marks.items) units) literals.old.items →
         OnOk result (All (IsAssumed circuit.now (length needed.now.marks.items) units) literals.new.items) }
 {
     'pushing: for place in 0..needed.marks.len() {
@@ -52,7 +55,9 @@ fn assumptions(
 ) -> Result<Vec<i32>, Refused>
     requires well { IsFor (length needed.now.marks.items) needed.now }
     requires fits { circuit.now.max_var + 1 + length needed.now.marks.items ≤ 2147483647 }
-    ensures { IfOk result (λ v. All (IsAssumed circuit.now (length needed.now.marks.items) units.now) v.items) }
+    ensures assumed { IfOk result (λ v. All (IsAssumed circuit.now (length needed.now.marks.items) units.now) v.items) }
+    ensures guards { IfOk result (λ v. (i : ℕ) → i < length needed.now.marks.items → Contains v.items (guard_of circuit.now i)) }
+    ensures units { IfOk result (λ v. All (Contains v.items) units.now) }
 {
     let mut literals = Vec::new(alloc);
     push_needed(&mut literals, circuit, needed)?;
@@ -81,7 +86,7 @@ fn mark_core(circuit: &Model, needed: &mut Needed, core: &[i32]) -> Result<(), R
     Ok(())
 }
 
-/// Asks a case, and marks the clauses that exclude it. False where it can be satisfied, or the budget is exhausted.
+/// Asks a case, and marks the clauses that exclude it. False only where all clauses leave it possible, or the budget is exhausted.
 pub(crate) fn ask<S: Sat>(
     solver: &mut S,
     alloc: Global,
@@ -102,6 +107,8 @@ pub(crate) fn ask<S: Sat>(
     ensures longer { IfOk result (λ _. IsLonger needed.old.order.items needed.new.order.items) }
     ensures excluded { (inv : List (List Literal)) → All (IsOverLatches circuit.now) inv → IsLoaded circuit.now inv (S.vars solver.old) (S.clauses solver.old) →
         IfOk result (λ yes. IsTrue yes → IsExcluded circuit.now inv needed.new.marks.items units.now) }
+    ensures possible { (inv : List (List Literal)) → IsLoaded circuit.now inv (S.vars solver.old) (S.clauses solver.old) →
+        IfOk result (λ yes. yes ≡ false → IsPossible circuit.now inv units.now ⊎ (budget.new.left ≡ 0)) }
 {
     circuit.well_formed();
     let assumed = assumptions(alloc, circuit, needed, units)?;
@@ -110,6 +117,7 @@ pub(crate) fn ask<S: Sat>(
             mark_core(circuit, needed, core.as_slice())?;
             Ok(true)
         }
-        _ => Ok(false),
+        Answer::Model(_) => Ok(false),
+        Answer::Spent => Ok(false),
     }
 }

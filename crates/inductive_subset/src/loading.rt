@@ -1,8 +1,8 @@
 //! The circuit and the guarded clauses in a solver.
 
-ghost use Rattle.std.specs.Prelude.{◌≡◌, ◌<◌, ◌≤◌, ◌+◌, ◌++◌, length, map, All, IfOk, OnOk};
+ghost use Rattle.std.specs.Prelude.{◌≡◌, ◌<◌, ◌≤◌, ◌+◌, ◌++◌, length, map, All, Contains, IfOk, OnOk};
 ghost use Rattle.lrat.specs.Literals.{IsLiteral};
-ghost use Rattle.cnf.specs.Clauses.{literal};
+ghost use Rattle.cnf.specs.Clauses.{literal, time_clauses};
 ghost use Rattle.cnf.specs.Formulas.{IsInRange, IsOverLatches};
 ghost use Rattle.inductive_subset.specs.Guards.{guard_of, guarded_clause as guarded_clause_of, IsOfCase, IsLoaded};
 
@@ -76,6 +76,7 @@ fn add_guarded<S: Sat>(
     requires over { All (IsOverLatches circuit.now) invariant.now }
     requires vars { S.vars solver.old ≡ circuit.now.max_var + 1 + length invariant.now }
     requires only { All (IsOfCase circuit.now invariant.now) (S.clauses solver.old) }
+    requires time { All (Contains (S.clauses solver.old)) (time_clauses circuit.now 0) }
     ensures { OnOk result (IsLoaded circuit.now invariant.now (S.vars solver.new) (S.clauses solver.new)) }
 {
     circuit.well_formed();

@@ -1,12 +1,12 @@
 //! The clauses that are needed, by a work list.
 
-ghost use Rattle.std.specs.Prelude.{◌≡◌, ◌<◌, ◌≤◌, ◌+◌, ℕ, IsTrue, length, All, Contains, IfOk, IfSome};
+ghost use Rattle.std.specs.Prelude.{◌≡◌, ◌<◌, ◌≤◌, ◌+◌, ◌⊎◌, ℕ, false, IsTrue, None, length, All, Contains, IfOk, IfSome};
 ghost use Rattle.base.specs.Budget.{Spends};
 ghost use Rattle.graph.specs.WellFormed.{used};
 ghost use Rattle.cnf.specs.Formulas.{IsOverLatches};
 ghost use Rattle.cnf.specs.Invariants.{IsInductive};
 ghost use Rattle.inductive_subset.specs.Guards.{IsLoaded, IsMarked, IsFor};
-ghost use Rattle.inductive_subset.specs.Subsets.{IsHeld, AreMarked, HoldAtFirst};
+ghost use Rattle.inductive_subset.specs.Subsets.{IsHeld, AreMarked, AreUnkept, HoldAtFirst, IsLeft};
 
 use crate::asking::ask;
 use crate::loading::load;
@@ -34,7 +34,7 @@ fn marked(alloc: Global, invariant: &[Seq<Lit>], marks: &[bool]) -> Result<Seq<S
     Ok(clauses)
 }
 
-/// Asks the step case of each needed clause, until no more are needed. False where a case can be satisfied, or the
+/// Asks the step case of each needed clause, until no more are needed. False only where all clauses leave a case possible, or the
 /// budget is exhausted.
 fn close<S: Sat>(
     solver: &mut S,
@@ -52,6 +52,7 @@ fn close<S: Sat>(
     ensures well { IfOk result (λ _. IsFor (length invariant.now) needed.new) }
     ensures kept { (i : ℕ) → IsMarked needed.old.marks.items i → IfOk result (λ _. IsMarked needed.new.marks.items i) }
     ensures held { IfOk result (λ yes. IsTrue yes → All (IsHeld circuit.now invariant.now needed.new.marks.items) needed.new.order.items) }
+    ensures left { IfOk result (λ yes. yes ≡ false → IsLeft circuit.now invariant.now ⊎ (budget.new.left ≡ 0)) }
 {
     let table = NextTable::new(alloc, circuit)?;
     let mut asked = 0;
@@ -70,7 +71,7 @@ fn close<S: Sat>(
 }
 
 /// Clauses of the invariant, in their order, that are inductive and exclude the bad literal by themselves, where each
-/// clause of the invariant holds in every first state, which is not asked here. None where the clauses are found to be no
+/// clause of the invariant holds in every first state, which is not asked here. None only where the clauses are no
 /// such invariant, where the budget is exhausted, or where the solver has not as many variables as they need.
 pub fn safe_inductive_subset<S: Sat>(
     solver: &mut S,
@@ -86,6 +87,7 @@ pub fn safe_inductive_subset<S: Sat>(
     ensures among { IfOk result (λ r. IfSome r (λ cs. All (Contains invariant.now) cs)) }
     ensures shown { IfOk result (λ r. IfSome r (λ cs. HoldAtFirst circuit.now invariant.now → IsInductive circuit.now cs bad)) }
     ensures inductive { IfOk result (λ r. IfSome r (λ cs. IsInductive circuit.now invariant.now bad → IsInductive circuit.now cs bad)) }
+    ensures none { IfOk result (λ r. r ≡ None → AreUnkept circuit.now invariant.now bad budget.new) }
 {
     circuit.well_formed();
     if invariant.len() > (GREATEST - circuit.max_var() - 1) as usize {
