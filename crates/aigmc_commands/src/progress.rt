@@ -139,6 +139,8 @@ impl Progress for Reporter {
             self.say_frame("\r", "\x1b[K", budget);
         }
     }
+
+    fn round_begun(&mut self, _round: u64, _clauses: usize, _budget: &Budget) {}
 }
 
 /// Why nothing is known of a property, in words.

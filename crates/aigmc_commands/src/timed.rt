@@ -9,7 +9,7 @@ ghost use Rattle.solver.specs.declared.sat_error.SatError.TheVariants.{Limit};
 
 use engine_random::Watch;
 use graph::Budget;
-use solver::{Answer, Part, PartSat, Sat, SatError};
+use solver::{Answer, Part, PartSat, Sat, SatError, Statistics};
 use std::alloc::Global;
 use std::io;
 use std::time::Instant;
@@ -146,6 +146,10 @@ impl<S: Sat> Sat for Timed<S> {
         }
         exhaust(budget);
         Ok(Answer::Spent)
+    }
+
+    fn statistics(&self) -> Statistics {
+        self.solver.statistics()
     }
 }
 

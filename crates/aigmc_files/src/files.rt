@@ -1,5 +1,8 @@
 //! The files that commands read and make.
 
+ghost use Rattle.std.specs.Prelude.{◌≡◌, IfOk, Ok};
+ghost use Rattle.verdict.specs.Verdicts.{status_of as wanted_status};
+
 use crate::making::{Making, is_same};
 use crate::stop::{DONE, Role, Stop, about, at, finished, read_of};
 use base::{Refused, buffered};
@@ -142,7 +145,9 @@ fn parts_of(loose: &Loose) -> (&[Option<bool>], &[Seq<Option<bool>>]) {
 fn settled<W: Write + Drop, T: Drop>(
     out: ToWrite<BufWriter<W>>,
     put: Result<T, Stop>,
-) -> Result<T, Stop> {
+) -> Result<T, Stop>
+    ensures { IfOk result (λ value. put ≡ Ok value) }
+{
     let mut out = out.into_inner();
     let settled = match put {
         Ok(value) => finished(out.flush()).map(|()| value),
@@ -302,7 +307,9 @@ pub fn make_waveform(
 }
 
 /// The status of a verdict.
-pub fn status_of(verdict: &Verdict) -> u8 {
+pub fn status_of(verdict: &Verdict) -> u8
+    ensures { result ≡ wanted_status verdict.now }
+{
     match verdict {
         Verdict::Safe(_) => DONE,
         Verdict::Unsafe(_) => VIOLATED,
@@ -317,7 +324,9 @@ pub fn keep_and_print(
     name: Option<&str>,
     property: Property,
     verdict: &Verdict,
-) -> Result<u8, Stop> {
+) -> Result<u8, Stop>
+    ensures { IfOk result (λ status. status ≡ wanted_status verdict.now) }
+{
     let out = buffered(rt.alloc(), io::writer(rt))?;
     let mut out = ToWrite::new(out);
     let kept = match name {
@@ -332,7 +341,9 @@ pub fn keep_and_print(
 }
 
 /// Prints a verdict without a run, and answers its status. It takes no memory.
-pub fn print_alone(rt: &HostRuntime, property: Property, verdict: &Verdict) -> Result<u8, Stop> {
+pub fn print_alone(rt: &HostRuntime, property: Property, verdict: &Verdict) -> Result<u8, Stop>
+    ensures { IfOk result (λ status. status ≡ wanted_status verdict.now) }
+{
     let status = status_of(verdict);
     finished(println!(rt; "{status}\n{}\n.", Name(property)))?;
     Ok(status)

@@ -16,9 +16,9 @@ use crate::reading::{lines, state_of};
 use crate::unrolling::{Unrolling, begin};
 use base::Refused;
 use cnf::NextTable;
-use engine::{Engine, EngineError, Finding, Progress, Reason, Silent};
+use engine::{Counters, Engine, EngineError, Finding, Progress, Reason, Silent};
 use graph::{Budget, Model};
-use solver::{Answer, Sat};
+use solver::{Answer, Sat, count};
 use std::alloc::Global;
 
 /// Bounded search (Biere, Cimatti, Clarke, Zhu 1999) through runs of 0 steps, 1 step, up to a
@@ -29,6 +29,8 @@ pub struct Bmc<S, P> {
     depth: u32,
     /// where each search reports its progress
     progress: P,
+    /// how many queries were asked
+    queries: u64,
 }
 
 impl<S, P> std::marker::Model for Bmc<S, P> {
@@ -127,13 +129,14 @@ fn reach<S: Sat>(
     Ok(found_by(alloc, circuit, cone, unrolling, answer, steps)?)
 }
 
-/// Looks through runs of 0 steps, 1 step, up to `depth` steps.
+/// Looks through runs of 0 steps, 1 step, up to `depth` steps, and counts the queries.
 fn search_up_to<S: Sat, P: Progress>(
     solver: &mut S,
     alloc: Global,
     circuit: &Model,
     depth: u32,
     progress: &mut P,
+    queries: &mut u64,
     budget: &mut Budget,
 ) -> Result<Finding, EngineError>
     requires small { depth ≤ 255 }
@@ -150,6 +153,7 @@ fn search_up_to<S: Sat, P: Progress>(
     let mut unrolling = begin(solver, alloc, circuit, &cone, depth + 1)?;
     'deepening: for steps in 0..depth + 1 {
         progress.depth_begun(steps, unrolling.encoder.variables, budget);
+        count(queries);
         match reach(
             solver,
             circuit,
@@ -176,6 +180,7 @@ impl<S: Sat> Bmc<S, Silent> {
             solver,
             depth,
             progress: Silent,
+            queries: 0,
         }
     }
 
@@ -187,6 +192,7 @@ impl<S: Sat> Bmc<S, Silent> {
             solver: self.solver,
             depth: self.depth,
             progress,
+            queries: self.queries,
         }
     }
 }
@@ -219,7 +225,13 @@ impl<S: Sat, P: Progress> Engine for Bmc<S, P> {
             circuit,
             self.depth,
             &mut self.progress,
+            &mut self.queries,
             budget,
         )
+    }
+
+    fn count(&self, counters: &mut Counters) -> Result<(), Refused> {
+        counters.add("bmc", "queries", self.queries)?;
+        counters.add_statistics("bmc", &self.solver.statistics())
     }
 }

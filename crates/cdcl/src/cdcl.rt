@@ -4,8 +4,8 @@ ghost use Rattle.std.specs.Prelude.{◌≡◌, ◌≤◌, []};
 
 use base::Budget;
 use cdcl_log::LoggedKernel;
-use cdcl_search::{Guide, Statistics, search};
-use solver::{Answer, Part, PartSat, Sat, SatError};
+use cdcl_search::{Guide, search};
+use solver::{Answer, Part, PartSat, Sat, SatError, Statistics};
 use std::alloc::Global;
 use std::marker::Model;
 
@@ -40,12 +40,6 @@ impl Cdcl {
             kernel: LoggedKernel::new(alloc),
             guide: Guide::new(alloc),
         }
-    }
-
-    /// How often the search did what, over all calls since `new`. Where `refused_learned` or `refused_cores`
-    /// is not 0, the search was wrong somewhere, which costs time alone.
-    pub fn statistics(&self) -> Statistics {
-        self.guide.statistics()
     }
 }
 
@@ -87,6 +81,12 @@ impl Sat for Cdcl {
             self.guide.renew(alloc);
         }
         answer
+    }
+
+    /// How often the search did what, over all calls since `new`. Where `refused_learned` or `refused_cores`
+    /// is not 0, the search was wrong somewhere, which costs time alone.
+    fn statistics(&self) -> Statistics {
+        self.guide.statistics()
     }
 }
 

@@ -21,7 +21,6 @@ mod refuter;
 
 pub use cdcl::Cdcl;
 pub use cdcl_log::{Closing, Lemmas, Shown, section};
-pub use cdcl_search::Statistics;
 pub use refutation::refute;
 pub use refuted::Refuted;
 pub use refuter::Refuter;

@@ -5,9 +5,9 @@ use crate::assignment::Assignment;
 use crate::decisions::Decisions;
 use crate::learned::Learned;
 use crate::restarts::Restarts;
-use crate::statistics::Statistics;
 use crate::watches::Watches;
 use base::Refused;
+use solver::Statistics;
 use std::alloc::Global;
 
 /// All that the search keeps beside the clauses. It grows with the clauses that

@@ -5,9 +5,9 @@
 //! level without a decision, so that the level alone says which assumption is next.
 
 use crate::guide::Guide;
-use crate::statistics::count;
 use crate::table::Table;
 use base::{Refused, push};
+use solver::count;
 use std::alloc::Global;
 
 /// Where a variable's literal came on the trail.

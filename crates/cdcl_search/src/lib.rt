@@ -28,7 +28,6 @@ mod reduction;
 mod restarts;
 mod searching;
 mod short_lists;
-mod statistics;
 mod table;
 mod trail;
 mod trail_reuse;
@@ -38,4 +37,3 @@ mod watches;
 
 pub use guide::Guide;
 pub use searching::search;
-pub use statistics::Statistics;

@@ -11,11 +11,11 @@ ghost use Rattle.base.specs.Budget.{Spends};
 use crate::guide::Guide;
 use crate::long_clauses::WatchVisit;
 use crate::short_lists::Short;
-use crate::statistics::count;
 use crate::values::{Value, Values, code_of, literal_of};
 use crate::watches::Watch;
 use base::{Budget, Refused};
 use cdcl_kernel::Kernel;
+use solver::count;
 
 /// How a propagation ended.
 #[derive(Clone, Copy)]

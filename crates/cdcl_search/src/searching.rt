@@ -19,13 +19,12 @@ use crate::learning::learn;
 use crate::levels::{backtrack, decide};
 use crate::propagation::{Propagated, propagate};
 use crate::reduction::{least_between, reduce};
-use crate::statistics::count;
 use crate::trail_reuse::reuse_trail;
 use crate::units::{learn_root_units, propagate_unit};
 use base::{Budget, Refused};
 use cdcl_kernel::{Kernel, values_of};
 use cdcl_log::LoggedKernel;
-use solver::{Answer, Part, SatError};
+use solver::{Answer, Part, SatError, count};
 
 /// What to do where propagation found no conflict.
 enum Next {

@@ -6,3 +6,5 @@ pub mod ChainLaws
 pub mod PartLaws
 pub mod SkipLaws
 pub mod WholeLaws
+pub mod PutLaws
+pub mod FormatLaws

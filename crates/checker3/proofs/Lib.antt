@@ -1,3 +1,4 @@
 mod Claiming
 mod Feeding
 mod Judging
+mod Refused

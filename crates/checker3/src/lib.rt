@@ -2,7 +2,9 @@
 //!
 //! - `check_source` reads the certificate that a source's bytes spell, and answers what it claims,
 //!   and the first cause where it is not accepted for a circuit (`IsJudged`, `specs/Judged.antt`).
-//!   Where there is none, the certificate is accepted, and the circuit upholds the property.
+//!   Where there is none, the certificate is accepted, and the circuit upholds the property; where
+//!   there is one, it is not (`refused_law`). `check_behind` does so behind the first line, for a reader
+//!   of any version.
 //! - Lines and hints are checked one after the other, by a refuter for each of the three sections.
 //!   Beside the circuit it holds the extended one, the clauses, those of one section, and one line.
 #![tactic(auto)]
@@ -10,6 +12,7 @@
 mod clauses;
 mod evidence;
 mod growing;
+mod laws;
 mod lines;
 mod refusal;
 mod sections;
@@ -17,5 +20,6 @@ mod text;
 #[cfg(test)]
 mod worked;
 
+pub use laws::refused_law;
 pub use refusal::Refusal;
-pub use text::{Outcome, check_source};
+pub use text::{Outcome, check_behind, check_source};

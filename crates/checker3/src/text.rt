@@ -6,7 +6,8 @@ ghost use Rattle.graph.specs.Properties.{HasProperty};
 ghost use Rattle.graph.specs.declared.circuit.Property.TheVariants.{Justice};
 ghost use Rattle.certificate.specs.Streams.{FindsWith, ForText};
 ghost use Rattle.certificate.specs.declared.reader_error.ReaderError.TheVariants.{Device};
-ghost use Rattle.extension.specs.Accepted.{IsUpheld};
+ghost use Rattle.extension.specs.Accepted.{IsAcceptedCertificate, IsUpheld};
+ghost use Rattle.certificate3.specs.Formats.{behind_at};
 ghost use Rattle.certificate3.specs.Reading.{certificate_at, evidence_at};
 ghost use Rattle.certificate3.specs.Texts.{Certificate as ACertificate, SpellsCertificate};
 ghost use Rattle.checker3.specs.Judged.{IsJudged, IsUnshowable};
@@ -103,6 +104,23 @@ fn check_claim<S: Source>(
     }
 }
 
+/// Reads what is behind the first line of a certificate, and checks it while it is read.
+pub fn check_behind<S: Source>(
+    alloc: Global,
+    circuit: &Model,
+    reader: &mut Reader,
+    from: &mut S,
+) -> Result<Outcome, ReaderError>
+    requires source { S.failed from.old < 2 ^ 64 - 1 }
+    ensures says { Reads (S.leaves from.old) (S.leaves from.new) (λ ys zs. FindsWith (λ c found. (found.claim ≡ c.claim) × IsJudged circuit.now c found.refusal) (behind_at (reader.old.held ++ ys)) result reader.new.held zs) }
+    ensures device { IsErrOf result Device ↔ (S.failed from.new ≡ S.failed from.old + 1) }
+    ensures others { (IsErrOf result Device → ⊥) → S.failed from.new ≡ S.failed from.old }
+{
+    let claim = reader.line::<ClaimLine, S>(alloc, (), from)?;
+    let refusal = check_claim(alloc, circuit, claim, reader, from)?;
+    Ok(Outcome { claim, refusal })
+}
+
 /// Reads a certificate, and checks it while it is read.
 fn check_text<S: Source>(
     alloc: Global,
@@ -116,9 +134,7 @@ fn check_text<S: Source>(
     ensures others { (IsErrOf result Device → ⊥) → S.failed from.new ≡ S.failed from.old }
 {
     reader.line::<FirstLine, S>(alloc, (), from)?;
-    let claim = reader.line::<ClaimLine, S>(alloc, (), from)?;
-    let refusal = check_claim(alloc, circuit, claim, reader, from)?;
-    Ok(Outcome { claim, refusal })
+    check_behind(alloc, circuit, reader, from)
 }
 
 /// Reads the certificate of version 3 that the source's bytes spell, and checks it while it is read.
@@ -134,6 +150,8 @@ pub fn check_source<S: Source>(
     ensures says { Reads (S.leaves from.old) (S.leaves from.new) (λ ys zs. MatchResult result (λ found. (c : ACertificate) × SpellsCertificate ys c × (found.claim ≡ c.claim) × IsJudged circuit.now c found.refusal) (λ e. ForText e ((c : ACertificate) → SpellsCertificate ys c → ⊥))) }
     // Where nothing is refused, the property is upheld.
     ensures upheld { Reads (S.leaves from.old) (S.leaves from.new) (λ ys zs. IfOk result (λ found. found.refusal ≡ None → IsUpheld circuit.now found.claim.property)) }
+    // Where something is, the bytes spell no certificate that is accepted.
+    ensures refused { Reads (S.leaves from.old) (S.leaves from.new) (λ ys zs. IfOk result (λ found. IfSome found.refusal (λ _. (c : ACertificate) → SpellsCertificate ys c → IsAcceptedCertificate circuit.now c.claim.property c.claim.rounds c.evidence → ⊥))) }
     ensures ended { IfOk result (λ _. IsAtEnd (S.leaves from.new)) }
     ensures device { IsErrOf result Device ↔ (S.failed from.new ≡ S.failed from.old + 1) }
     ensures others { (IsErrOf result Device → ⊥) → S.failed from.new ≡ S.failed from.old }

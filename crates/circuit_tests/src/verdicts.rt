@@ -3,7 +3,7 @@
 use crate::questions::{HOLD, Question, asked};
 use base::{Refused, boxed, push};
 use checker::check;
-use engine::{Engine, EngineError, Finding, Reason};
+use engine::{Counters, Engine, EngineError, Finding, Reason};
 use graph::{Budget, Lit, Model, Property, Seq, ToVec};
 use std::alloc::Global;
 use std::test::Fail;
@@ -58,6 +58,10 @@ impl Engine for Insists {
             Insists::Invariant(literal) => Ok(invariant(alloc, literal)?),
             Insists::Unknown(reason) => Ok(Finding::Unknown(reason)),
         }
+    }
+
+    fn count(&self, _counters: &mut Counters) -> Result<(), Refused> {
+        Ok(())
     }
 }
 

@@ -1,5 +1,5 @@
 -- What the core of a case says.
-use Rattle.std.proofs.Common.{◌≡◌, ◌∙◌, Bool, true, false, ℕ, ◌+◌, ◌<◌, inl, inr, List, ◌++◌, All, get_or, ℤ, ap, subst, arith, SFits, w32, to_z, of_z}
+use Rattle.std.proofs.Common.{◌≡◌, ◌∙◌, Bool, true, false, ℕ, ◌+◌, ◌<◌, inl, inr, List, ◌++◌, get_or, ℤ, ap, subst, arith, SFits, w32, to_z, of_z}
 use Rattle.std.proofs.lemmas.Bool.{cases_lt, false≢true}
 use Rattle.lrat.proofs.Fit.{read32}
 use Rattle.correspondence.specs.declared.rounds.Reply.{Reply}

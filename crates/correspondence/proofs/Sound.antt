@@ -1,5 +1,5 @@
 -- Clauses that say that latches are equal, and an invariant of them.
-use Rattle.std.proofs.Common.{◌≡◌, ◌≢◌, ◌∙◌, ℕ, zero, suc, ◌+◌, ◌*◌, ◌/◌, ◌%◌, ◌<◌, ◌≤◌, ◌==◌, if◌then◌else◌, inl, inr, List, [], ◌∷◌, map, length, get_or, All, AllPairs, Contains, refl, sym, ap, subst, arith}
+use Rattle.std.proofs.Common.{◌≡◌, ◌≢◌, ◌∙◌, ℕ, ◌%◌, ◌<◌, ◌≤◌, inl, inr, List, [], ◌∷◌, map, length, get_or, All, AllPairs, Contains, refl, sym, ap, subst, arith}
 use Rattle.std.proofs.lemmas.Bool.{cases_eq, eq-eqb, ne_eqb}
 use Rattle.std.proofs.lemmas.List.{get_or-map, length-map}
 use Rattle.std.proofs.lemmas.List.Kept.{AllPairs-cons}
@@ -11,11 +11,12 @@ use Rattle.graph.specs.Valuation.{variable}
 use Rattle.graph.specs.WellFormed.{IsWellFormed, used}
 use Rattle.graph.proofs.Evaluation.{latches_even}
 use Rattle.graph.proofs.Tabled.{holds_of_used}
-use Rattle.cnf.specs.Clauses.{init_clauses, bad_clauses, step_clauses}
+use Rattle.cnf.specs.Clauses.{bad_clauses, step_clauses}
 use Rattle.cnf.specs.Formulas.{IsOverLatches, bad_literal}
 use Rattle.cnf.specs.Formulas as formulas
 use Rattle.cnf.specs.Invariants.{AreContradictory}
-use Rattle.engine.specs.Findings.{IsForBad, IsProper, IsInvariant}
+use Rattle.engine.specs.Findings.{IsForBad, IsInvariant}
+use Rattle.merged.specs.Laws.{AreInductive}
 use Rattle.correspondence.specs.Equal.{high_of, low_of, IsEquality}
 use Rattle.correspondence.proofs.First.{first_holds}
 
@@ -101,4 +102,12 @@ invariant_is m cs bad same all excluded goes = record {
     goes_on = goes;
     excludes = subst (λ (a : Lit). AreContradictory (bad_clauses m cs a)) same excluded;
   };
+}
+
+-- such clauses are inductive
+pub inductive_is : (m : Parts) (cs : List (List Lit)) → All (IsEquality m) cs → All (λ c. AreContradictory (step_clauses m cs c)) cs → AreInductive m cs
+inductive_is m cs all goes = record {
+  proper = λ k d k_in. (all k d k_in).proper;
+  begins = λ k d k_in. (all k d k_in).first;
+  goes_on = goes;
 }

@@ -1,5 +1,5 @@
 -- Clauses that say that latches are equal.
-use Rattle.std.specs.Prelude.{◌≡◌, ℕ, ◌+◌, ◌≤◌, ◌==◌, if◌then◌else◌, List, length, All}
+use Rattle.std.specs.Prelude.{◌+◌, ◌≤◌, ◌==◌, if◌then◌else◌, List, length}
 use Rattle.graph.specs.declared.circuit.Lit.{Lit}
 use Rattle.graph.specs.declared.circuit.Latch.{Latch}
 use Rattle.graph.specs.declared.parts.Parts.{Parts}

@@ -1,3 +1,4 @@
 pub mod Equal
+pub mod Found
 pub mod Answered
 pub mod Rounds

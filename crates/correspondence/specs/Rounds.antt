@@ -4,14 +4,15 @@ use Rattle.graph.specs.declared.parts.Parts.{Parts}
 use Rattle.solver.specs.Answers.{IsCore}
 use Rattle.solver.specs.declared.answer.Answer.{Answer}
 use Rattle.solver.specs.declared.answer.Answer.TheVariants.{Model, Core, Spent}
-use Rattle.engine.specs.Findings.{IsInvariant}
+use Rattle.correspondence.specs.Found.{IsCorrespondence}
 use Rattle.correspondence.specs.declared.rounds.Round.{Round}
-use Rattle.correspondence.specs.declared.rounds.Round.TheVariants.{Fixed, Split, Over}
+use Rattle.correspondence.specs.declared.rounds.Round.TheVariants.{Fixed, Split, Open, Over}
 
--- the classes that stay are an invariant; else a class was split, or nothing is known
+-- the classes that stay are inductive, and an invariant where this is said; else nothing is known
 abbrev pub IsRound : Parts → Round → Type 0
-IsRound m (Fixed cs) = IsInvariant m cs
+IsRound m (Fixed found) = IsCorrespondence m found
 IsRound m Split = Unit {0}
+IsRound m Open = Unit {0}
 IsRound m Over = Unit {0}
 
 -- a core is one of the units

@@ -1,51 +1,99 @@
-//! The invariant of equal latches.
+//! The clauses of equal latches.
 
 ghost use Rattle.std.specs.Prelude.{IfOk, IfSome};
 ghost use Rattle.base.specs.Budget.{Spends};
-ghost use Rattle.engine.specs.Findings.{IsForBad, IsInvariant};
+ghost use Rattle.engine.specs.Findings.{IsForBad};
+ghost use Rattle.correspondence.specs.Found.{IsCorrespondence};
+ghost use Rattle.correspondence.specs.Rounds.{IsRound};
 
+use crate::equal_latches::Correspondence;
 use crate::rounds::Round;
 use crate::search::Search;
-use graph::{Budget, Lit, Model, Seq};
+use engine::Progress;
+use graph::{Budget, Model};
 use random_runs::opened;
 use solver::{PartSat, SatError};
 use std::alloc::Global;
 
-/// The clauses that rounds of induction end in, which are inductive and exclude the bad literal. None where there are none, or
-/// where the budget is exhausted before.
-fn induce<S: PartSat>(
+/// Classes that don't exclude the bad literal may take one of so many parts of what is left of the budget.
+const OPEN_PARTS: u64 = 4;
+
+/// What rounds of induction end in: with classes that stay, with the first ones that don't exclude the bad literal, or where
+/// the budget is exhausted.
+fn induce<S: PartSat, P: Progress>(
     solver: &mut S,
     alloc: Global,
     circuit: &Model,
     search: &mut Search,
+    progress: &mut P,
     budget: &mut Budget,
-) -> Result<Option<Seq<Seq<Lit>>>, SatError>
+) -> Result<Round, SatError>
     requires { IsForBad circuit.now }
     ensures spends { Spends budget.old budget.new }
-    ensures invariant { IfOk result (λ r. IfSome r (IsInvariant circuit.now)) }
+    ensures round { IfOk result (IsRound circuit.now) }
 {
     let bad = circuit.bad()[0];
     'inducing: while budget.tick() {
-        match search.round(solver, alloc, circuit, bad, budget)? {
-            Round::Over => return Ok(None),
+        match search.round(solver, alloc, circuit, bad, progress, budget)? {
             Round::Split => search.shake(alloc, budget)?,
-            Round::Fixed(clauses) => return Ok(Some(clauses)),
+            ended => return Ok(ended),
         }
     }
-    Ok(None)
+    Ok(Round::Over)
 }
 
-/// Clauses that are inductive and exclude the bad literal. Each says that a latch keeps its first value, or that it does
-/// where another one does. None where there are no such clauses, or where the budget is exhausted before they are found.
-pub fn correspond<S: PartSat>(
+/// What further rounds end in, where classes don't exclude the bad literal.
+fn induce_open<S: PartSat, P: Progress>(
     solver: &mut S,
     alloc: Global,
     circuit: &Model,
+    search: &mut Search,
+    progress: &mut P,
     budget: &mut Budget,
-) -> Result<Option<Seq<Seq<Lit>>>, SatError>
+) -> Result<Round, SatError>
     requires { IsForBad circuit.now }
     ensures spends { Spends budget.old budget.new }
-    ensures invariant { IfOk result (λ r. IfSome r (IsInvariant circuit.now)) }
+    ensures round { IfOk result (IsRound circuit.now) }
+{
+    let mut piece = Budget::new(budget.left() / OPEN_PARTS);
+    let ended = induce(solver, alloc, circuit, search, progress, &mut piece)?;
+    budget.spend(piece.spent());
+    Ok(ended)
+}
+
+/// What rounds end in, with classes or without.
+fn ended<S: PartSat, P: Progress>(
+    solver: &mut S,
+    alloc: Global,
+    circuit: &Model,
+    search: &mut Search,
+    progress: &mut P,
+    budget: &mut Budget,
+) -> Result<Round, SatError>
+    requires { IsForBad circuit.now }
+    ensures spends { Spends budget.old budget.new }
+    ensures round { IfOk result (IsRound circuit.now) }
+{
+    match induce(solver, alloc, circuit, search, progress, budget)? {
+        Round::Open => induce_open(solver, alloc, circuit, search, progress, budget),
+        ended => Ok(ended),
+    }
+}
+
+/// Clauses that say which latches are equal, and that are inductive: an invariant where they exclude the bad literal. None
+/// where the budget is exhausted before they are found, or the part of it that clauses which don't exclude it may take. Each
+/// round is told to `progress`, and counted.
+pub fn correspond<S: PartSat, P: Progress>(
+    solver: &mut S,
+    alloc: Global,
+    circuit: &Model,
+    rounds: &mut u64,
+    progress: &mut P,
+    budget: &mut Budget,
+) -> Result<Option<Correspondence>, SatError>
+    requires { IsForBad circuit.now }
+    ensures spends { Spends budget.old budget.new }
+    ensures found { IfOk result (λ r. IfSome r (IsCorrespondence circuit.now)) }
 {
     let Some(opened) = opened(alloc, circuit)? else {
         return Ok(None);
@@ -53,5 +101,10 @@ pub fn correspond<S: PartSat>(
     let mut search = Search::new(alloc, circuit, &opened)?;
     search.simulate(alloc, budget)?;
     search.shake(alloc, budget)?;
-    induce(solver, alloc, circuit, &mut search, budget)
+    let ended = ended(solver, alloc, circuit, &mut search, progress, budget)?;
+    *rounds = rounds.saturating_add(search.rounds);
+    match ended {
+        Round::Fixed(found) => Ok(Some(found)),
+        _ => Ok(None),
+    }
 }

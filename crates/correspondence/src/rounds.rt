@@ -9,16 +9,21 @@ ghost use Rattle.cnf.specs.Clauses.{bad_units, shared_clauses, step_clauses, ste
 ghost use Rattle.cnf.specs.Formulas.{bad_literal};
 ghost use Rattle.cnf.specs.Invariants.{AreContradictory};
 ghost use Rattle.cnf.specs.Tables.{IsTableOf};
-ghost use Rattle.engine.specs.Findings.{IsForBad};
+ghost use Rattle.graph.specs.declared.parts.Parts.{Parts};
+ghost use Rattle.engine.specs.Findings.{IsForBad, IsInvariant};
+ghost use Rattle.merged.specs.Laws.{AreInductive};
 ghost use Rattle.correspondence.specs.Equal.{IsEquality};
 ghost use Rattle.correspondence.specs.declared.rounds.Reply.TheVariants.{Holds};
+ghost use Rattle.correspondence.specs.Found.{IsCorrespondence};
 ghost use Rattle.correspondence.specs.Rounds.{IsCoreOf, IsRound};
 
+use crate::equal_latches::Correspondence;
 use crate::equalities::{Equalities, Member};
 use crate::search::{Search, Situation};
 use crate::sweeping::sweep_pairs;
 use base::{Refused, push};
 use cnf::{NextTable, bad_unit, shared_base, step_units};
+use engine::Progress;
 use graph::{Budget, Lit, Model, Seq};
 use lrat::Clause;
 use solver::{Answer, Part, PartSat, Sat, SatError};
@@ -37,11 +42,13 @@ const NO_MEMBER: Member = Member { place: 0, class: 0 };
 /// What a round says of the classes.
 #[derive(Drop)]
 pub(crate) enum Round {
-    /// Latches that are equal stay equal: these clauses say so, and exclude the bad literal.
-    Fixed(Seq<Seq<Lit>>),
+    /// Latches that are equal stay equal.
+    Fixed(Correspondence),
     /// A class was split.
     Split,
-    /// The classes don't exclude the bad literal, or the budget is exhausted.
+    /// The classes don't exclude the bad literal, so no later ones do. Nothing else was asked.
+    Open,
+    /// There are too many clauses, or the budget is exhausted.
     Over,
 }
 
@@ -54,6 +61,17 @@ enum Reply {
     Split,
     /// The budget is exhausted.
     Spent,
+}
+
+/// Clauses that are inductive, and whether they exclude the bad literal.
+fn found(clauses: Seq<Seq<Lit>>, excluded: bool) -> Correspondence
+    ensures { (m : Parts) → AreInductive m clauses → (IsTrue excluded → IsInvariant m clauses) → IsCorrespondence m result }
+{
+    if excluded {
+        Correspondence::Invariant(clauses)
+    } else {
+        Correspondence::Inductive(clauses)
+    }
 }
 
 /// Whether a clause holds after a step: what it is about, the units of its step case, and the gates that say what they are.
@@ -305,7 +323,7 @@ impl<'a> Search<'a> {
 }
 
 impl<'a> Search<'a> {
-    /// Whether the clauses, which are loaded, exclude the bad literal.
+    /// Whether the clauses, which are loaded, exclude the bad literal. No where earlier ones did not.
     fn excludes<S: PartSat>(
         &mut self,
         solver: &mut S,
@@ -322,6 +340,9 @@ impl<'a> Search<'a> {
         ensures spends { Spends budget.old budget.new }
         ensures excluded { IfOk result (λ yes. IsTrue yes → AreContradictory (S.clauses solver.old ++ unit_clauses (bad_units circuit.now bad))) }
     {
+        if self.is_open {
+            return Ok(false);
+        }
         let mut units = Vec::new(alloc);
         push(&mut units, bad_unit(circuit, bad))?;
         let part = Near::new(alloc, circuit)?.part_of(alloc, circuit, units.as_slice())?;
@@ -337,6 +358,7 @@ impl<'a> Search<'a> {
     }
 
     /// Asks whether the classes, whose clauses are loaded, exclude the bad literal, and whether equal latches stay equal.
+    /// Ends where they first don't exclude it.
     fn ask_all<S: PartSat>(
         &mut self,
         solver: &mut S,
@@ -354,23 +376,26 @@ impl<'a> Search<'a> {
         ensures spends { Spends budget.old budget.new }
         ensures fixed { IfOk result (IsRound circuit.now) }
     {
-        if !self.excludes(solver, alloc, circuit, bad, &equalities, budget)? {
-            return Ok(Round::Over);
+        let excluded = self.excludes(solver, alloc, circuit, bad, &equalities, budget)?;
+        if !excluded && !self.is_open {
+            self.is_open = true;
+            return Ok(Round::Open);
         }
         match self.ask_steps(solver, alloc, circuit, &equalities, budget)? {
-            Some(true) => Ok(Round::Fixed(equalities.clauses)),
+            Some(true) => Ok(Round::Fixed(found(equalities.clauses, excluded))),
             Some(false) => Ok(Round::Split),
             None => Ok(Round::Over),
         }
     }
 
     /// One round: asks whether the classes exclude the bad literal, and whether equal latches stay equal.
-    pub(crate) fn round<S: PartSat>(
+    pub(crate) fn round<S: PartSat, P: Progress>(
         &mut self,
         solver: &mut S,
         alloc: Global,
         circuit: &Model,
         bad: Lit,
+        progress: &mut P,
         budget: &mut Budget,
     ) -> Result<Round, SatError>
         requires for_bad { IsForBad circuit.now }
@@ -382,6 +407,8 @@ impl<'a> Search<'a> {
         if equalities.clauses.len() > GREATEST {
             return Ok(Round::Over);
         }
+        self.rounds = self.rounds.saturating_add(1);
+        progress.round_begun(self.rounds, equalities.clauses.len(), budget);
         load(solver, alloc, circuit, equalities.clauses.as_slice())?;
         self.is_swept = false;
         self.ask_all(solver, alloc, circuit, bad, equalities, budget)

@@ -36,6 +36,10 @@ pub(crate) struct Search<'a> {
     generator: Lcg128Xsl64,
     /// whether signals are swept in this round
     pub is_swept: bool,
+    /// whether the classes of a round did not exclude the bad literal
+    pub is_open: bool,
+    /// how many rounds there were
+    pub rounds: u64,
 }
 
 /// The state of a circuit and its inputs, in their order.
@@ -113,6 +117,8 @@ impl<'a> Search<'a> {
             classes: Classes::new(alloc, circuit.latches())?,
             generator: Lcg128Xsl64::seed_from_u64(0),
             is_swept: false,
+            is_open: false,
+            rounds: 0,
         })
     }
 

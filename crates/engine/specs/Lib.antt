@@ -1,3 +1,4 @@
 pub mod Bounds
 pub mod Findings
+pub mod InOrder
 pub mod Numbers

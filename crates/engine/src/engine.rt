@@ -7,8 +7,10 @@ ghost use Rattle.engine.specs.Findings.{IsForBad, IsSo};
 ghost use Rattle.engine.specs.declared.engine_error.EngineError.{EngineError};
 ghost use Rattle.engine.specs.declared.finding.Finding.{Finding};
 
+use crate::counters::Counters;
 use crate::engine_error::EngineError;
 use crate::finding::Finding;
+use base::Refused;
 use graph::{Budget, Model};
 use std::alloc::Global;
 
@@ -33,4 +35,7 @@ pub trait Engine: Drop {
         ensures stays { honest self.old → honest self.new }
         ensures so { honest self.old → IfOk result (IsSo circuit.now budget.new) }
         ensures answered { answers self.old circuit.now budget.old result budget.new };
+
+    /// Adds what it counted since it was made. The only refusal is out of memory.
+    fn count(&self, counters: &mut Counters) -> Result<(), Refused>;
 }

@@ -13,6 +13,10 @@ pub trait Progress: Drop {
 
     /// IC3 asks about the bad literal in the last frame, or takes an obligation from the queue.
     fn query_asked(&mut self, budget: &Budget);
+
+    /// Register correspondence begins a round of induction, the first of them round 1: with so many clauses that say which
+    /// latches are equal.
+    fn round_begun(&mut self, round: u64, clauses: usize, budget: &Budget);
 }
 
 /// Progress that is not shown.
@@ -25,4 +29,6 @@ impl Progress for Silent {
     fn depth_begun(&mut self, _steps: u32, _variables: u32, _budget: &Budget) {}
 
     fn query_asked(&mut self, _budget: &Budget) {}
+
+    fn round_begun(&mut self, _round: u64, _clauses: usize, _budget: &Budget) {}
 }

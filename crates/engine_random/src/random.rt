@@ -8,7 +8,8 @@ ghost use Rattle.engine_random.specs.Findings.{IsRunOrSpent};
 
 use crate::batch::Batch;
 use crate::watch::{Unwatched, Watch};
-use engine::{Engine, EngineError, Finding, Reason};
+use base::Refused;
+use engine::{Counters, Engine, EngineError, Finding, Reason};
 use graph::{Budget, Model};
 use rand_core::SeedableRng;
 use rand_pcg::Lcg128Xsl64;
@@ -25,6 +26,8 @@ pub struct Random<W> {
     seed: u64,
     depth: u32,
     watch: W,
+    /// how many batches were begun
+    batches: u64,
 }
 
 impl<W> std::marker::Model for Random<W> {
@@ -48,6 +51,7 @@ impl Random<Unwatched> {
             seed,
             depth,
             watch: Unwatched,
+            batches: 0,
         }
     }
 
@@ -59,8 +63,40 @@ impl Random<Unwatched> {
             seed: self.seed,
             depth: self.depth,
             watch,
+            batches: self.batches,
         }
     }
+}
+
+/// Plays batch after batch of 256 runs, from the seed on, and counts them. Answers the first run that sets the bad literal.
+fn play_all<W: Watch>(
+    alloc: Global,
+    circuit: &Model,
+    seed: u64,
+    depth: u32,
+    watch: &W,
+    batches: &mut u64,
+    budget: &mut Budget,
+) -> Result<Finding, EngineError>
+    requires for_bad { IsForBad circuit.now }
+    requires small { depth ≤ 255 }
+    ensures spends { Spends budget.old budget.new }
+    ensures so { IfOk result (IsSo circuit.now budget.new) }
+    ensures kinds { IfOk result IsRunOrSpent }
+    ensures memory { IfErr result (λ e. e ≡ EngineError.OutOfMemory witness) }
+{
+    let mut generator = Lcg128Xsl64::seed_from_u64(seed);
+    'playing: while !watch.is_over() && budget.tick() {
+        *batches = batches.saturating_add(1);
+        let mut batch = Batch::begin(alloc, circuit, &mut generator)?;
+        let found = batch.play(alloc, &mut generator, depth, watch, budget)?;
+        if let Some(finding) = found {
+            return Ok(finding);
+        }
+    }
+    let left = budget.left();
+    budget.spend(left);
+    Ok(Finding::Unknown(Reason::Budget))
 }
 
 impl<W: Watch> Engine for Random<W> {
@@ -85,16 +121,18 @@ impl<W: Watch> Engine for Random<W> {
         ensures kinds { IfOk result IsRunOrSpent }
         ensures memory { IfErr result (λ e. e ≡ EngineError.OutOfMemory witness) }
     {
-        let mut generator = Lcg128Xsl64::seed_from_u64(self.seed);
-        'playing: while !self.watch.is_over() && budget.tick() {
-            let mut batch = Batch::begin(alloc, circuit, &mut generator)?;
-            let found = batch.play(alloc, &mut generator, self.depth, &self.watch, budget)?;
-            if let Some(finding) = found {
-                return Ok(finding);
-            }
-        }
-        let left = budget.left();
-        budget.spend(left);
-        Ok(Finding::Unknown(Reason::Budget))
+        play_all(
+            alloc,
+            circuit,
+            self.seed,
+            self.depth,
+            &self.watch,
+            &mut self.batches,
+            budget,
+        )
+    }
+
+    fn count(&self, counters: &mut Counters) -> Result<(), Refused> {
+        counters.add("random", "batches of 256 runs", self.batches)
     }
 }

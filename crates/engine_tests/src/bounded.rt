@@ -6,7 +6,7 @@ ghost use Rattle.engine.specs.Findings.{IsForBad};
 
 use aag::read;
 use bmc::Bmc;
-use engine::{Engine, EngineError, Finding, Reason};
+use engine::{Counters, Engine, EngineError, Finding, Reason};
 use graph::{Budget, Model};
 use solver::{Plain, Sat};
 use std::alloc::Global;
@@ -87,5 +87,32 @@ fn by_backtracking(rt: HostRuntime) -> Result<(), Fail> {
 #[test]
 fn folds_constants(rt: HostRuntime) -> Result<(), Fail> {
     assert!(rt; times_of(rt.alloc(), WORKED[3].0, 3, 200)? == Some(4));
+    Ok(())
+}
+
+/// How many queries the search through this circuit counts, up to a depth.
+fn queries_of(alloc: Global, text: &[u8], depth: u8) -> Result<Option<u64>, Fail> {
+    let circuit = circuit(alloc, text)?;
+    let mut engine = Bmc::new(Plain::new(alloc), u32::from(depth));
+    engine.find(alloc, &circuit, &mut Budget::new(10_000_000))?;
+    let mut counters = Counters::new(alloc);
+    engine.count(&mut counters)?;
+    Ok(counters.as_slice().first().map(|counter| counter.count))
+}
+
+/// One for each number of steps: as many as the run has times, or as the depth says.
+#[test]
+fn counts_its_queries(rt: HostRuntime) -> Result<(), Fail> {
+    for (text, depth, times) in &WORKED {
+        let all = if *times == 0 {
+            usize::from(*depth) + 1
+        } else {
+            *times
+        };
+        assert!(rt;
+            queries_of(rt.alloc(), text, *depth)? == Some(all as u64),
+            "{text:?}"
+        );
+    }
     Ok(())
 }

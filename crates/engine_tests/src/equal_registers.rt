@@ -4,15 +4,15 @@
 use crate::bounded::circuit;
 use crate::inductive::{is_certified, is_shown};
 use cdcl::Cdcl;
-use correspondence::{Corresponding, correspond};
-use engine::{Engine, Finding};
+use correspondence::{Correspondence, Corresponding, correspond};
+use engine::{Engine, Finding, Silent};
 use graph::Budget;
 use ic3::Ic3;
 use std::alloc::Global;
 use std::test::Fail;
 
 /// Circuits, whether such an invariant is found, and whether they are safe.
-static WORKED: [(&[u8], bool, bool); 10] = [
+static WORKED: [(&[u8], bool, bool); 12] = [
     // two latches that take an input, and bad where only the first is set
     (b"aag 4 1 2 0 1 1\n2\n4 2\n6 2\n8\n8 4 7\n", true, true),
     // the second takes the input's negation and begins with 1, and bad where both are set
@@ -41,6 +41,14 @@ static WORKED: [(&[u8], bool, bool); 10] = [
         false,
         true,
     ),
+    // the same twice, where each latch is equal to one that the other reads
+    (
+        b"aag 9 0 4 0 5 1\n2 10\n4 12\n6 14\n8 16\n18\n10 3 9\n12 2 9\n14 7 5\n16 6 5\n18 2 8\n",
+        false,
+        true,
+    ),
+    // two latches that take an input, and bad where both are set
+    (b"aag 4 1 2 0 1 1\n2\n4 2\n6 2\n8\n8 4 6\n", false, false),
 ];
 
 /// How many steps of the budget a search may cost.
@@ -50,9 +58,18 @@ const STEPS: u64 = 100_000;
 fn is_found(alloc: Global, text: &[u8]) -> Result<bool, Fail> {
     let circuit = circuit(alloc, text)?;
     let mut solver = Cdcl::new(alloc);
-    match correspond(&mut solver, alloc, &circuit, &mut Budget::new(STEPS))? {
-        Some(clauses) => is_certified(alloc, &circuit, clauses.as_slice()),
-        None => Ok(false),
+    match correspond(
+        &mut solver,
+        alloc,
+        &circuit,
+        &mut 0,
+        &mut Silent,
+        &mut Budget::new(STEPS),
+    )? {
+        Some(Correspondence::Invariant(clauses)) => {
+            is_certified(alloc, &circuit, clauses.as_slice())
+        }
+        _ => Ok(false),
     }
 }
 

@@ -119,6 +119,8 @@ impl Progress for Told {
     fn query_asked(&mut self, _budget: &Budget) {
         self.queries = self.queries.saturating_add(1);
     }
+
+    fn round_begun(&mut self, _round: u64, _clauses: usize, _budget: &Budget) {}
 }
 
 /// The progress of the search in the circuit of a text.

@@ -10,7 +10,7 @@ use crate::frame_solver::FrameSolver;
 use engine::EngineError;
 use graph::{Model, Seq};
 use ic3_frames::Frames;
-use ic3_step::StateLit;
+use ic3_step::{Counted, StateLit};
 use solver::PartSat;
 
 impl<S: PartSat> FrameSolver<S> {
@@ -31,7 +31,11 @@ impl<S: PartSat> FrameSolver<S> {
     {
         let alloc = frames.allocator();
         self.add_clause(alloc, circuit, level + 1, clause.as_slice())?;
+        let before = frames.entries().len();
         frames.add(clause, level + 1)?;
+        self.transition.count(Counted::LearnedClause);
+        self.transition
+            .count_subsumed(before.saturating_add(1), frames.entries().len());
         Ok(())
     }
 }

@@ -13,7 +13,7 @@ use crate::reset::reset_literal;
 use engine::EngineError;
 use graph::{Budget, Model, Seq};
 use ic3_frames::Frames;
-use ic3_step::{Assignment, Consecution, StateLit};
+use ic3_step::{Assignment, Consecution, Counted, StateLit};
 use solver::PartSat;
 
 /// What became of states that were to be blocked.
@@ -56,7 +56,10 @@ impl<S: PartSat> FrameSolver<S> {
             Some(place) => frames.entries()[place].clause.as_slice(),
             None => &[],
         };
+        let before = clause.as_slice().len();
         let shorter = self.generalize(circuit, frames, level, clause, needed, budget)?;
+        self.transition
+            .count_dropped(before, shorter.as_slice().len());
         let last = self.furthest(circuit, frames, level, shorter.as_slice(), budget)?;
         self.add_to_frames(circuit, frames, last, shorter)
     }
@@ -90,6 +93,8 @@ impl<S: PartSat> FrameSolver<S> {
             return Ok(Blocking::Blocked);
         }
         let before = level - 1;
+        self.transition.count(Counted::BlockQuery);
+        self.transition.count_obligation(clause.len());
         match self.inductive(circuit, frames, before, clause, first, budget)? {
             Consecution::Held(part) => {
                 self.learn(circuit, frames, before, clause, part, budget)?;

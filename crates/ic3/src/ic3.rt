@@ -6,7 +6,8 @@ ghost use Rattle.engine.specs.Findings.{IsForBad, IsSo};
 ghost use Rattle.ic3.specs.Answers.{IsDecided};
 
 use crate::frame_solver::FrameSolver;
-use engine::{Engine, EngineError, Finding, Progress, Silent};
+use base::Refused;
+use engine::{Counters, Engine, EngineError, Finding, Progress, Silent};
 use graph::{Budget, Lit, Model, Seq};
 use solver::PartSat;
 use std::alloc::Global;
@@ -95,5 +96,9 @@ impl<S: PartSat, P: Progress> Engine for Ic3<S, P> {
         let progress = &mut self.progress;
         self.frame_solver
             .search(alloc, circuit, candidates, progress, budget)
+    }
+
+    fn count(&self, counters: &mut Counters) -> Result<(), Refused> {
+        self.frame_solver.transition.add_counters(counters)
     }
 }

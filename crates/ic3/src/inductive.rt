@@ -15,7 +15,7 @@ use crate::reset::reset_literal;
 use engine::EngineError;
 use graph::{Budget, Model, Seq};
 use ic3_frames::Frames;
-use ic3_step::{Consecution, StateLit};
+use ic3_step::{Consecution, Counted, StateLit};
 use solver::PartSat;
 
 impl<S: PartSat> FrameSolver<S> {
@@ -75,6 +75,7 @@ impl<S: PartSat> FrameSolver<S> {
             return Ok(None);
         };
         let shorter = shorter.as_slice();
+        self.transition.count(Counted::DropQuery);
         match self.inductive(circuit, frames, level, shorter, first, budget)? {
             Consecution::Held(part) => Ok(Some(part)),
             _ => Ok(None),
@@ -132,6 +133,7 @@ impl<S: PartSat> FrameSolver<S> {
         ensures onward { IfOk result (λ b. b ≡ true → HoldsOnward circuit.now frames.now.entries level clause.now) }
     {
         self.make_room(circuit, frames)?;
+        self.transition.count(Counted::PushQuery);
         match self.relative(circuit, frames, level, clause, budget)? {
             Consecution::Held(_) => Ok(true),
             _ => Ok(false),
@@ -164,6 +166,7 @@ impl<S: PartSat> FrameSolver<S> {
                 return Ok(last);
             }
             self.make_room(circuit, frames)?;
+            self.transition.count(Counted::PushQuery);
             match self.relative(circuit, frames, next, clause, budget)? {
                 Consecution::Held(_) => last = next,
                 Consecution::Broken(time) => {

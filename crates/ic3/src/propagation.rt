@@ -13,7 +13,7 @@ use base::Refused;
 use engine::EngineError;
 use graph::{Budget, Lit, Model, Seq};
 use ic3_frames::Frames;
-use ic3_step::Consecution;
+use ic3_step::{Consecution, Counted};
 use solver::PartSat;
 
 /// The invariant that the first frame is, of those behind the initial states, that is the same as the next one.
@@ -58,11 +58,16 @@ impl<S: PartSat> FrameSolver<S> {
         if frames.push_fails_again(level, clause) {
             return Ok(place + 1);
         }
+        self.transition.count(Counted::PushQuery);
         match self.after(circuit, frames, level, clause, budget)? {
             Consecution::Held(_) => {
                 self.add_clause(alloc, circuit, level + 1, clause)?;
                 self.count_propagated();
+                let before = frames.entries().len();
                 let kept = frames.propagate(alloc, place)?;
+                self.transition.count(Counted::PushedClause);
+                self.transition
+                    .count_subsumed(before, frames.entries().len());
                 Ok(kept + 1)
             }
             Consecution::Broken(time) => {

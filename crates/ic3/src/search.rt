@@ -17,6 +17,7 @@ use base::Refused;
 use engine::{EngineError, Finding, Progress, Reason};
 use graph::{Budget, Lit, Model, Seq};
 use ic3_frames::Frames;
+use ic3_step::Counted;
 use solver::PartSat;
 use std::alloc::Global;
 
@@ -135,6 +136,7 @@ impl<S: PartSat> FrameSolver<S> {
         ensures going { IfOk result (λ r. r ≡ None → (frames.new.top ≡ frames.old.top) ⊎ ((frames.new.top ≡ frames.old.top + 1) × AreApart frames.new)) }
     {
         progress.query_asked(budget);
+        self.transition.count(Counted::BadQuery);
         match self.at_bad(circuit, frames, budget)? {
             AtBad::Set(time) => {
                 self.block_obligations(circuit, frames, lifting, time, progress, budget)

@@ -17,6 +17,7 @@
 mod asking;
 mod cone;
 mod costs;
+mod counts;
 mod encoding;
 mod lookup;
 mod order;
@@ -28,6 +29,7 @@ mod state;
 mod step;
 mod transition;
 
+pub use counts::Counted;
 pub use reply::Reply;
 pub use state::{Assignment, StateLit};
 pub use step::{Consecution, denials, holds_after};

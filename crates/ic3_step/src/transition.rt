@@ -10,10 +10,12 @@ ghost use Rattle.ic3_step.specs.Replies.{IsReply, IsUsable};
 ghost use Rattle.ic3_step.specs.Contents.{IsLoaded, HasGuards};
 
 use crate::cone::Cone;
+use crate::counts::{Counted, Counts};
 use crate::reply::Reply;
 use crate::state::StateLit;
 use crate::{asking, encoding};
-use engine::EngineError;
+use base::Refused;
+use engine::{Counters, EngineError};
 use graph::{Budget, Lit, Model, Seq};
 use inductive_subset::safe_inductive_subset;
 use solver::{PartSat, Sat};
@@ -26,6 +28,8 @@ use std::alloc::Global;
 pub struct Transition<S: Sat> {
     solver: S,
     cone: Option<Cone>,
+    /// what was counted since it was made
+    counts: Counts,
 }
 
 impl<S: Sat> std::marker::Model for Transition<S> {
@@ -41,7 +45,11 @@ impl<S: Sat> Transition<S> {
     pub fn new(solver: S) -> Self
         ensures { result ≡ record { vars = S.vars solver; clauses = S.clauses solver; cone = None } }
     {
-        Transition { solver, cone: None }
+        Transition {
+            solver,
+            cone: None,
+            counts: Counts::new(),
+        }
     }
 
     /// Begins anew with the constraints of the circuit, what they are made of, and room for the
@@ -91,6 +99,40 @@ impl<S: Sat> Transition<S> {
     {
         let solver = &mut self.solver;
         Ok(safe_inductive_subset(solver, alloc, circuit, invariant, bad, budget)?)
+    }
+
+    /// Counts one more.
+    pub fn count(&mut self, counted: Counted)
+        ensures { self.new ≡ self.old }
+    {
+        self.counts.count(counted);
+    }
+
+    /// Counts the literals of a clause that is to block states.
+    pub fn count_obligation(&mut self, literals: usize)
+        ensures { self.new ≡ self.old }
+    {
+        self.counts.count_obligation(literals);
+    }
+
+    /// Counts how many literals a clause lost.
+    pub fn count_dropped(&mut self, before: usize, after: usize)
+        ensures { self.new ≡ self.old }
+    {
+        self.counts.count_dropped(before, after);
+    }
+
+    /// Counts how many clauses the frames lost.
+    pub fn count_subsumed(&mut self, before: usize, after: usize)
+        ensures { self.new ≡ self.old }
+    {
+        self.counts.count_subsumed(before, after);
+    }
+
+    /// Adds what was counted, and what the solver counted. The only refusal is out of memory.
+    pub fn add_counters(&self, counters: &mut Counters) -> Result<(), Refused> {
+        self.counts.add_to(counters)?;
+        counters.add_statistics("ic3", &self.solver.statistics())
     }
 }
 

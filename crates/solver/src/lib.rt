@@ -6,6 +6,7 @@
 //!   A refusal, for lack of memory or of ids, leaves the clauses as they were.
 //! - `PartSat` is what a solver keeps to that answers a question about part of a circuit at the cost of that part.
 //! - `Full` is the witness that all ids of clauses are taken, and `Taken` makes it.
+//! - `Statistics` is what a solver counts.
 //! - `Plain` is a solver by backtracking, short rather than fast.
 //!
 //! Literals are integers: `n` is the variable `n`, and `-n` says that it is false. What is said
@@ -22,6 +23,7 @@ mod plain;
 mod sat;
 mod sat_error;
 mod search;
+mod statistics;
 mod values;
 
 pub use answer::Answer;
@@ -31,4 +33,5 @@ pub use part_sat::PartSat;
 pub use plain::Plain;
 pub use sat::Sat;
 pub use sat_error::SatError;
+pub use statistics::{Statistics, count};
 pub use values::{are_true, fits_gates, is_true};

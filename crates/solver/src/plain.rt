@@ -16,6 +16,7 @@ use crate::part_sat::PartSat;
 use crate::sat::Sat;
 use crate::sat_error::SatError;
 use crate::search::search;
+use crate::statistics::Statistics;
 use crate::values::{are_true, fits_gates};
 use base::{Budget, Seq};
 use lrat::{Clause, Formula};
@@ -136,6 +137,11 @@ impl Sat for Plain {
             assume,
             budget,
         )
+    }
+
+    /// It counts nothing.
+    fn statistics(&self) -> Statistics {
+        Statistics::new()
     }
 }
 

@@ -9,6 +9,7 @@ ghost use Rattle.solver.specs.Full.{full};
 
 use crate::answer::Answer;
 use crate::sat_error::SatError;
+use crate::statistics::Statistics;
 use base::Budget;
 use std::alloc::Global;
 
@@ -66,4 +67,7 @@ pub trait Sat: Drop {
         ensures spends { Spends budget.old budget.new }
         ensures lawful { IfOk result (IsLawful (vars self.old) (clauses self.old) assume.now budget.new) }
         ensures limit { IfErr result (λ e. e ≡ Limit full → is_full self.new) };
+
+    /// What it counted since it was made. No contract speaks of it.
+    fn statistics(&self) -> Statistics;
 }

@@ -8,6 +8,7 @@ use Rattle.certificate3.specs.Texts.{Certificate, SpellsCertificate}
 use Rattle.certificate3.proofs.WholeLaws.{text_goes_on, text_refused, text_whole, told}
 use Rattle.checker3.specs.declared.text.Outcome.{Outcome}
 use Rattle.checker3.specs.Judged.{IsJudged}
+use Rattle.checker3.proofs.Refused.{text_not_accepted}
 use Rattle.checker3.proofs.text.check_source.Goals as goal
 
 -- the text is refused before its end, behind it, and it is whole
@@ -54,6 +55,15 @@ returns-clause-upheld g c text later left =
           subst (λ (p : Property). IsUpheld m p) (sym (ap (λ (claim : Claim). claim.property) both.0))
           (c.accepted_law.ensures m d.claim.property d.claim.rounds d.evidence c.well_formed-2.ensures (subst (λ o. IsJudged m d o) accepted both.1)),
     )
+
+pub returns-clause-refused : goal.returns-clause-refused
+returns-clause-refused g c text later left =
+    let m = c.args.circuit.now in
+    let P = λ (d : Certificate) (found : Outcome). (found.claim ≡ d.claim) × IsJudged m d found.refusal in
+    let (zs, between, ended) = c.in_ok-end.ensures.says text later left in
+    let (ys, before, found) = c.in_ok-outcome.ensures.says text zs between in
+    let (d, spelled, both) = text_whole P c.in_ok-reader.reader.held c.check_text.new.reader.held c.end.new.self.held ys zs later c.in_ok-outcome.outcome c.in_ok-reader.ensures.begins found ended in
+    (ys, before, text_not_accepted m ys d c.in_ok-outcome.outcome.refusal spelled both.1)
 
 pub returns-clause-ended : goal.returns-clause-ended
 returns-clause-ended g c text later left =

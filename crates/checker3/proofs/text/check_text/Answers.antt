@@ -1,20 +1,16 @@
-use Rattle.std.proofs.Common.{◌≡◌, Ok, Option, Some, refl}
+use Rattle.std.proofs.Common.{◌≡◌}
 use Rattle.scan.specs.Reading.{◌>>=◌}
-use Rattle.certificate3.specs.Reading.{certificate_at, claim_at, evidence_at, first_line_at}
+use Rattle.certificate3.specs.Reading.{certificate_at, first_line_at}
 use Rattle.certificate3.specs.Texts.{Certificate}
-use Rattle.certificate3.proofs.ChainLaws.{goes_on, maps_ok, same_reads, stops}
-use Rattle.certificate3.proofs.PartLaws.{a_certificate, certificate_is, then_claim, then_evidence}
-use Rattle.certificate3.proofs.PieceLaws.{claim_of_piece, first_line_of_piece}
+use Rattle.certificate3.proofs.ChainLaws.{goes_on, same_reads, stops}
+use Rattle.certificate3.proofs.PartLaws.{certificate_is, then_claim}
+use Rattle.certificate3.proofs.PieceLaws.{first_line_of_piece}
 use Rattle.checker3.specs.declared.text.Outcome.{Outcome}
-use Rattle.checker3.specs.declared.refusal.Refusal.{Refusal}
 use Rattle.checker3.specs.Judged.{IsJudged}
 use Rattle.checker3.proofs.text.check_text.Goals as goal
 
 pub line-requires-clause-line : goal.line-requires-clause-line
 line-requires-clause-line g c = first_line_of_piece
-
-pub line-requires-2-clause-line : goal.line-requires-2-clause-line
-line-requires-2-clause-line g c = claim_of_piece
 
 pub returns-in_err-line-clause-says : goal.returns-in_err-line-clause-says
 returns-in_err-line-clause-says g c =
@@ -22,29 +18,8 @@ returns-in_err-line-clause-says g c =
     same_reads P (λ bytes. first_line_at bytes >>= λ u. then_claim u.0 u.1) certificate_at _ _ _ _ _ certificate_is
     (stops P first_line_at then_claim c.in_err-line.field-0.0 _ _ _ _ _ c.from_residual.ensures.1 c.in_err-line.ensures.says)
 
-pub returns-in_err-claim-clause-says : goal.returns-in_err-claim-clause-says
-returns-in_err-claim-clause-says g c =
-    let P = λ (d : Certificate) (found : Outcome). (found.claim ≡ d.claim) × IsJudged c.args.circuit.now d found.refusal in
-    same_reads P (λ bytes. first_line_at bytes >>= λ u. then_claim u.0 u.1) certificate_at _ _ _ _ _ certificate_is
-    (goes_on P first_line_at then_claim (tt {0}) _ _ _ _ _ _ _ c.in_ok-line.ensures.says
-    (stops P claim_at then_evidence c.in_err-claim.field-0.0 _ _ _ _ _ c.from_residual-in_err-claim.ensures.1 c.in_err-claim.ensures.says))
-
-pub returns-in_err-refusal-clause-says : goal.returns-in_err-refusal-clause-says
-returns-in_err-refusal-clause-says g c =
-    let P = λ (d : Certificate) (found : Outcome). (found.claim ≡ d.claim) × IsJudged c.args.circuit.now d found.refusal in
-    let claim = c.in_ok-claim.claim in
-    same_reads P (λ bytes. first_line_at bytes >>= λ u. then_claim u.0 u.1) certificate_at _ _ _ _ _ certificate_is
-    (goes_on P first_line_at then_claim (tt {0}) _ _ _ _ _ _ _ c.in_ok-line.ensures.says
-    (goes_on P claim_at then_evidence claim _ _ _ _ _ _ _ c.in_ok-claim.ensures.says
-    (stops P evidence_at (λ e rest. Some (a_certificate claim e, rest)) c.in_err-refusal.field-0.0 _ _ _ _ _ c.from_residual-in_err-refusal.ensures.1 c.in_err-refusal.ensures.says)))
-
 pub returns-clause-says : goal.returns-clause-says
 returns-clause-says g c =
     let P = λ (d : Certificate) (found : Outcome). (found.claim ≡ d.claim) × IsJudged c.args.circuit.now d found.refusal in
-    let claim = c.in_ok-claim.claim in
-    let told : Option Refusal → Outcome = λ found. record { claim = claim; refusal = found } in
-    same_reads P (λ bytes. first_line_at bytes >>= λ u. then_claim u.0 u.1) certificate_at (Ok (told c.in_ok-refusal.refusal)) _ _ c.args.reader.now.held c.check_claim.new.reader.held certificate_is
-    (goes_on P first_line_at then_claim (tt {0}) (Ok (told c.in_ok-refusal.refusal)) _ _ _ c.args.reader.now.held c.line.new.self.held c.check_claim.new.reader.held c.in_ok-line.ensures.says
-    (goes_on P claim_at then_evidence claim (Ok (told c.in_ok-refusal.refusal)) _ _ _ c.line.new.self.held c.line-2.new.self.held c.check_claim.new.reader.held c.in_ok-claim.ensures.says
-    (maps_ok (λ e found. IsJudged c.args.circuit.now (a_certificate claim e) found) P evidence_at (a_certificate claim) told c.in_ok-refusal.refusal _ _ c.line-2.new.self.held c.check_claim.new.reader.held c.in_ok-refusal.ensures.says
-    (λ e found judged. (refl, judged)))))
+    same_reads P (λ bytes. first_line_at bytes >>= λ u. then_claim u.0 u.1) certificate_at c.check_behind.result _ _ c.args.reader.now.held c.check_behind.new.reader.held certificate_is
+    (goes_on P first_line_at then_claim (tt {0}) c.check_behind.result _ _ _ c.args.reader.now.held c.line.new.self.held c.check_behind.new.reader.held c.in_ok-line.ensures.says c.check_behind.ensures.says)

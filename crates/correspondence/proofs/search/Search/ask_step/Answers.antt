@@ -1,4 +1,4 @@
-use Rattle.std.proofs.Common.{◌≡◌, List, ℤ}
+use Rattle.std.proofs.Common.{List, ℤ}
 use Rattle.solver.specs.Answers.{IsCore}
 use Rattle.correspondence.proofs.Asked.{core_contradicts}
 use Rattle.correspondence.proofs.search.Search.ask_step.Goals as goal

@@ -1,4 +1,4 @@
-use Rattle.std.proofs.Common.{◌≡◌, ◌<◌, ℕ, [], true, get_or}
+use Rattle.std.proofs.Common.{◌≡◌, ◌<◌, ℕ, [], true}
 use Rattle.std.specs.Prelude.{slice_index_or}
 use Rattle.base.specs.Budget.{Spends}
 use Rattle.cnf.specs.Clauses.{step_clauses}

@@ -1,4 +1,4 @@
-use Rattle.std.proofs.Common.{◌≡◌, ◌∙◌, List, All, sym, subst, arith}
+use Rattle.std.proofs.Common.{◌∙◌, List, All, sym, subst, arith}
 use Rattle.graph.specs.declared.circuit.Lit.{Lit}
 use Rattle.cnf.specs.Formulas.{IsOverLatches}
 use Rattle.correspondence.specs.Equal.{IsEquality}

@@ -1,8 +1,9 @@
-use Rattle.std.proofs.Common.{◌≡◌, ◌+◌, ◌<◌, All, refl, arith, sym, subst}
+use Rattle.std.proofs.Common.{◌≡◌, ◌+◌, ◌<◌, All, refl, arith, sym, subst, ◌∙◌}
 use Rattle.cnf.specs.Formulas.{bad_literal}
 use Rattle.ic3_step.specs.States.{Holds}
 use Rattle.ic3_frames.specs.declared.frames.Entry.{Entry}
 use Rattle.ic3_frames.specs.Frames.{IsStateClause}
+use Rattle.ic3.specs.Sound.{HasFrames}
 use Rattle.ic3.proofs.Guarding.{has_within}
 use Rattle.ic3.proofs.Joining.{all_more, entry_holds}
 use Rattle.ic3.proofs.frame_solver.FrameSolver.add_to_frames.Goals as goal
@@ -29,9 +30,12 @@ returns-clause-sound g c =
     let top = sound.top in
     let level : Entry = record { clause = c.args.clause; level = c.args.level + 1 } in
     let same : a.levels ≡ c.add_clause.new.self.levels = sym c.add_clause.ensures.levels in
+    let kept = c.add_clause.new.self in
+    let counted : c.count_subsumed.new.self ≡ kept.transition = c.count_subsumed.ensures ∙ c.count.ensures in
     record {
-      has = c.in_ok-add_clause.ensures.has new (has_within m old new a added.within sound.has)
-          (λ s inside. subst (Holds s) (sym c.as_slice.ensures) (entry_holds new c.args.clause (c.args.level + 1) s added.newest inside));
+      has = subst (λ t. HasFrames {S = g.row.S.Denot} m new (record { transition = t; levels = kept.levels; room = kept.room; next = kept.next })) (sym counted)
+          (c.in_ok-add_clause.ensures.has new (has_within m old new a added.within sound.has)
+          (λ s inside. subst (Holds s) (sym c.as_slice.ensures) (entry_holds new c.args.clause (c.args.level + 1) s added.newest inside)));
       laws = added.laws m (bad_literal m 0) c.args.level sound.laws refl is.clause is.initial is.onward;
       top = omega (arith, top, same, c.add.ensures.top);
       below = all_more (λ (e : Entry). e.level < c.add_clause.new.self.levels) old new level added.only

@@ -3,6 +3,7 @@ use Rattle.cnf.specs.Formulas.{bad_literal}
 use Rattle.ic3_frames.specs.declared.frames.Entry.{Entry}
 use Rattle.ic3_frames.specs.Frames.{IsStateClause, HoldsAfter}
 use Rattle.ic3.specs.Answers.{IsAfter}
+use Rattle.ic3.specs.Sound.{HasFrames, IsSound}
 use Rattle.ic3.proofs.Guarding.{item_has, has_within}
 use Rattle.ic3.proofs.Joining.{all_more, entry_holds, raised_found}
 use Rattle.ic3.proofs.frame_solver.FrameSolver.propagate_clause.Goals as goal
@@ -13,8 +14,9 @@ after-requires g c =
     let es = c.args.frames.now.entries in
     let e = c.index-entries-place.result in
     let item : e ≡ get_or es c.args.place e = c.index-entries-place.is ∙ ap (λ (xs : List Entry). get_or xs c.args.place e) c.entries.ensures in
+    let a = c.args.self.now in
     record {
-      sound = c.requires.sound;
+      sound = subst (λ t. IsSound {S = g.row.S.Denot} m (record { transition = t; levels = a.levels; room = a.room; next = a.next }) c.args.frames.now) (sym c.count.ensures) c.requires.sound;
       clause = subst (IsStateClause m) (sym c.as_slice-clause.ensures) (item_has (λ (x : Entry). IsStateClause m x.clause) es c.args.place e c.requires.place item c.requires.sound.laws.clauses);
     }
 
@@ -64,8 +66,11 @@ returns-in-Held-clause-sound g c =
     let same : a.levels ≡ c.count_propagated.new.self.levels = sym (c.count_propagated.ensures.levels ∙ c.add_clause.ensures.levels) in
     let found = raised_found es fs place c.in_ok-kept-in-Held.kept k e clause raised.place c.requires.place clause_is level_is in
     let above : next.level < c.count_propagated.new.self.levels = omega (arith, level_is, same, top, c.requires.below) in
+    let kept = c.count_propagated.new.self in
+    let counted : c.count_subsumed.new.self ≡ kept.transition = c.count_subsumed.ensures ∙ c.count-in-Held.ensures in
     record {
-      has = c.count_propagated.ensures.has m fs (c.in_ok-add_clause-in-Held.ensures.has fs (has_within m es fs a raised.within sound.has) (λ s inside. entry_holds fs clause (k + 1) s found inside));
+      has = subst (λ t. HasFrames {S = g.row.S.Denot} m fs (record { transition = t; levels = kept.levels; room = kept.room; next = kept.next })) (sym counted)
+          (c.count_propagated.ensures.has m fs (c.in_ok-add_clause-in-Held.ensures.has fs (has_within m es fs a raised.within sound.has) (λ s inside. entry_holds fs clause (k + 1) s found inside)));
       laws = raised.laws m (bad_literal m 0) k e sound.laws level_is (subst (HoldsAfter m es k) (sym clause_is) after);
       top = omega (arith, top, same, c.propagate.ensures.top);
       below = all_more (λ (x : Entry). x.level < c.count_propagated.new.self.levels) es fs next (raised.only e) (subst (λ n. All (λ (x : Entry). x.level < n) es) same sound.below) above;

@@ -1,5 +1,5 @@
 use Rattle.base.specs.Budget.{Spends}
-use Rattle.engine_random.proofs.random.RandomEngine.find.Given as goal
+use Rattle.engine_random.proofs.random.play_all.Given as goal
 
 abbrev pub invariant-playing : goal.invariant-playing
 invariant-playing g l = Spends l.initial.budget l.budget

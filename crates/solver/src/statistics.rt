@@ -1,6 +1,6 @@
-//! What the search counts.
+//! What a solver counts.
 
-/// How often the search did what, over all calls. A count that would be over the greatest number stays there.
+/// How often a search did what, over all calls. A count that would be over the greatest number stays there.
 #[derive(Clone, Copy)]
 pub struct Statistics {
     /// literals that were decided, assumptions among them
@@ -13,11 +13,11 @@ pub struct Statistics {
     pub restarts: u64,
     /// how often learned clauses were forgotten
     pub reductions: u64,
-    /// learned clauses that the kernel kept, those that were forgotten later among them
+    /// learned clauses that were kept, those that were forgotten later among them
     pub kept_learned: u64,
-    /// learned clauses that the kernel refused, since their hints do not show them
+    /// learned clauses that were refused, since their hints do not show them
     pub refused_learned: u64,
-    /// cores that the kernel refused, since their hints do not show them or they are not all assumed
+    /// cores that were refused, since their hints do not show them or they are not all assumed
     pub refused_cores: u64,
 }
 
@@ -42,7 +42,7 @@ impl Statistics {
         }
     }
 
-    /// Counts a learned clause that the kernel kept, or refused.
+    /// Counts a learned clause that was kept, or refused.
     pub fn count_learned(&mut self, is_kept: bool) {
         if is_kept {
             count(&mut self.kept_learned);
@@ -51,7 +51,7 @@ impl Statistics {
         }
     }
 
-    /// Counts a core that the kernel refused.
+    /// Counts a core that was refused.
     pub fn count_core(&mut self, is_kept: bool) {
         if !is_kept {
             count(&mut self.refused_cores);

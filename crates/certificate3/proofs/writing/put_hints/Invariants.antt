@@ -1,0 +1,11 @@
+use Rattle.std.proofs.Common.{◌≡◌, take}
+use Rattle.std.specs.Prelude.{flat_map}
+use Rattle.std.specs.Io.KnownBytes.{Appends}
+use Rattle.certificate3.specs.Texts.{hints_line}
+use Rattle.certificate3.proofs.writing.put_hints.Given as goal
+
+abbrev pub invariant-loop-k : goal.invariant-loop-k
+invariant-loop-k g l = record {
+  steady : g.W.Sink.failed l.out ≡ g.W.Sink.failed l.initial.out;
+  appended : Appends (g.W.Sink.contents l.initial.out) (g.W.Sink.contents l.out) (flat_map hints_line (take l.k l.hints));
+}
