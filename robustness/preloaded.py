@@ -1,8 +1,6 @@
 """The cases of cases/cases.tsv with a small C library preloaded (robustness/hostile), for `robustness/refused` and `robustness/devices`."""
 
 import contextlib
-import importlib.machinery
-import importlib.util
 import os
 import pathlib
 import re
@@ -11,22 +9,18 @@ import sys
 
 TOP = pathlib.Path(__file__).resolve().parent.parent
 FOLDER = TOP / "cases"
+sys.path.insert(0, str(FOLDER))
+
+from runner.tables import is_due, table
+
 BEFORE = b"what was there before\n"
 MOST = 1000
 LIMIT_SECONDS = 120
 
 
-def the_cases():
-    """The functions of cases/run."""
-    loader = importlib.machinery.SourceFileLoader("cases_run", str(FOLDER / "run"))
-    module = importlib.util.module_from_spec(importlib.util.spec_from_loader("cases_run", loader))
-    loader.exec_module(module)
-    return module
-
-
-def due(cases, names):
+def due(names):
     """The cases that are due, or those of them that are named. Where none is, or not each that is named, nothing is tried."""
-    those = [case for case in cases.table() if cases.is_due(case) and (not names or case["name"] in names)]
+    those = [case for case in table() if is_due(case) and (not names or case["name"] in names)]
     gone = sorted(set(names) - {case["name"] for case in those})
     if gone or not those:
         print(f"no case is due by the name {gone[0]}" if gone else "no case is due", file=sys.stderr)

@@ -14,6 +14,7 @@ sys.dont_write_bytecode = True
 
 import check_all
 import competition
+import gate
 import installing
 import programs
 import starting

@@ -1,16 +1,25 @@
 """Cases of bin/started and bin/build, in a small repository of its own. What stands there for `rt` proves nothing,
 and makes programs that say which source they were made of."""
 
+import importlib.machinery
+import importlib.util
 import os
+import pathlib
 import shutil
 import signal
 import subprocess
+import sys
 
 from trial import TOP, Wrong, call, case, children, expect, is_there, make, make_script, wait_for
+
+sys.path.insert(0, str(TOP / "share" / "lugyveron"))
+
+import crates
 
 CRATES = "base:\nextra: base\naigcheck: base\naigmc: extra base\nother: base\n"
 
 BUILDER = """echo $$ >> {folder}/builds
+cp crates.txt {folder}/asked
 [ ! -e {folder}/slow ] || sleep 1
 [ ! -e {folder}/endless ] || sleep 60
 [ ! -e {folder}/edit ] || echo three > {folder}/top/crates/base/src/lib.rt
@@ -58,6 +67,10 @@ class Repository:
         """How many builds there were."""
         made = self.folder / "builds"
         return len(made.read_text().splitlines()) if made.exists() else 0
+
+    def asked(self):
+        """The crates.txt of the last build."""
+        return (self.folder / "asked").read_text()
 
     def begun(self):
         """A call of bin/build that is under way."""
@@ -158,6 +171,74 @@ def copied(scratch):
     here.top = scratch / "copy"
     make(here.source(), "two\n")
     expect((here.says(), here.builds()), ("aigmc of two: -x a b\n", 2), "what its program says, and the builds")
+
+
+@case("build: aigcheck alone, and aigmc behind it")
+def alone(scratch):
+    here, judge = Repository(scratch), "base: \naigcheck: base\n"
+    done = call(here.top / "bin/build", "aigcheck", cwd=scratch, env=here.environment)
+    is_made = (here.top / "crates/aigmc/out/aigmc").exists()
+    expect((done.status, here.asked(), is_made), (0, judge, False), "the status, the crates, whether aigmc is made")
+    found = [(here.says("aigcheck"), here.builds())[1], (here.says("aigmc"), here.builds())[1]]
+    expect((found, here.asked()), ([1, 2], "base: \nextra: base\naigmc: extra base\n"), "the builds, and the crates")
+    make(here.source(), "two\n")
+    expect((here.says("aigcheck"), here.asked()), ("aigcheck of two: -x a b\n", judge), "bin/aigcheck")
+
+
+# Of four crates the last stands on two, and one of these on the first: in one lane they take 2 + 3 + 4 + 1, and in two
+# the chain of three, 2 + 3 + 1, since the fourth ends at 4, before 5.
+DIAMOND = {"a": [], "b": ["a"], "c": [], "d": ["b", "c"]}
+MINUTES = {"a": 2, "b": 3, "c": 4, "d": 1}
+
+
+@case("build: the longest chain, and how long crates take")
+def long_chain(_scratch):
+    expect(crates.chains(DIAMOND, MINUTES)["d"], (6, ("a", "b", "d")), "the longest chain")
+    found = [crates.span(DIAMOND, MINUTES, lanes) for lanes in (1, 2)]
+    expect(found, [10, 6], "how long they take in one lane and in two")
+    # The long one goes first: else it would begin at 3 and end at 9.
+    apart = {"x": [], "y": [], "z": []}
+    expect(crates.span(apart, {"x": 3, "y": 3, "z": 6}, 2), 6, "how long three take in two lanes")
+
+
+@case("build: what crates cost by a table")
+def by_table(_scratch):
+    # The whole is 5, and 2 of it is the first's: the others share 3 by their sizes.
+    table = "| Crate | proof | all |\n| `a` | 2.0 | 4.1 |\n| `x` |  | 3.0 |\n| **All crates** | 5.0 | 9.0 |\n"
+    expect(crates.costs_of(table, {"a": 70, "b": 10, "c": 20}), {"a": 2, "b": 1, "c": 2}, "what they cost")
+    expect(crates.costs_of("| `a` | 2.0 | 4.1 |\n", {"a": 70}), {}, "what they cost where there is no sum")
+
+
+@case("build: how long is left")
+def how_long(_scratch):
+    def seconds(proved, kept, begun, gone):
+        return crates.seconds_left(DIAMOND, MINUTES, (set(proved), set(kept), set(begun)), gone, 1)
+
+    # Nothing is through, so a minute takes 60 seconds. Then the first, of 2, took 100: 8 are left.
+    expect([seconds("", "", "", 90), seconds("a", "", "", 100)], [600, 400], "at first, and behind a crate")
+    # The third, of 4, took 100, and the first was kept: 4 are left. 3.5 took 70, half of one among them: 6.5 are left.
+    expect([seconds("c", "a", "", 100), seconds("a", "", "b", 70)], [100, 130], "with one kept, and with one begun")
+    expect(seconds("abcd", "", "", 100), 0, "at the end")
+
+
+@case("build: the line that says how far it is")
+def line(scratch):
+    here, log = Repository(scratch), scratch / "log"
+    loader = importlib.machinery.SourceFileLoader("build", str(here.top / "bin/build"))
+    build = importlib.util.module_from_spec(importlib.util.spec_from_loader("build", loader))
+    loader.exec_module(build)
+    needed = build.crates_below(("aigmc",))
+    make(log, "rt: base is kept: an earlier run proved it\nrt: extra proved\nrt: aigmc NOT PROVED\n")
+    # extra took 90 seconds and costs 1 minute, aigmc costs 2: 180 seconds.
+    costs = {"base": 5, "extra": 1, "aigmc": 2}
+    told = [build.far(needed, it, pathlib.Path("/nowhere"), log, 90) for it in (costs, {})]
+    head, tail = "1 min 30 s: 2 of 3 crates proved, 1 of them before", "; now: the programs are run"
+    expect(told, [f"{head}, some 3 min left{tail}", head + tail], "what it says, with costs and without")
+    expect(build.proof_costs(), {}, "the costs where there is no table")
+    (here.top / "docs").mkdir()
+    make(here.top / "docs/GATE.md", "| `base` | 5.0 |\n| **All crates** | 9.0 |\n")
+    # Four others of one size share 4.
+    expect(build.proof_costs(), {"base": 5} | dict.fromkeys(("extra", "aigcheck", "aigmc", "other"), 1), "the costs")
 
 
 @case("build: two at once")
