@@ -75,9 +75,15 @@ def quiet(scratch):
     expect(program(scratch, "aigmc", *words), (b"1\nb1\n.\n", b"", 1), "what check does")
 
 
+def is_counted(counts):
+    """Whether they are what engines count: queries and more, each of an engine, and none below 0."""
+    engines = {name.partition(": ")[0] for name in counts}
+    return {"bmc"} <= engines <= {"bmc", "ic3", "corr"} and counts["bmc: queries"] > 0 and min(counts.values()) >= 0
+
+
 def lines(done):
     """The lines of JSON that a program put, where they are all that it put, and its status. The seconds are left out, and where
-    there are steps these too."""
+    there are steps these too, and what the engines counted."""
     out, told, status = done
     expect((out[-1:], told, out.isascii()), (b"\n", b"", True), "the end of what it puts, and what it says")
     found = [json.loads(line) for line in out.splitlines()]
@@ -85,6 +91,9 @@ def lines(done):
     expect([time for time in times if not 0 <= time < 60], [], "times that can't be")
     steps = [line.pop("steps") for line in found if "steps" in line]
     expect([count for count in steps if not 0 < count <= 200_000_000], [], "steps that can't be")
+    counted = [line.pop("statistics") for line in found if "statistics" in line]
+    expect([counts for counts in counted if not is_counted(counts)], [], "counts that can't be")
+    expect(len(counted), len(steps), "lines with what the engines counted")
     expect(out.count(b'"seconds":'), len(re.findall(rb'"seconds":\d+\.\d{3},', out)), "seconds with three decimals")
     return found, status
 

@@ -4,7 +4,7 @@ use Rattle.std.specs.Prelude.{decimal}
 use Rattle.std.specs.List.{flat_map}
 use Rattle.std.proofs.lemmas.List.{append-nil, length-append, length-replicate}
 use Rattle.scan.specs.Words.{any, IsField}
-use Rattle.scan.specs.Counts.{spaced, IsCounts}
+use Rattle.scan.specs.Lists.{spaced, IsCounts}
 use Rattle.scan.specs.Spelling.{Nothing, Then, After}
 use Rattle.scan.proofs.Toolbox.{Reads, reads_as, reads_nothing, reads_then, reads_after, skips_tag}
 use Rattle.scan.proofs.WordLaws.{field_reads}

@@ -11,7 +11,7 @@ use Rattle.scan.proofs.Toolbox.{Reads, reads_as, reads_nothing, reads_then}
 use Rattle.scan.proofs.WordLaws.{field_reads}
 use Rattle.scan.proofs.ListLaws.{Many, many_reads}
 use Rattle.graph.specs.declared.circuit.Lit.{Lit}
-use Rattle.graph.specs.WellFormed.{justice_literals}
+use Rattle.graph.specs.Circuits.{justice_literals}
 use Rattle.aag.specs.Lines.{greatest}
 use Rattle.aag.specs.Justice.{sizes_at, properties_at, justice_at}
 use Rattle.aag.specs.Spelling.{IsSizeLine, IsLiteralLine}

@@ -4,7 +4,7 @@ use Rattle.std.specs.Prelude.{flat_map, decimal, codes, ◌==◌, if◌then◌el
 use Rattle.std.proofs.lemmas.Bool.{cases_Bool, eqb-true}
 use Rattle.std.proofs.lemmas.List.{append-nil}
 use Rattle.std.proofs.lemmas.Grind.{flat_map-append}
-use Rattle.scan.specs.Counts.{spaced}
+use Rattle.scan.specs.Lists.{spaced}
 use Rattle.graph.specs.declared.circuit.Lit.{Lit}
 use Rattle.graph.specs.declared.circuit.Latch.{Latch}
 use Rattle.graph.specs.declared.circuit.Gate.{Gate}
@@ -15,7 +15,7 @@ use Rattle.std.proofs.KnownBytes.{Appends-trans}
 use Rattle.base.proofs.Putting.{begins_behind, begins_more, puts_err}
 use Rattle.aag.specs.Tail.{letter_of, symbol_line}
 use Rattle.graph.specs.declared.parts.Parts.{Parts}
-use Rattle.graph.specs.WellFormed.{justice_literals}
+use Rattle.graph.specs.Circuits.{justice_literals}
 use Rattle.aag.specs.Writing.{circuit_text, comment_lines, gate_line, header_line, latch_line, literal_line, size_line, trimmed, use_lines}
 
 -- the first call failed

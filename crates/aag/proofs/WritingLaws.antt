@@ -6,15 +6,14 @@ use Rattle.std.proofs.lemmas.List.{nil_from_length, length-append, get_or_append
 use Rattle.std.proofs.lemmas.Simd.{map-map}
 use Rattle.std.proofs.lemmas.List.Concat.{flat_map-cons}
 use Rattle.std.proofs.lemmas.List.Elements.{All-nil, All-cons, All-head, All-tail, All-map, All-from_recursion, recursion_from_All}
-use Rattle.scan.specs.Counts.{spaced, IsCounts}
-use Rattle.scan.specs.Lists.{Each}
+use Rattle.scan.specs.Lists.{spaced, IsCounts, Each}
 use Rattle.graph.specs.declared.circuit.Lit.{Lit}
 use Rattle.graph.specs.declared.circuit.Latch.{Latch}
 use Rattle.graph.specs.declared.circuit.Gate.{Gate}
 use Rattle.graph.specs.declared.parts.Parts.{Parts}
 use Rattle.graph.specs.File.{File}
-use Rattle.graph.specs.Valuation.{variable, defined}
-use Rattle.graph.specs.WellFormed.{defining, HasReset, justice_literals, IsInLimits, IsWellFormed}
+use Rattle.graph.specs.Circuits.{variable, defined, defining, HasReset, justice_literals}
+use Rattle.graph.specs.WellFormed.{IsInLimits, IsWellFormed}
 use Rattle.aag.specs.Lines.{greatest}
 use Rattle.aag.specs.Spelling.{IsLiteral, IsDefining, IsSizeLine, IsInputLine, IsLiteralLine, IsLatchLine, IsGateLine, counts_of, SpellsCircuit}
 use Rattle.aag.specs.Tail.{symbol_line, IsSymbolLine, IsComment}

@@ -1,12 +1,11 @@
 -- Which texts spell a circuit (AIGER 1.9).
 use Rattle.std.specs.Prelude.{◌≡◌, ℕ, ◌+◌, ◌*◌, ◌%◌, ◌≤◌, ◌⊎◌, List, [], ◌∷◌, ◌++◌, decimal, codes, length, map, sum_by}
-use Rattle.scan.specs.Counts.{IsCounts}
-use Rattle.scan.specs.Lists.{Each}
+use Rattle.scan.specs.Lists.{IsCounts, Each}
 use Rattle.graph.specs.declared.circuit.Lit.{Lit}
 use Rattle.graph.specs.declared.circuit.Latch.{Latch}
 use Rattle.graph.specs.declared.circuit.Gate.{Gate}
 use Rattle.graph.specs.declared.parts.Parts.{Parts}
-use Rattle.graph.specs.WellFormed.{HasReset, justice_literals}
+use Rattle.graph.specs.Circuits.{HasReset, justice_literals}
 
 -- a literal of a variable up to max
 abbrev pub IsLiteral : ℕ → Lit → Type 0

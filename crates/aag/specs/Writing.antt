@@ -1,12 +1,12 @@
 -- What is written of a file: one of its spellings.
 use Rattle.std.specs.Prelude.{ℕ, ◌&&◌, List, [], ◌∷◌, ◌++◌, length, flat_map, decimal, codes, Option, Some, None, ◌==◌, if◌then◌else◌}
-use Rattle.scan.specs.Counts.{spaced}
+use Rattle.scan.specs.Lists.{spaced}
 use Rattle.graph.specs.declared.circuit.Lit.{Lit}
 use Rattle.graph.specs.declared.circuit.Latch.{Latch}
 use Rattle.graph.specs.declared.circuit.Gate.{Gate}
 use Rattle.graph.specs.declared.parts.Parts.{Parts}
 use Rattle.graph.specs.File.{File}
-use Rattle.graph.specs.WellFormed.{justice_literals}
+use Rattle.graph.specs.Circuits.{justice_literals}
 use Rattle.aag.specs.Spelling.{long_latch, short_latch}
 use Rattle.aag.specs.Tail.{symbol_line}
 

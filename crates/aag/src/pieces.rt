@@ -2,7 +2,7 @@
 
 ghost use Rattle.std.specs.Prelude.{◌≡◌, ◌^◌, ◌+◌, ◌*◌, ◌<◌, ◌≤◌, ◌-◌, ◌++◌, ◌∷◌, decimal, drop, flat_map, length};
 ghost use Rattle.base.specs.Devices.{CountsFailure, Puts};
-ghost use Rattle.scan.specs.Counts.{spaced};
+ghost use Rattle.scan.specs.Lists.{spaced};
 ghost use Rattle.aag.specs.Tail.{letter_of, symbol_line};
 ghost use Rattle.aag.specs.Writing.{gate_line, latch_line, literal_line, size_line};
 

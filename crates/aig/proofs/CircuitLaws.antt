@@ -10,7 +10,7 @@ use Rattle.graph.specs.declared.circuit.Lit.{Lit}
 use Rattle.graph.specs.declared.circuit.Latch.{Latch}
 use Rattle.graph.specs.declared.circuit.Gate.{Gate}
 use Rattle.graph.specs.declared.parts.Parts.{Parts}
-use Rattle.graph.specs.WellFormed.{IsOrdered, defining}
+use Rattle.graph.specs.Circuits.{IsOrdered, defining}
 use Rattle.graph.proofs.Numbered.{IsNumbered-left, IsNumbered-second, IsNumbered-third, IsNumbered-all}
 use Rattle.aag.specs.declared.header.Header.{Header}
 use Rattle.aag.specs.Lines.{greatest, lit}

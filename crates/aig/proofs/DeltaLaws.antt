@@ -9,11 +9,10 @@ use Rattle.scan.proofs.NumberLaws.{cond_some_to, cond_none_to}
 use Rattle.scan.proofs.Toolbox.{Reads, bind_some, reads_as, reads_nothing, reads_then, reads_unless}
 use Rattle.graph.specs.declared.circuit.Lit.{Lit}
 use Rattle.graph.specs.declared.circuit.Gate.{Gate}
-use Rattle.graph.specs.WellFormed.{IsDescending}
+use Rattle.graph.specs.Circuits.{IsDescending}
 use Rattle.aag.specs.Lines.{lit}
-use Rattle.aig.specs.Delta.{IsDelta}
+use Rattle.aig.specs.Binary.{IsDelta, IsGateDeltas}
 use Rattle.aig.specs.Lines.{groups_at, delta_at, gate_at}
-use Rattle.aig.specs.Binary.{IsGateDeltas}
 
 -- ---- groups
 

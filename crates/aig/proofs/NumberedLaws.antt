@@ -9,7 +9,7 @@ use Rattle.scan.proofs.Toolbox.{Reads, reads_as, reads_nothing, reads_then}
 use Rattle.graph.specs.declared.circuit.Lit.{Lit}
 use Rattle.graph.specs.declared.circuit.Latch.{Latch}
 use Rattle.graph.specs.declared.circuit.Gate.{Gate}
-use Rattle.graph.specs.WellFormed.{IsNumbered, IsDescending}
+use Rattle.graph.specs.Circuits.{IsNumbered, IsDescending}
 use Rattle.aag.specs.Lines.{lit}
 use Rattle.aig.specs.Lines.{numbered_at}
 use Rattle.aig.specs.Binary.{IsLatchLine, IsGateDeltas}

@@ -9,7 +9,8 @@ use Rattle.aag.specs.Ascii.{file_of}
 use Rattle.aag.specs.Tail.{symbol_line}
 use Rattle.aag.specs.Writing.{header_line, use_lines, comment_lines}
 use Rattle.aag.proofs.PieceLaws.{word}
-use Rattle.aig.specs.Delta.{groups_text, delta_text, IsDelta}
+use Rattle.aig.specs.Delta.{groups_text, delta_text}
+use Rattle.aig.specs.Binary.{IsDelta}
 use Rattle.aig.specs.Writing.{latch_line, gate_text, circuit_text, written_text}
 
 -- ---- differences

@@ -1,13 +1,13 @@
 -- What is spelled in order is well formed.
 use Rattle.std.proofs.Common.{◌≡◌, ℕ, zero, suc, ◌-◌, ◌%◌, ◌≤◌, List, [], ◌∷◌, ◌++◌, length, map, get_or, replicate, All, arith}
 use Rattle.std.proofs.lemmas.List.Elements.{All-nil, All-cons, All-append, All-map, recursion_from_All}
-use Rattle.scan.specs.Counts.{IsCounts}
-use Rattle.scan.specs.Lists.{Each}
+use Rattle.scan.specs.Lists.{IsCounts, Each}
 use Rattle.graph.specs.declared.circuit.Lit.{Lit}
 use Rattle.graph.specs.declared.circuit.Latch.{Latch}
 use Rattle.graph.specs.declared.circuit.Gate.{Gate}
 use Rattle.graph.specs.declared.parts.Parts.{Parts}
-use Rattle.graph.specs.WellFormed.{defining, used, justice_literals, HasReset, IsDescending, IsOrdered, IsInLimits, IsWellFormed}
+use Rattle.graph.specs.Circuits.{defining, justice_literals, HasReset, IsDescending, IsOrdered}
+use Rattle.graph.specs.WellFormed.{used, IsInLimits, IsWellFormed}
 use Rattle.graph.proofs.Ordered.{defined_once, is_defined, no_cycle_below}
 use Rattle.aag.specs.Lines.{greatest}
 use Rattle.aag.specs.Spelling.{IsLiteral, IsLiteralLine, counts_of}

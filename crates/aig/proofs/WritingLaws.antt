@@ -2,13 +2,14 @@
 use Rattle.std.proofs.Common.{◌≡◌, ℕ, ◌-◌, ◌≤◌, eqb, List, [], ◌∷◌, ◌++◌, length, refl, arith, append_assoc, inl, inr}
 use Rattle.std.specs.Prelude.{flat_map, decimal, codes}
 use Rattle.std.proofs.lemmas.Bool.{cases_Bool, eqb-true}
-use Rattle.scan.specs.Counts.{spaced}
+use Rattle.scan.specs.Lists.{spaced}
 use Rattle.graph.specs.declared.circuit.Latch.{Latch}
 use Rattle.graph.specs.declared.circuit.Gate.{Gate}
 use Rattle.graph.specs.declared.parts.Parts.{Parts}
 use Rattle.graph.specs.File.{File}
 use Rattle.graph.specs.Symbols.{symbol_counts, AreSymbols}
-use Rattle.graph.specs.WellFormed.{justice_literals, IsOrdered, IsWellFormed}
+use Rattle.graph.specs.Circuits.{justice_literals, IsOrdered}
+use Rattle.graph.specs.WellFormed.{IsWellFormed}
 use Rattle.aag.specs.Lines.{greatest}
 use Rattle.aag.specs.Spelling.{IsLiteral, IsLiteralLine}
 use Rattle.aag.specs.Tail.{symbol_line}

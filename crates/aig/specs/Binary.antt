@@ -1,16 +1,21 @@
 -- Which texts spell a file (AIGER 1.9, the binary layout).
-use Rattle.std.specs.Prelude.{◌≡◌, ℕ, ◌-◌, ◌≤◌, ◌⊎◌, List, [], ◌∷◌, ◌++◌, decimal, codes, length, map, sum_by}
-use Rattle.scan.specs.Counts.{IsCounts}
-use Rattle.scan.specs.Lists.{Each}
+use Rattle.std.specs.Prelude.{◌≡◌, ℕ, ◌-◌, ◌≤◌, ◌⊎◌, List, [], ◌∷◌, ◌++◌, decimal, codes, length, map, sum_by, ◌+◌, ◌/◌, ◌%◌, ◌<◌}
+use Rattle.scan.specs.Lists.{IsCounts, Each}
 use Rattle.graph.specs.declared.circuit.Latch.{Latch}
 use Rattle.graph.specs.declared.circuit.Gate.{Gate}
 use Rattle.graph.specs.declared.parts.Parts.{Parts}
-use Rattle.graph.specs.WellFormed.{HasReset, IsOrdered, justice_literals}
+use Rattle.graph.specs.Circuits.{HasReset, IsOrdered, justice_literals}
 use Rattle.graph.specs.File.{File}
 use Rattle.graph.specs.Symbols.{symbol_counts, AreSymbols}
 use Rattle.aag.specs.Spelling.{IsLiteral, IsLiteralLine, IsSizeLine, counts_of}
 use Rattle.aag.specs.Tail.{IsSymbolLine, IsComment}
-use Rattle.aig.specs.Delta.{IsDelta}
+
+-- a number in groups of seven bits, the lowest first, with the high bit set on all bytes but the last; the last of several
+-- groups is not 0
+abbrev pub IsDelta : List ℕ → ℕ → Type 0
+IsDelta [] n = ⊥
+IsDelta (c ∷ []) n = (n < 128) × (c ≡ n)
+IsDelta (c ∷ d ∷ ds) n = (128 ≤ n) × (c ≡ 128 + n % 128) × IsDelta (d ∷ ds) (n / 128)
 
 -- a latch's next literal with its reset, and without it
 abbrev pub long_latch : Latch → List ℕ

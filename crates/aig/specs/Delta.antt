@@ -1,12 +1,5 @@
 -- Differences of literals (AIGER 1.9, the binary layout).
-use Rattle.std.specs.Prelude.{◌≡◌, ℕ, ◌+◌, ◌/◌, ◌%◌, ◌<◌, ◌≤◌, zero, suc, List, [], ◌∷◌, nat_lt, if◌then◌else◌}
-
--- a number in groups of seven bits, the lowest first, with the high bit set on all bytes but the last; the last of several
--- groups is not 0
-abbrev pub IsDelta : List ℕ → ℕ → Type 0
-IsDelta [] n = ⊥
-IsDelta (c ∷ []) n = (n < 128) × (c ≡ n)
-IsDelta (c ∷ d ∷ ds) n = (128 ≤ n) × (c ≡ 128 + n % 128) × IsDelta (d ∷ ds) (n / 128)
+use Rattle.std.specs.Prelude.{ℕ, ◌+◌, ◌/◌, ◌%◌, zero, suc, List, [], ◌∷◌, nat_lt, if◌then◌else◌}
 
 -- the groups of a number, at most k and the last
 unfoldable pub groups_text : ℕ → ℕ → List ℕ

@@ -3,7 +3,7 @@
 ghost use Rattle.std.specs.Prelude.{◌≡◌, ◌≢◌, ◌^◌, ◌<◌, ◌≤◌, ◌-◌, ◌↔◌, length, Err, OnOk, OnErr};
 ghost use Rattle.std.specs.Io.KnownBytes.{Appends};
 ghost use Rattle.base.specs.Devices.{CountsFailure, Puts, PutsBeginning};
-ghost use Rattle.graph.specs.WellFormed.{IsOrdered};
+ghost use Rattle.graph.specs.Circuits.{IsOrdered};
 ghost use Rattle.aig.specs.declared.aig_write_error.AigWriteError.TheVariants.{Unordered};
 ghost use Rattle.aig.specs.Binary.{SpellsBinary};
 ghost use Rattle.aig.specs.Writing.{circuit_text, written_text};

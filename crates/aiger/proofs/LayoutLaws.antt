@@ -1,19 +1,27 @@
 -- Files in either layout.
-use Rattle.std.proofs.Common.{◌≡◌, ◌≢◌, ℕ, ◌≤◌, List, length, Result, Ok, Err, inl, inr, refl, sym, ◌∙◌, ap, subst, arith}
+use Rattle.std.proofs.Common.{◌≡◌, ◌≢◌, ℕ, ◌≤◌, List, ◌++◌, length, append_assoc, Option, Some, Result, Ok, Err, inl, inr, refl, sym, ◌∙◌, ap, subst, arith}
 use Rattle.std.specs.Prelude.{MatchResult, IsErrAnd}
 use Rattle.std.proofs.lemmas.Option.{same_Some}
+use Rattle.scan.specs.Reading.{Read}
+use Rattle.scan.proofs.Toolbox.{Reads}
 use Rattle.base.specs.Witness.{witness}
 use Rattle.graph.specs.declared.error.ReadError.{ReadError}
 use Rattle.graph.specs.declared.error.ReadError.TheVariants.{TooLong, Header, Number, Limit, Byte, Truncated, LiteralRange, Defining, DefinedTwice, Undefined, Cyclic, Reset, Delta, Symbol, Counts, NoProperty, OutOfMemory}
+use Rattle.graph.specs.declared.parts.Parts.{Parts}
 use Rattle.graph.specs.File.{File}
 use Rattle.graph.specs.Refusals.{number_of}
 use Rattle.graph.specs.WellFormed.{IsWellFormed}
 use Rattle.aag.specs.Ascii.{SpellsAscii, IsRead}
+use Rattle.aag.specs.Spelling.{SpellsCircuit}
+use Rattle.aag.specs.Sections.{circuit_at as ascii_circuit}
+use Rattle.aag.proofs.CircuitLaws.{circuit_reads as ascii_reads}
 use Rattle.aag.proofs.TextLaws.{text_again as ascii_again}
-use Rattle.aig.specs.Binary.{SpellsBinary}
+use Rattle.aig.specs.Binary.{SpellsBinary, SpellsOrdered}
+use Rattle.aig.specs.Sections.{circuit_at as binary_circuit}
+use Rattle.aig.proofs.CircuitLaws.{circuit_reads as binary_reads}
 use Rattle.aig.proofs.TextLaws.{text_again as binary_again}
 use Rattle.aig.proofs.WellFormedLaws.{well_formed_of}
-use Rattle.aiger.specs.Layouts.{IsBinary, SpellsFile, IsRefusalNumber}
+use Rattle.aiger.specs.Layouts.{Begins, IsBinary, SpellsFile, SpellsModel, IsRefusalNumber}
 use Rattle.aiger.specs.Loading.{IsRefusal}
 use Rattle.aiger.specs.declared.load_error.LoadError.TheVariants.{Refused}
 
@@ -23,6 +31,29 @@ one_file xs f g (inl a) (inl b) = same_Some f g (sym (binary_again xs f a.1) ∙
 one_file xs f g (inl a) (inr b) = absurd (b.0 a.0)
 one_file xs f g (inr a) (inl b) = absurd (a.0 b.0)
 one_file xs f g (inr a) (inr b) = same_Some f g (sym (ascii_again xs f a.1) ∙ ascii_again xs g b.1)
+
+-- what a text begins with is read
+begins_read : {A : Type 0} (at : List ℕ → Read A) (R : List ℕ → A → Type 0) → Reads at R → (xs : List ℕ) (x : A) → Begins R xs x →
+    (rest : List ℕ) × (at xs ≡ Some (x, rest))
+begins_read at R reads xs x (front, rest, is, spells) = (rest, ap at is ∙ reads.complete front x rest spells)
+
+begins_one : {A : Type 0} (at : List ℕ → Read A) (R : List ℕ → A → Type 0) → Reads at R → (xs : List ℕ) (x y : A) → Begins R xs x → Begins R xs y → x ≡ y
+begins_one at R reads xs x y a b =
+    let (one, is) = begins_read at R reads xs x a in
+    let (other, again) = begins_read at R reads xs y b in
+    ap (λ read. read.0) (same_Some (x, one) (y, other) (sym is ∙ again))
+
+-- a text begins with at most one circuit
+pub one_model : (xs : List ℕ) (m n : Parts) → SpellsModel xs m → SpellsModel xs n → m ≡ n
+one_model xs m n (inl a) (inl b) = begins_one binary_circuit SpellsOrdered binary_reads xs m n a.1 b.1
+one_model xs m n (inl a) (inr b) = absurd (b.0 a.0)
+one_model xs m n (inr a) (inl b) = absurd (a.0 b.0)
+one_model xs m n (inr a) (inr b) = begins_one ascii_circuit SpellsCircuit ascii_reads xs m n a.1 b.1
+
+-- a text that spells a file begins with its circuit
+pub begins_with : (xs : List ℕ) (f : File) → SpellsFile xs f → SpellsModel xs f.model
+begins_with xs f (inl a) = inl (a.0, (a.1.circuit, a.1.symbols ++ a.1.comment, a.1.whole ∙ simp append_assoc, a.1.spells_circuit))
+begins_with xs f (inr a) = inr (a.0, (a.1.circuit, a.1.symbols ++ a.1.comment, a.1.whole ∙ simp append_assoc, a.1.spells_circuit))
 
 -- the circuit of a file that is spelled is well formed
 pub well_formed : (xs : List ℕ) (f : File) → SpellsFile xs f → IsWellFormed f.model

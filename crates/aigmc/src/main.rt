@@ -72,7 +72,7 @@ mod detail;
 mod explaining;
 
 use aigmc_circuits::{Pair, extract, make_fitting, make_shadow, make_witness, trace};
-use aigmc_commands::{Timing, certify_clauses, check, check_all, check_miter, cover};
+use aigmc_commands::{begin, certify_clauses, check, check_all, check_miter, cover};
 use aigmc_files::{DONE, FAULT, Stop, circuit, finished, print_table, stimulus_of, tell};
 use arguments::{AskedLayout, Request, Search, Wrong, parse};
 use base::push;
@@ -113,7 +113,7 @@ fn sim(rt: &HostRuntime, name: &str, stimulus: &str) -> Result<u8, Stop> {
 
 /// Looks for a run in which two circuits differ.
 fn compare(rt: &HostRuntime, pair: Pair<'_>, search: Search) -> Result<u8, Stop> {
-    let timing = Timing::begin(rt, search)?;
+    let timing = begin(rt, search)?;
     let miter = pair.made(rt)?;
     let name = pair.name(rt.alloc())?;
     check_miter(rt, name.as_str(), &miter, pair.folder, timing)

@@ -1,9 +1,8 @@
 //! The command `certify`: what other engines found becomes evidence.
 
-use crate::asking::Question;
-use crate::checking::Timing;
 use crate::counterexample::tell_counterexample;
-use crate::progress::conclude;
+use crate::telling::conclude;
+use crate::timing::{ask, begin};
 use aigmc_files::{
     DONE, Role, Stop, about, asked_for, circuit, is_taken, keep, property_in, read_of, read_text,
 };
@@ -12,6 +11,7 @@ use certify::{Certified, certify};
 use cli::Verdict;
 use graph::{AigerFile, Budget, Lit, Property, Seq};
 use inputs::is_standard;
+use portfolio::Question;
 use property_names::symbol_of;
 use std::alloc::Global;
 use transforms::shadow_file;
@@ -87,13 +87,13 @@ fn strengthened(
         json: false,
         verbose: asked.verbose,
     };
-    let timing = Timing::begin(rt, search)?;
+    let timing = begin(rt, search)?;
     let question = Question {
-        file,
+        circuit: file.model(),
         property,
         timing,
     };
-    let (verdict, _) = question.ask(rt, clauses)?;
+    let verdict = ask(rt, question, clauses)?.verdict;
     if asked.verbose {
         let symbol = symbol_of(file, property);
         conclude(rt, property, &verdict, symbol, timing.deadline.is_over());

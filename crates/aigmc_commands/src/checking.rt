@@ -2,91 +2,41 @@
 
 ghost use Rattle.std.specs.Prelude.{◌≡◌, ◌≢◌, ◌<◌, ◌≤◌, ◌⊎◌, length};
 
-use crate::asking::Question;
-use crate::progress::Shown;
 use crate::showing::Found;
-use crate::timed::{Deadline, Timed};
-use crate::vacuity::is_vacuous;
+use crate::timing::{ask, begin, is_vacuous, now};
 use aigmc_files::{
     DONE, Role, Stop, UNKNOWN, VIOLATED, about, asked_for, at, circuit, expect_folder, fault_of,
-    finished, is_taken, property_in,
+    is_taken, property_in,
 };
 use arguments::{Kept, Search};
-use cdcl::Cdcl;
 use cli::{CliError, Verdict};
-use graph::{AigerFile, Budget, Lit, Model, Property, Seq};
+use engine::Counter;
+use graph::{AigerFile, Lit, Property, Seq};
+use portfolio::{Answered, Question, Timing};
 use properties::{Evidence, all_properties, evidence_name};
-use std::alloc::Global;
 use std::time::Instant;
 use transforms::relevant_clauses;
 
-/// A search and when its time is over.
-#[derive(Clone, Copy)]
-pub struct Timing {
-    /// how the search is to go
-    pub search: Search,
-    /// when its time is over
-    pub deadline: Deadline,
-}
-
-impl Timing {
-    /// The time begins now.
-    pub fn begin(rt: &HostRuntime, search: Search) -> Result<Timing, Stop> {
-        let deadline = finished(Deadline::after(rt, search.timeout))?;
-        Ok(Timing { search, deadline })
-    }
-
-    /// How the search is shown on standard error.
-    pub fn shown(self, rt: &HostRuntime) -> Shown {
-        if self.search.quiet && !self.search.verbose {
-            Shown::Nothing
-        } else {
-            Shown::new(rt, self.search.verbose)
-        }
-    }
-
-    /// Whether it is shown that no run keeps the constraints, where anything is said of the search: standard error says so
-    /// too, but where only JSON does.
-    fn is_vacuous(self, rt: &HostRuntime, circuit: &Model) -> Result<bool, Stop> {
-        let is_told = self.shown(rt) != Shown::Nothing;
-        if !is_told && !self.search.json {
-            return Ok(false);
-        }
-        let is_vacuous = is_vacuous(rt.alloc(), circuit, self.deadline);
-        let is_vacuous = about(Role::Circuit, is_vacuous)?;
-        if is_vacuous && is_told {
-            let _ = eprintln!(rt; "aigmc: no run keeps the constraints, so every property holds");
-        }
-        Ok(is_vacuous)
-    }
-
-    /// When a search begins now, where JSON is to say how long it took and the clock says so.
-    fn now(self, rt: &HostRuntime) -> Option<Instant> {
-        if self.search.json {
-            Instant::now(rt).ok()
-        } else {
-            None
-        }
-    }
-
-    /// A solver that is asked until then.
-    pub fn solver(self, alloc: Global) -> Timed<Cdcl> {
-        Timed::new(Cdcl::new(alloc), self.deadline)
-    }
-
-    /// So many steps: none where the time is over.
-    pub fn budget(self, steps: u64) -> Budget {
-        Budget::new(if self.deadline.is_over() { 0 } else { steps })
-    }
-}
-
 /// How long a search was.
 #[derive(Clone, Copy)]
-struct Spent {
+struct Spent<'a> {
     /// when it began, where that is to be said
     begun: Option<Instant>,
     /// how many steps of its budget are spent
     steps: u64,
+    /// what the engines counted
+    counters: &'a [Counter],
+}
+
+impl<'a> Spent<'a> {
+    /// What this answer cost, by a search that began then.
+    fn by(answered: &'a Answered, begun: Option<Instant>) -> Spent<'a> {
+        Spent {
+            begun,
+            steps: answered.steps,
+            counters: answered.counters.as_slice(),
+        }
+    }
 }
 
 /// What commands ask about: the circuit's file and its name, the folder for the evidence, where one is named, how the
@@ -107,7 +57,7 @@ impl<'a> Whole<'a> {
         property: Property,
         verdict: &'a Verdict,
         evidence: Option<&'a str>,
-        spent: Spent,
+        spent: Spent<'a>,
     ) -> Found<'a> {
         Found {
             name: self.name,
@@ -118,6 +68,7 @@ impl<'a> Whole<'a> {
             search: self.timing.search,
             begun: spent.begun,
             steps: spent.steps,
+            counters: spent.counters,
             is_over: self.timing.deadline.is_over(),
             is_vacuous: self.is_vacuous,
         }
@@ -140,7 +91,7 @@ fn show<'a>(
     property: Property,
     verdict: &'a Verdict,
     evidence: Option<&'a str>,
-    spent: Spent,
+    spent: Spent<'a>,
 ) -> Result<u8, Stop> {
     whole.found(property, verdict, evidence, spent).show(rt)
 }
@@ -160,21 +111,21 @@ fn check_in<'a>(
         file,
         folder: kept.folder(),
         timing,
-        is_vacuous: timing.is_vacuous(rt, file.model())?,
+        is_vacuous: is_vacuous(rt, timing, file.model())?,
     };
-    let begun = timing.now(rt);
+    let begun = now(rt, timing);
     let candidates = Seq::new(rt.alloc());
     let question = Question {
-        file,
+        circuit: file.model(),
         property,
         timing,
     };
-    match about(Role::Circuit, question.ask(rt, candidates)) {
-        Ok((verdict, steps)) => {
-            let spent = Spent { begun, steps };
-            match certificate_in(&verdict, kept) {
-                Some(out) => show(rt, whole, property, &verdict, Some(out), spent),
-                None => keep_in_and_print(rt, whole, property, &verdict, spent),
+    match about(Role::Circuit, ask(rt, question, candidates)) {
+        Ok(answered) => {
+            let (verdict, spent) = (&answered.verdict, Spent::by(&answered, begun));
+            match certificate_in(verdict, kept) {
+                Some(out) => show(rt, whole, property, verdict, Some(out), spent),
+                None => keep_in_and_print(rt, whole, property, verdict, spent),
             }
         }
         Err(stop) => Err(fault_of(rt.alloc(), file.model(), property, stop)),
@@ -199,7 +150,7 @@ pub fn check(
     kept: Kept<'_>,
     search: Search,
 ) -> Result<u8, Stop> {
-    let timing = Timing::begin(rt, search)?;
+    let timing = begin(rt, search)?;
     let asked = asked_for(property)?;
     expect_place(rt, name, kept)?;
     let file = circuit(rt, name)?;
@@ -237,7 +188,7 @@ fn keep_in_and_print(
     whole: Whole<'_>,
     property: Property,
     verdict: &Verdict,
-    spent: Spent,
+    spent: Spent<'_>,
 ) -> Result<u8, Stop> {
     match evidence_in(rt, whole, property, verdict)? {
         Some(out) => show(rt, whole, property, verdict, Some(out.as_str()), spent),
@@ -259,18 +210,18 @@ pub fn check_miter<'a>(
         file,
         folder,
         timing,
-        is_vacuous: timing.is_vacuous(rt, file.model())?,
+        is_vacuous: is_vacuous(rt, timing, file.model())?,
     };
-    let begun = timing.now(rt);
+    let begun = now(rt, timing);
     let property = Property::Bad(0);
     let question = Question {
-        file,
+        circuit: file.model(),
         property,
         timing,
     };
-    let (verdict, steps) = question.ask(rt, Seq::new(rt.alloc()))?;
-    let spent = Spent { begun, steps };
-    keep_in_and_print(rt, whole, property, &verdict, spent)
+    let answered = ask(rt, question, Seq::new(rt.alloc()))?;
+    let spent = Spent::by(&answered, begun);
+    keep_in_and_print(rt, whole, property, &answered.verdict, spent)
 }
 
 /// The status of `all` before the first verdict: that of an unknown where there is no property.
@@ -312,17 +263,17 @@ fn check_next(
     clauses: &mut Seq<Seq<Lit>>,
 ) -> Result<u8, Stop> {
     let file = whole.file;
-    let begun = whole.timing.now(rt);
+    let begun = now(rt, whole.timing);
     let candidates = relevant_clauses(rt.alloc(), file.model(), property, clauses.as_slice())?;
     let question = Question {
-        file,
+        circuit: file.model(),
         property,
         timing: whole.timing,
     };
-    let (verdict, steps) = about(Role::Circuit, question.ask(rt, candidates))?;
-    let spent = Spent { begun, steps };
-    let status = keep_in_and_print(rt, whole, property, &verdict, spent)?;
-    if let Some(found) = clauses_of(property, verdict) {
+    let answered = about(Role::Circuit, ask(rt, question, candidates))?;
+    let spent = Spent::by(&answered, begun);
+    let status = keep_in_and_print(rt, whole, property, &answered.verdict, spent)?;
+    if let Some(found) = clauses_of(property, answered.verdict) {
         *clauses = found;
     }
     Ok(status)
@@ -338,7 +289,7 @@ pub fn check_all(
     folder: Option<&str>,
     search: Search,
 ) -> Result<u8, Stop> {
-    let timing = Timing::begin(rt, search)?;
+    let timing = begin(rt, search)?;
     if let Some(folder) = folder {
         at(Role::Made, expect_folder(rt, folder))?;
     }
@@ -348,7 +299,7 @@ pub fn check_all(
         file: &file,
         folder,
         timing,
-        is_vacuous: timing.is_vacuous(rt, file.model())?,
+        is_vacuous: is_vacuous(rt, timing, file.model())?,
     };
     let properties = all_properties(rt.alloc(), file.model()).map_err(CliError::from)?;
     let mut clauses = Seq::new(rt.alloc());

@@ -1,13 +1,13 @@
 //! The command `cover`: a run that keeps the constraints.
 
-use crate::asking::Question;
-use crate::checking::Timing;
-use crate::progress::Why;
+use crate::telling::Why;
+use crate::timing::{ask, begin};
 use aigmc_files::{DONE, Role, Stop, UNKNOWN, about, circuit, print_stimulus};
 use arguments::Search;
 use cli::Verdict;
 use engine::Reason;
 use graph::{Model, Property, Seq};
+use portfolio::Question;
 use stimulus::Stimulus;
 use transforms::{bad_behind, no_bad};
 
@@ -47,16 +47,16 @@ fn tell_unknown(rt: &HostRuntime, reason: Reason, is_over: bool) -> u8 {
 
 /// Prints a run of the circuit in the file of this name that keeps the constraints, as long as the search is deep.
 pub fn cover(rt: &HostRuntime, name: &str, search: Search) -> Result<u8, Stop> {
-    let timing = Timing::begin(rt, search)?;
+    let timing = begin(rt, search)?;
     let file = circuit(rt, name)?;
     let made = bad_behind(rt.alloc(), file.model(), search.depth).map_err(Stop::from);
     let made = about(Role::Circuit, made)?;
     let question = Question {
-        file: &made,
+        circuit: made.model(),
         property: Property::Bad(0),
         timing,
     };
-    let (verdict, _) = about(Role::Circuit, question.ask(rt, Seq::new(rt.alloc())))?;
+    let verdict = about(Role::Circuit, ask(rt, question, Seq::new(rt.alloc())))?.verdict;
     match verdict {
         Verdict::Unsafe(
             Stimulus::Violated {

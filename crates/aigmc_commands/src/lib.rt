@@ -1,16 +1,17 @@
-//! The commands of `aigmc` that look for evidence, or make it of what other engines found.
+//! The commands of `aigmc` that look for evidence, or make it of what other engines found. `portfolio` says which engines
+//! are asked.
 #![tactic(auto)]
 
 mod adopting;
-mod asking;
 mod checking;
 mod counterexample;
 mod covering;
-mod progress;
 mod showing;
-mod timed;
+mod telling;
+mod timing;
 mod vacuity;
 
 pub use adopting::certify_clauses;
-pub use checking::{Timing, check, check_all, check_miter};
+pub use checking::{check, check_all, check_miter};
 pub use covering::cover;
+pub use timing::begin;

@@ -1,11 +1,13 @@
 //! How a verdict is kept and printed.
 
-use crate::progress::{Why, conclude};
+use crate::telling::{Why, conclude, tell_counters};
 use aigmc_files::{Stop, finished, keep, keep_and_print, print_alone, status_of};
 use arguments::Search;
 use cli::Verdict;
+use engine::Counter;
 use graph::{AigerFile, Property};
 use property_names::{Line, symbol_of};
+use std::fmt;
 use std::time::{Duration, Instant};
 
 /// A verdict, and what it is of.
@@ -25,6 +27,8 @@ pub struct Found<'a> {
     pub search: Search,
     /// how many steps of its budget are spent
     pub steps: u64,
+    /// what the engines counted
+    pub counters: &'a [Counter],
     /// when it began, where the clock said so
     pub begun: Option<Instant>,
     /// whether its time is over
@@ -51,6 +55,22 @@ fn word_of(verdict: &Verdict) -> &'static str {
     }
 }
 
+/// What engines counted, as an object of JSON.
+#[derive(Clone, Copy)]
+struct Statistics<'a>(&'a [Counter]);
+
+impl fmt::Display for Statistics<'_> {
+    fn fmt<W: fmt::Write>(&self, f: &mut fmt::Formatter<W>) -> fmt::Result {
+        f.write_str("{")?;
+        for (place, counter) in self.0.iter().enumerate() {
+            let comma = if place == 0 { "" } else { "," };
+            let (engine, name, count) = (counter.engine, counter.name, counter.count);
+            write!(f, "{comma}\"{engine}: {name}\":{count}")?;
+        }
+        f.write_str("}")
+    }
+}
+
 impl Found<'_> {
     /// How long it took, where the clock says so.
     fn time(self, rt: &HostRuntime) -> Option<Duration> {
@@ -72,6 +92,7 @@ impl Found<'_> {
             time: self.time(rt),
         };
         let (checked, steps, is_vacuous) = (checked(self.verdict), self.steps, self.is_vacuous);
+        let statistics = Statistics(self.counters);
         let printed = match self.verdict {
             Verdict::Unknown(reason) => {
                 let why = Why {
@@ -79,11 +100,11 @@ impl Found<'_> {
                     is_over: self.is_over,
                 };
                 println!(rt;
-                    "{line},\"checked\":{checked},\"steps\":{steps},\"reason\":\"{why}\",\"vacuous\":{is_vacuous}}}"
+                    "{line},\"checked\":{checked},\"steps\":{steps},\"reason\":\"{why}\",\"vacuous\":{is_vacuous},\"statistics\":{statistics}}}"
                 )
             }
             _ => println!(rt;
-                "{line},\"checked\":{checked},\"steps\":{steps},\"reason\":null,\"vacuous\":{is_vacuous}}}"
+                "{line},\"checked\":{checked},\"steps\":{steps},\"reason\":null,\"vacuous\":{is_vacuous},\"statistics\":{statistics}}}"
             ),
         };
         finished(printed)?;
@@ -113,6 +134,7 @@ impl Found<'_> {
         };
         if self.search.verbose {
             let symbol = symbol_of(self.file, self.property);
+            tell_counters(rt, self.counters);
             conclude(rt, self.property, self.verdict, symbol, self.is_over);
         }
         Ok(status)

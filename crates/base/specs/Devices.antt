@@ -1,5 +1,5 @@
 -- What a device does in one call.
-use Rattle.std.specs.Prelude.{◌≡◌, ℕ, ◌+◌, ◌<◌, ◌≤◌, List, [], ◌++◌, length, take, Bool, Option, Result, IfOk, MatchResult}
+use Rattle.std.specs.Prelude.{◌≡◌, ℕ, ◌+◌, ◌<◌, ◌≤◌, List, [], ◌++◌, length, take, Bool, Option, Result, IfOk, MatchResult, false, IsTrue, IfSome}
 use Rattle.std.specs.Io.KnownBytes.{Appends}
 
 -- no more bytes are moved than the slice has
@@ -68,3 +68,8 @@ pub record Writer (W : Type 0) : Type 0 where
 -- the bytes were put, or after a failure a beginning of them
 abbrev pub Puts : {X E : Type 0} → Result X E → Option (List ℕ) → Option (List ℕ) → List ℕ → Type 0
 Puts result before after bytes = MatchResult result (λ _. Appends before after bytes) (λ _. PutsBeginning before after bytes)
+
+-- what may still come of a text whose beginning was given: nothing after the end, and where the reader tells its bytes, these
+abbrev pub IsLeft : List ℕ → Bool → Option (List ℕ) → List ℕ → List ℕ → Type 0
+IsLeft given ended remaining text later =
+    (text ≡ given ++ later) × (IsTrue ended → later ≡ []) × (ended ≡ false → IfSome remaining (λ known. later ≡ known))

@@ -3,11 +3,7 @@ use mathlib.Core.Path.{refl, sym}
 use mathlib.Core.List.{append-nil}
 use mathlib.Core.Bool.{true≢false}
 use Rattle.std.specs.Prelude.{◌≡◌, ℕ, List, [], ◌++◌, Bool, true, false, IsTrue, Option, None, Some, IfSome}
-
--- what may still come of a text whose beginning was given: nothing after the end, and where the reader tells its bytes, these
-abbrev pub IsLeft : List ℕ → Bool → Option (List ℕ) → List ℕ → List ℕ → Type 0
-IsLeft given ended remaining text later =
-    (text ≡ given ++ later) × (IsTrue ended → later ≡ []) × (ended ≡ false → IfSome remaining (λ known. later ≡ known))
+use Rattle.base.specs.Devices.{IsLeft}
 
 -- there is always such a text
 pub some_left : (given : List ℕ) (ended : Bool) (remaining : Option (List ℕ)) → (text : List ℕ) × (later : List ℕ) × IsLeft given ended remaining text later

@@ -1,10 +1,10 @@
 //! Where bytes come from.
 
 ghost use Rattle.std.specs.Prelude.{◌≡◌, ℕ, ◌+◌, ◌-◌, ◌^◌, ◌<◌, List, [], false, Ok, length};
-ghost use Rattle.base.specs.Devices.{FitsSlice, CountsFailure, LowersMost, TakeMoves};
+ghost use Rattle.base.specs.Devices.{FitsSlice, CountsFailure, LowersMost, TakeMoves, IsLeft};
 ghost use Rattle.std.proofs.Common.{refl, sym, ◌∙◌};
 ghost use Rattle.std.proofs.lemmas.List.{append_cancel_left};
-ghost use Rattle.base.specs.Left.{IsLeft, some_left};
+ghost use Rattle.base.specs.Left.{some_left};
 
 use crate::given::Given;
 use std::io::Read;

@@ -6,7 +6,7 @@ use Rattle.std.proofs.lemmas.List.Elements.{All-head, All-tail, All-append, All-
 use Rattle.graph.specs.declared.circuit.Lit.{Lit}
 use Rattle.graph.specs.declared.circuit.Latch.{Latch}
 use Rattle.graph.specs.declared.parts.Parts.{Parts}
-use Rattle.graph.specs.Valuation.{variable, place}
+use Rattle.graph.specs.Circuits.{variable, place}
 use Rattle.graph.proofs.Evaluation.{All-unmap}
 use Rattle.cnf.specs.Clauses.{next_of}
 use Rattle.cones.specs.Marks.{IsMarked}

@@ -11,7 +11,7 @@ use Rattle.std.proofs.lemmas.Map.Views.{Contains-from_any}
 use Rattle.graph.specs.declared.circuit.Lit.{Lit}
 use Rattle.graph.specs.declared.circuit.Latch.{Latch}
 use Rattle.graph.specs.declared.parts.Parts.{Parts}
-use Rattle.graph.specs.Valuation.{variable, defined}
+use Rattle.graph.specs.Circuits.{variable, defined}
 use Rattle.graph.specs.WellFormed.{IsWellFormed, IsOrder}
 use Rattle.graph.proofs.Evaluation.{Contains-map, defined_nonzero, held, latches_even}
 use Rattle.graph.proofs.Gates.{left}

@@ -5,7 +5,7 @@ use Rattle.std.proofs.lemmas.List.{get_or_append_left, get_or_default, length-re
 use Rattle.std.proofs.lemmas.List.Elements.{All-nil, All-cons, All-head, All-append, All-weaker, All-map, All-contains, Contains-append_left, Contains-append_right}
 use Rattle.graph.proofs.Evaluation.{All-left}
 use Rattle.graph.specs.declared.circuit.Lit.{Lit}
-use Rattle.graph.specs.Valuation.{place, variable}
+use Rattle.graph.specs.Circuits.{place, variable}
 use Rattle.lrat.specs.Shared.{unit_clauses}
 use Rattle.bmc.specs.Unrollings.{literal_of}
 use Rattle.bmc.proofs.Tabled.{literal_in_range}

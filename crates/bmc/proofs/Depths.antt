@@ -8,8 +8,7 @@ use Rattle.base.specs.Budget.{Steps}
 use Rattle.graph.specs.declared.circuit.Lit.{Lit}
 use Rattle.graph.specs.declared.circuit.Property.TheVariants.{Bad}
 use Rattle.graph.specs.declared.parts.Parts.{Parts}
-use Rattle.graph.specs.Valuation.{value_of}
-use Rattle.graph.specs.Justice.{at}
+use Rattle.graph.specs.Circuits.{value_of, at}
 use Rattle.graph.specs.WellFormed.{IsWellFormed}
 use Rattle.graph.proofs.Times.{IsRun-take}
 use Rattle.stimulus.specs.Shown.{last_of}

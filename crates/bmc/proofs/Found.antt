@@ -7,9 +7,7 @@ use Rattle.graph.specs.declared.circuit.Lit.{Lit}
 use Rattle.graph.specs.declared.circuit.Latch.{Latch}
 use Rattle.graph.specs.declared.circuit.Property.TheVariants.{Bad}
 use Rattle.graph.specs.declared.parts.Parts.{Parts}
-use Rattle.graph.specs.Valuation.{value_of, Agrees, state_of, inputs_of}
-use Rattle.graph.specs.Runs.{IsRun, IsReset, IsInitial, Steps, next_state}
-use Rattle.graph.specs.Justice.{at}
+use Rattle.graph.specs.Circuits.{value_of, Agrees, state_of, inputs_of, IsRun, IsReset, IsInitial, Steps, next_state, at}
 use Rattle.graph.specs.WellFormed.{IsWellFormed}
 use Rattle.graph.proofs.Evaluation.{inputs_even, latches_even}
 use Rattle.graph.proofs.Gates.{value_of-even}

@@ -3,8 +3,7 @@ use Rattle.std.specs.Prelude.{◌≡◌, ℕ, ◌+◌, ◌-◌, ◌≤◌, true,
 use Rattle.base.specs.Budget.{Steps}
 use Rattle.graph.specs.declared.circuit.Property.TheVariants.{Bad}
 use Rattle.graph.specs.declared.parts.Parts.{Parts}
-use Rattle.graph.specs.Valuation.{Valuation, value_of}
-use Rattle.graph.specs.Runs.{IsRun, KeepsConstraints}
+use Rattle.graph.specs.Circuits.{Valuation, value_of, IsRun, KeepsConstraints}
 use Rattle.stimulus.specs.declared.value.Stimulus.TheVariants as stimulus
 use Rattle.stimulus.specs.Shown.{ShowsBad, last_of}
 use Rattle.cnf.specs.Formulas.{bad_literal}

@@ -1,7 +1,7 @@
 -- The inputs that are read from a model, time by time.
 use Rattle.std.specs.Prelude.{◌≡◌, ℕ, ◌+◌, ◌<◌, Bool, List, [], length, slice_index_or}
 use Rattle.graph.specs.declared.parts.Parts.{Parts}
-use Rattle.graph.specs.Valuation.{place}
+use Rattle.graph.specs.Circuits.{place}
 use Rattle.solver.specs.Answers.{values}
 use Rattle.bmc.specs.declared.cone.Cone.{Cone}
 

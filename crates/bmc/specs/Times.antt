@@ -1,12 +1,10 @@
 -- The times of a circuit in a solver.
 use Rattle.std.specs.Prelude.{◌≡◌, ℕ, ◌+◌, ◌*◌, ◌<◌, ◌≤◌, Bool, List, [], ◌∷◌, length, All, ℤ, unsigned_abs}
 use Rattle.graph.specs.declared.parts.Parts.{Parts}
-use Rattle.lrat.specs.Literals.{IsLiteral}
+use Rattle.lrat.specs.Literals.{IsLiteral, is_true}
 use Rattle.bmc.specs.declared.cone.Cone.{Cone}
 use Rattle.bmc.specs.declared.unrolling.Unrolling.{Unrolling}
-use Rattle.graph.specs.Valuation.{Valuation, value_of}
-use Rattle.graph.specs.Justice.{at}
-use Rattle.lrat.specs.Literals.{is_true}
+use Rattle.graph.specs.Circuits.{Valuation, value_of, at}
 use Rattle.cnf.specs.Formulas.{bad_literal}
 use Rattle.cones.specs.Marks.{IsMarked}
 use Rattle.solver.specs.Answers.{IsModel}

@@ -3,9 +3,7 @@ use Rattle.std.specs.Prelude.{◌≡◌, ℕ, ◌+◌, ◌<◌, ◌≤◌, ◌%�
 use Rattle.graph.specs.declared.circuit.Lit.{Lit}
 use Rattle.graph.specs.declared.circuit.Latch.{Latch}
 use Rattle.graph.specs.declared.parts.Parts.{Parts}
-use Rattle.graph.specs.Valuation.{Valuation, variable, place}
-use Rattle.graph.specs.Runs.{IsRun, KeepsConstraints}
-use Rattle.graph.specs.Justice.{at}
+use Rattle.graph.specs.Circuits.{Valuation, variable, place, IsRun, KeepsConstraints, at}
 use Rattle.lrat.specs.Literals.{is_true, IsLiteral}
 use Rattle.cnf.specs.Meaning.{KeepsNow}
 use Rattle.cuts.specs.declared.cut.Cut.{Cut}

@@ -2,7 +2,7 @@
 
 ghost use Rattle.std.specs.Prelude.{◌≡◌, ◌+◌, ◌-◌, ◌<◌, ◌≤◌, ◌∷◌, [], ◌++◌, ◌^◌, length, map, slice_index, All, OnOk, IfErr, unsigned_abs};
 ghost use Rattle.lrat.specs.Literals.{IsLiteral};
-ghost use Rattle.graph.specs.Valuation.{variable};
+ghost use Rattle.graph.specs.Circuits.{variable};
 ghost use Rattle.cones.specs.Marks.{IsMarked};
 ghost use Rattle.cones.specs.Reach.{Grows, IsFrom};
 ghost use Rattle.bmc.specs.Encodings.{IsEncoding, OnFour, AreLeaves};

@@ -1,9 +1,8 @@
 -- Those that were added are among all.
-use Rattle.std.proofs.Common.{◌≤◌, List, [], ◌∷◌, length, arith}
+use Rattle.std.proofs.Common.{◌≤◌, List, [], ◌∷◌, length, arith, ℤ, ℕ, suc}
 use Rattle.cdcl_kernel.specs.Kept.{Kept, added, added_if}
 use Rattle.cdcl_kernel.specs.declared.origin.Origin.{Origin}
 use Rattle.cdcl_kernel.specs.declared.origin.Origin.TheVariants.{Added, Learned, Removed}
-use Rattle.std.proofs.Common.{ℤ, ℕ, suc}
 
 length-added_if : (o : Origin) (c : List ℤ) (cs : List (List ℤ)) (n : ℕ) → length cs ≤ n → length (added_if o c cs) ≤ suc n
 length-added_if Added c cs n h = omega arith

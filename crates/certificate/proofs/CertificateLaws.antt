@@ -13,7 +13,7 @@ use Rattle.scan.specs.Words.{any, IsField}
 use Rattle.scan.proofs.ListLaws.{Many, many_reads}
 use Rattle.scan.proofs.Toolbox.{Reads, spells_one, reads_as, reads_nothing, reads_then}
 use Rattle.scan.proofs.WordLaws.{field_reads}
-use Rattle.graph.specs.Properties.{property_text}
+use Rattle.graph.specs.Circuits.{property_text}
 use Rattle.graph.specs.declared.circuit.Lit.{Lit}
 use Rattle.graph.specs.declared.circuit.Property.{Property}
 use Rattle.lrat.specs.declared.line.Line.{Line}

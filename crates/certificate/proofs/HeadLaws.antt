@@ -12,7 +12,7 @@ use Rattle.scan.specs.Words.{any, IsField}
 use Rattle.scan.proofs.NumberLaws.{NoDigit}
 use Rattle.scan.proofs.Toolbox.{Reads, NeverBegins, reads_as, reads_same, reads_nothing, reads_then, reads_after, reads_choice, skips_byte, skips_tag}
 use Rattle.scan.proofs.WordLaws.{reads_number, field_reads}
-use Rattle.graph.specs.Properties.{position_of, property_text}
+use Rattle.graph.specs.Circuits.{position_of, property_text}
 use Rattle.graph.specs.declared.circuit.Lit.{Lit}
 use Rattle.graph.specs.declared.circuit.Property.{Property}
 use Rattle.graph.specs.declared.circuit.Property.TheVariants.{Bad, Justice, Output}

@@ -15,7 +15,7 @@ use Rattle.scan.proofs.WordLaws.{field_reads}
 use Rattle.graph.specs.declared.circuit.Lit.{Lit}
 use Rattle.graph.specs.declared.circuit.Property.{Property as AProperty}
 use Rattle.graph.specs.declared.circuit.Property.TheVariants.{Bad, Justice, Output}
-use Rattle.graph.specs.Properties.{position_of, property_text}
+use Rattle.graph.specs.Circuits.{position_of, property_text}
 use Rattle.pieces.specs.Pieces.{is_inner, piece_at, GoesOn}
 use Rattle.pieces.proofs.PieceLaws.{goes_nil, goes_one, goes_append, piece_whole}
 use Rattle.lrat.specs.Limits.{IsId, IsHint, IsLine}

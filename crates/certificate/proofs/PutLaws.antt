@@ -2,7 +2,7 @@
 use Rattle.std.proofs.Common.{◌≡◌, ℕ, List, ◌∷◌, [], ◌++◌, ◌+◌, length, take, drop, Option, Result, IsErr, refl, sym, subst, append_assoc}
 use Rattle.std.specs.Prelude.{codes, decimal, flat_map}
 use Rattle.base.specs.Devices.{PutsBeginning}
-use Rattle.graph.specs.Properties.{position_of, property_text}
+use Rattle.graph.specs.Circuits.{position_of, property_text}
 use Rattle.graph.specs.declared.circuit.Lit.{Lit}
 use Rattle.graph.specs.declared.circuit.Property.{Property}
 use Rattle.graph.specs.declared.circuit.Property.TheVariants.{Bad, Justice, Output}

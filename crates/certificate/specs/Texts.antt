@@ -3,7 +3,7 @@ use Rattle.std.specs.Prelude.{◌≡◌, ◌≢◌, ℕ, ◌+◌, ◌*◌, ◌<�
 use Rattle.base.specs.Devices.{PutsBeginning}
 use Rattle.base.specs.Witness.{witness}
 use Rattle.graph.specs.declared.circuit.Lit.{Lit}
-use Rattle.graph.specs.Properties.{position_of, property_text}
+use Rattle.graph.specs.Circuits.{position_of, property_text}
 use Rattle.lrat.specs.declared.line.Line.{Line}
 use Rattle.lrat.specs.Limits.{IsLine}
 use Rattle.lrat.specs.Texts.{proof_text}

@@ -3,7 +3,7 @@ use Rattle.std.specs.Prelude.{◌≡◌, ◌≢◌, ℕ, ◌+◌, ◌*◌, List,
 use Rattle.graph.specs.declared.circuit.Lit.{Lit}
 use Rattle.graph.specs.declared.circuit.Property.{Property}
 use Rattle.graph.specs.declared.circuit.Property.TheVariants.{Bad, Justice, Output}
-use Rattle.graph.specs.Properties.{property_text}
+use Rattle.graph.specs.Circuits.{property_text}
 use Rattle.certificate.specs.declared.certificate.Certificate.{Certificate}
 use Rattle.certificate.specs.declared.cert_write_error.CertWriteError.{CertWriteError}
 use Rattle.certificate.specs.declared.cert_write_error.CertWriteError.TheVariants.{Sections, Number, Device}

@@ -1,7 +1,7 @@
 //! Which certificates have a text.
 
 ghost use Rattle.std.specs.Prelude.{◌≡◌, ◌<◌, ◌≤◌, ◌↔◌, All, IsTrue, IfSome, OnOk, IfErr, length};
-ghost use Rattle.graph.specs.Properties.{position_of};
+ghost use Rattle.graph.specs.Circuits.{position_of};
 ghost use Rattle.lrat.specs.Limits.{IsLine};
 ghost use Rattle.certificate.specs.Texts.{IsCertificate};
 ghost use Rattle.certificate.specs.Writing.{SpelledByNone};

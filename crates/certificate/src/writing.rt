@@ -3,7 +3,7 @@
 ghost use Rattle.std.specs.Prelude.{◌≡◌, ◌≢◌, ◌+◌, ◌*◌, ◌-◌, ◌^◌, ◌<◌, ◌≤◌, ◌++◌, OnOk, IfErr, codes, decimal, flat_map, length};
 ghost use Rattle.std.specs.Io.KnownBytes.{Appends};
 ghost use Rattle.base.specs.Devices.{CountsFailure};
-ghost use Rattle.graph.specs.Properties.{property_text};
+ghost use Rattle.graph.specs.Circuits.{property_text};
 ghost use Rattle.lrat.specs.Texts.{Puts, proof_text};
 ghost use Rattle.certificate.specs.Texts.{IsUnwritten, SpellsCertificate, certificate_text, clause_line, first_line, lemma_text, section_text, sections_text};
 ghost use Rattle.certificate.specs.Writing.{head_text, letter_of, literal_text};

@@ -11,12 +11,10 @@ use Rattle.certificate.specs.Pieces.{IsOfPiece}
 use Rattle.certificate.specs.declared.certificate.Certificate.{Certificate as AnEarlier}
 use Rattle.certificate.specs.declared.head.Version.{Version}
 use Rattle.certificate.specs.declared.head.Version.TheVariants.{One, Two}
-use Rattle.certificate.specs.Reading.{greatest, property_at, clause_at}
-use Rattle.certificate.specs.Reading.{certificate_at as earlier_at, first_line_at as earlier_line_at}
+use Rattle.certificate.specs.Reading.{greatest, property_at, clause_at, certificate_at as earlier_at, first_line_at as earlier_line_at}
 use Rattle.certificate.specs.Streams.{parts_at}
 use Rattle.certificate.proofs.CertificateLaws.{certificate_reads as earlier_reads}
-use Rattle.certificate.proofs.HeadLaws.{line_of}
-use Rattle.certificate.proofs.HeadLaws.{first_line_reads as earlier_line_reads}
+use Rattle.certificate.proofs.HeadLaws.{line_of, first_line_reads as earlier_line_reads}
 use Rattle.certificate.proofs.LineLaws.{IsLineText, goes_all, of_piece}
 use Rattle.certificate.proofs.StreamLaws.{certificate_is}
 use Rattle.certificate3.specs.declared.first_line.Format.{Format}

@@ -6,7 +6,7 @@ use Rattle.scan.specs.Spelling.{Nothing, Then, After}
 use Rattle.scan.specs.Words.{any, IsField}
 use Rattle.scan.proofs.Toolbox.{Reads, NeverBegins, reads_as, reads_nothing, reads_then, reads_after, reads_choice, skips_byte, skips_tag}
 use Rattle.scan.proofs.WordLaws.{field_reads}
-use Rattle.graph.specs.Properties.{position_of}
+use Rattle.graph.specs.Circuits.{position_of}
 use Rattle.graph.specs.declared.circuit.Lit.{Lit}
 use Rattle.graph.specs.declared.circuit.Latch.{Latch}
 use Rattle.graph.specs.declared.circuit.Gate.{Gate}

@@ -4,7 +4,7 @@ use Rattle.base.specs.Budget.{Steps}
 use Rattle.graph.specs.declared.circuit.Lit.{Lit}
 use Rattle.graph.specs.declared.circuit.Property.{Property}
 use Rattle.graph.specs.declared.parts.Parts.{Parts}
-use Rattle.graph.specs.Properties.{position_of, HasProperty}
+use Rattle.graph.specs.Circuits.{position_of, HasProperty}
 use Rattle.checker.specs.Accepted.{IsGood, IsShowable, circuit_of}
 use Rattle.checker.specs.Causes.{IsFirstFault}
 use Rattle.checker.specs.declared.invariant.ClauseFault.{ClauseFault}

@@ -3,7 +3,7 @@
 ghost use Rattle.std.specs.Prelude.{◌≡◌, Contains, IfErr, IfOk};
 ghost use Rattle.base.specs.Budget.{Spends};
 ghost use Rattle.graph.specs.declared.circuit.Property.TheVariants.{Justice};
-ghost use Rattle.graph.specs.Properties.{HasProperty, position_of};
+ghost use Rattle.graph.specs.Circuits.{HasProperty, position_of};
 ghost use Rattle.graph.specs.WellFormed.{used};
 ghost use Rattle.cnf.specs.Invariants.{IsInductive};
 ghost use Rattle.checker.specs.Accepted.{circuit_of, bad_of};

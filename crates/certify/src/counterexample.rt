@@ -1,8 +1,7 @@
 //! Values that satisfy a case of clauses.
 
 ghost use Rattle.std.specs.Prelude.{◌≡◌, IfOk};
-ghost use Rattle.graph.specs.Runs.{next_state};
-ghost use Rattle.graph.specs.Valuation.{inputs_of, state_of, value_of};
+ghost use Rattle.graph.specs.Circuits.{next_state, inputs_of, state_of, value_of};
 
 use base::Refused;
 use graph::{Lit, Model, Seq};

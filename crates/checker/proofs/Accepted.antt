@@ -8,9 +8,7 @@ use Rattle.graph.specs.declared.circuit.Lit.{Lit}
 use Rattle.graph.specs.declared.circuit.Property.{Property}
 use Rattle.graph.specs.declared.circuit.Property.TheVariants.{Bad, Justice, Output}
 use Rattle.graph.specs.declared.parts.Parts.{Parts}
-use Rattle.graph.specs.Runs.{IsSafe}
-use Rattle.graph.specs.Valuation.{variable}
-use Rattle.graph.specs.Properties.{HasProperty, IsWatched}
+use Rattle.graph.specs.Circuits.{IsSafe, variable, HasProperty, IsWatched}
 use Rattle.graph.specs.WellFormed.{IsWellFormed}
 use Rattle.live_safe.specs.Shadow.{closing_literal, shadow_of}
 use Rattle.live_safe.proofs.Consequence.{bounded_if_safe}
@@ -36,7 +34,8 @@ use Rattle.checker.specs.declared.clause_error.ClauseError.{ClauseError}
 use Rattle.checker.specs.declared.clause_error.ClauseError.TheVariants as clauses
 use Rattle.checker.specs.declared.invariant.ClauseFault.{ClauseFault}
 use Rattle.checker.specs.declared.invariant.ClauseFault.TheVariants as fault
-use Rattle.checker.specs.Accepted.{Case, init_case, step_case, bad_case, cases, IsProofOf, IsShared, RefuteBelow, IsGood, IsAcceptedFor, IsShowable, circuit_of, bad_of, IsUpheld, IsAcceptedCertificate, AcceptedLaw}
+use Rattle.checker.specs.Accepted.{Case, init_case, step_case, bad_case, cases, IsProofOf, IsShared, RefuteBelow, IsGood, IsAcceptedFor, IsShowable, circuit_of, bad_of, IsAcceptedCertificate, AcceptedLaw}
+use Rattle.graph.specs.Circuits.{IsUpheld}
 use Rattle.checker.specs.Causes.{HasCause, HasCauseFor, IsOfCircuit, IsClausesFault, of_clauses, IsFirstFault, IsCaseAt, IsCaseFault, IsRefusedLemma, IsRefusedSection, IsSectionFault, lemma_sections, IsCounted, IsLatch, IsAmong}
 use Rattle.checker.proofs.InOrder.{case_init, case_step, case_bad}
 use Rattle.checker.proofs.RefusedCases.{refused_case_not}

@@ -1,15 +1,22 @@
 -- What the answers to a circuit and a certificate say.
-use Rattle.std.proofs.Common.{◌≡◌, ℕ, List, inl, inr, refl, sym, ◌∙◌, ap, subst}
+use Rattle.std.proofs.Common.{◌≡◌, ℕ, List, None, inl, inr, refl, sym, ◌∙◌, ap, subst}
+use Rattle.scan.proofs.Toolbox.{spells_one}
 use Rattle.graph.specs.declared.circuit.Property.{Property}
+use Rattle.graph.specs.declared.parts.Parts.{Parts}
 use Rattle.graph.specs.File.{File}
+use Rattle.graph.specs.WellFormed.{IsWellFormed}
+use Rattle.graph.specs.Circuits.{HasProperty, IsUpheld}
+use Rattle.aiger.specs.Layouts.{SpellsFile, SpellsModel}
 use Rattle.aiger.specs.Loading.{IsFileOf, SpellsNoFile}
-use Rattle.aiger.proofs.LayoutLaws.{one_file, well_formed}
-use Rattle.certificate.specs.declared.certificate.Certificate.{Certificate}
-use Rattle.certificate.proofs.CertificateLaws.{one_certificate}
+use Rattle.aiger.proofs.LayoutLaws.{begins_with, one_model, well_formed}
+use Rattle.extension.specs.Accepted.{AcceptedLaw as AcceptedThirdLaw}
+use Rattle.certificate3.specs.Formats.{Certified, SpellsCertified, earlier, third}
+use Rattle.certificate3.proofs.FormatLaws.{certified_reads}
+use Rattle.checker3.specs.Laws.{RefusedLaw}
 use Rattle.checker.specs.declared.stop.Stop.{Stop}
-use Rattle.checker.specs.Accepted.{IsAcceptedCertificate, IsUpheld}
+use Rattle.checker.specs.AnyVersion.{IsFoundOf, named_property}
 use Rattle.checker.specs.Stops.{IsStop}
-use Rattle.checker.specs.Verdicts.{Accepts, IsUpheldText, IsCertificateOf, IsRefusal, IsRefusalFor}
+use Rattle.checker.specs.Verdicts.{Accepts, IsUpheldText, IsNotAccepted, IsRefusal, IsRefusalFor}
 use Rattle.checker.proofs.Accepted.{accepted_law, cause_refuses}
 use Rattle.checker.proofs.Said.{stops_more}
 
@@ -20,35 +27,99 @@ first_stops xs ys s is = stops_more (SpellsNoFile xs) (IsRefusal xs ys) s (λ n 
 
 -- ---- what is accepted
 
-pub accepts : (xs ys : List ℕ) (f : File) (c : Certificate) → IsFileOf xs f → IsCertificateOf ys c → IsAcceptedCertificate f.model c → Accepts xs ys c.property
-accepts xs ys f c first second accepted = record {
+-- a text spells one certificate of any version
+pub one_certified : (ys : List ℕ) (c d : Certified) → SpellsCertified ys c → SpellsCertified ys d → c ≡ d
+one_certified ys c d one other = spells_one certified_reads ys c d one other
+
+pub accepts : (xs ys : List ℕ) (f : File) (c : Certified) → IsFileOf xs f → SpellsCertified ys c → IsFoundOf f.model c None → Accepts xs ys (named_property c)
+accepts xs ys f (earlier c) first spells accepted = inl (record {
   file = f;
   certificate = c;
   first = first.spells;
-  second = second.spells;
+  second = spells;
   accepted = accepted;
   property = refl;
+})
+accepts xs ys f (third c) first spells accepted = inr (record {
+  file = f;
+  certificate = c;
+  first = first.spells;
+  second = spells;
+  accepted = accepted;
+  property = refl;
+})
+
+-- the circuit, and the certificate of any version
+record IsAcceptedText (xs ys : List ℕ) (p : Property) : Type 0 where
+  file : File
+  certificate : Certified
+  first : SpellsFile xs file
+  second : SpellsCertified ys certificate
+  accepted : IsFoundOf file.model certificate None
+  property : named_property certificate ≡ p
+
+accepted_of : (xs ys : List ℕ) (p : Property) → Accepts xs ys p → IsAcceptedText xs ys p
+accepted_of xs ys p (inl a) = record {
+  file = a.file;
+  certificate = earlier a.certificate;
+  first = a.first;
+  second = a.second;
+  accepted = a.accepted;
+  property = a.property;
+}
+accepted_of xs ys p (inr a) = record {
+  file = a.file;
+  certificate = third a.certificate;
+  first = a.first;
+  second = a.second;
+  accepted = a.accepted;
+  property = a.property;
 }
 
--- it is safe, and there is no reason to refuse it
-pub accepted_safe : (xs ys : List ℕ) (p : Property) → Accepts xs ys p → IsUpheldText xs p
-accepted_safe xs ys p a f first =
-    subst (λ g. IsUpheld g.model p) (one_file xs a.file f a.first first)
-    (subst (IsUpheld a.file.model) a.property (accepted_law a.file.model a.certificate (well_formed xs a.file a.first) a.accepted))
+-- it is safe
+certified_upheld : AcceptedThirdLaw → (m : Parts) (c : Certified) → IsWellFormed m → IsFoundOf m c None → IsUpheld m (named_property c)
+certified_upheld law m (earlier c) well accepted = accepted_law m c well accepted
+certified_upheld law m (third c) well accepted = law m c.claim.property c.claim.rounds c.evidence well accepted
 
-pub refusal_not : (xs ys : List ℕ) (p : Property) → Accepts xs ys p → (n : ℕ) → IsRefusal xs ys n → ⊥
-refusal_not xs ys p a n (inl no_circuit) = no_circuit.none a.file a.first
-refusal_not xs ys p a n (inr (inl (f, first, no_certificate))) = no_certificate.none a.certificate a.second
-refusal_not xs ys p a n (inr (inr (f, c, first, second, not))) =
-    let one : IsAcceptedCertificate f.model a.certificate = subst (λ g. IsAcceptedCertificate g.model a.certificate) (first.only a.file a.first) a.accepted in
-    cause_refuses f.model c not.error not.cause not.other (subst (IsAcceptedCertificate f.model) (second.only a.certificate a.second) one)
+-- its circuit has the property
+certified_exists : (m : Parts) (c : Certified) → IsFoundOf m c None → HasProperty m (named_property c)
+certified_exists m (earlier c) accepted = accepted.showable.exists
+certified_exists m (third c) accepted = accepted.showable.exists
+
+pub accepted_safe : AcceptedThirdLaw → (xs ys : List ℕ) (p : Property) → Accepts xs ys p → IsUpheldText xs p
+accepted_safe law xs ys p it =
+    let a = accepted_of xs ys p it in
+    let begins : SpellsModel xs a.file.model = begins_with xs a.file a.first in
+    record {
+      circuit = a.file.model;
+      begins = begins;
+      only = λ m s. one_model xs m a.file.model s begins;
+      exists = subst (HasProperty a.file.model) a.property (certified_exists a.file.model a.certificate a.accepted);
+      upheld = subst (IsUpheld a.file.model) a.property (certified_upheld law a.file.model a.certificate (well_formed xs a.file a.first) a.accepted);
+    }
+
+-- there is no reason to refuse it
+not_accepted : RefusedLaw → (f : File) (c : Certified) (n : ℕ) → IsNotAccepted f c n → IsFoundOf f.model c None → ⊥
+not_accepted law f (earlier c) n not accepted = cause_refuses f.model c not.error not.cause not.other accepted
+not_accepted law f (third c) n not accepted = law f.model c not.refusal not.cause accepted
+
+pub refusal_not : RefusedLaw → (xs ys : List ℕ) (p : Property) → Accepts xs ys p → (n : ℕ) → IsRefusal xs ys n → ⊥
+refusal_not law xs ys p it n (inl no_circuit) = let a = accepted_of xs ys p it in no_circuit.none a.file a.first
+refusal_not law xs ys p it n (inr (inl (f, first, no_certificate))) = let a = accepted_of xs ys p it in no_certificate.none a.certificate a.second
+refusal_not law xs ys p it n (inr (inr (f, c, first, second, not))) =
+    let a = accepted_of xs ys p it in
+    let one : IsFoundOf f.model a.certificate None = subst (λ g. IsFoundOf g.model a.certificate None) (first.only a.file a.first) a.accepted in
+    not_accepted law f c n not (subst (λ d. IsFoundOf f.model d None) (second.only a.certificate a.second) one)
 
 -- ---- of one property alone
 
 -- all that is accepted of a text is of one property
 one_property : (xs ys : List ℕ) (p q : Property) → Accepts xs ys p → Accepts xs ys q → p ≡ q
-one_property xs ys p q a b = sym a.property ∙ ap (λ (c : Certificate). c.property) (one_certificate ys a.certificate b.certificate a.second b.second) ∙ b.property
+one_property xs ys p q first second =
+    let a = accepted_of xs ys p first in
+    let b = accepted_of xs ys q second in
+    sym a.property ∙ ap named_property (one_certified ys a.certificate b.certificate a.second b.second) ∙ b.property
 
-pub for_not : (xs ys : List ℕ) (p : Property) → Accepts xs ys p → (n : ℕ) → IsRefusalFor p xs ys n → ⊥
-for_not xs ys p a n (inl refusal) = refusal_not xs ys p a n refusal
-for_not xs ys p a n (inr (q, of, ne, is)) = ne (one_property xs ys q p of a)
+pub for_not : RefusedLaw → (xs ys : List ℕ) (p : Property) → Accepts xs ys p → (n : ℕ) → IsRefusalFor p xs ys n → ⊥
+for_not law xs ys p a n (inl refusal) = refusal_not law xs ys p a n refusal
+for_not law xs ys p a n (inr (q, of, ne, is)) = ne (one_property xs ys q p of a)

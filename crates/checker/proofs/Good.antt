@@ -11,7 +11,7 @@ use Rattle.std.specs.Cmp.{nat_eq_equiv}
 use Rattle.graph.specs.declared.circuit.Lit.{Lit}
 use Rattle.graph.specs.declared.circuit.Latch.{Latch}
 use Rattle.graph.specs.declared.parts.Parts.{Parts}
-use Rattle.graph.specs.Valuation.{variable}
+use Rattle.graph.specs.Circuits.{variable}
 use Rattle.graph.specs.WellFormed.{IsWellFormed}
 use Rattle.cnf.specs.Formulas.{IsInvariant}
 use Rattle.cnf.specs.Tables.{IsTableOf, is_latch_in}

@@ -10,6 +10,7 @@ pub mod Said
 pub mod CertificateLaws
 pub mod Found
 pub mod TextFound
+pub mod AnyText
 pub mod SourceLaws
 pub mod StimulusLaws
 pub mod ReaderLaws

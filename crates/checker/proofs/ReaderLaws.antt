@@ -1,7 +1,7 @@
 -- What is said of whatever two readers gave is said of the bytes that they gave.
 use Rattle.std.proofs.Common.{◌≡◌, ℕ, Bool, List, ◌++◌, Option, Result, Ok, Err, IfOk, IsTrue, sym, subst, ◌∙◌, ap, append-nil}
-use Rattle.base.specs.Devices.{IsAtEnd, Reads}
-use Rattle.base.specs.Left.{IsLeft, some_left}
+use Rattle.base.specs.Devices.{IsAtEnd, Reads, IsLeft}
+use Rattle.base.specs.Left.{some_left}
 use Rattle.graph.specs.declared.circuit.Property.{Property}
 use Rattle.checker.specs.declared.run_error.RunError.{RunError}
 

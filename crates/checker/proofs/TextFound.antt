@@ -1,7 +1,8 @@
--- What is found of a certificate's text, of its property, and behind its end.
+-- What is found of a certificate's text of version 1 or 2, and of its property.
 use Rattle.base.specs.Witness.{witness}
-use Rattle.std.proofs.Common.{◌≡◌, ◌≢◌, ℕ, ◌<◌, List, [], ◌++◌, length, Option, None, Some, Result, Ok, Err, refl, sym, ◌∙◌, ap, subst, inl}
+use Rattle.std.proofs.Common.{◌≡◌, ◌≢◌, ℕ, ◌<◌, List, ◌++◌, length, Option, None, Some, Result, Ok, Err, refl, sym, ◌∙◌, ap, subst, inl}
 use Rattle.std.proofs.lemmas.Option.{none-some, same_Some}
+use Rattle.base.specs.Devices.{Leaves, Reads}
 use Rattle.scan.specs.Reading.{◌>>=◌, Read}
 use Rattle.scan.specs.Words.{any, field_at}
 use Rattle.scan.specs.Lists.{many_at}
@@ -9,16 +10,16 @@ use Rattle.graph.specs.declared.circuit.Lit.{Lit}
 use Rattle.graph.specs.declared.circuit.Property.{Property as AProperty}
 use Rattle.graph.specs.declared.circuit.Property.TheVariants.{Justice}
 use Rattle.graph.specs.declared.parts.Parts.{Parts}
-use Rattle.graph.specs.Properties.{position_of, HasProperty}
+use Rattle.graph.specs.Circuits.{position_of, HasProperty}
 use Rattle.lrat.specs.declared.line.Line.{Line as ALine}
 use Rattle.live_safe.specs.Shadow.{shadow_of}
 use Rattle.certificate.specs.declared.certificate.Certificate.{Certificate}
 use Rattle.certificate.specs.declared.head.Version.{Version}
 use Rattle.certificate.specs.declared.reader_error.ReaderError.{ReaderError}
-use Rattle.certificate.specs.Reading.{certificate_at, clause_at, first_line_at, greatest, lemmas_at, property_at, sections_at}
-use Rattle.certificate.specs.Streams.{Finds, FindsWith, ForText, end_at, parts_at}
-use Rattle.certificate.specs.Texts.{SpellsCertificate}
-use Rattle.certificate.proofs.StreamLaws.{at_end, certificate_is, for_text_map, not_at_end, text_more, text_none, text_spelled, then_finds, then_none}
+use Rattle.certificate.specs.Reading.{clause_at, greatest, lemmas_at, sections_at}
+use Rattle.certificate.specs.Streams.{FindsWith, parts_at}
+use Rattle.certificate3.proofs.ChainLaws.{reads_to}
+use Rattle.checker.specs.declared.certificate_text.Outcome.{Outcome}
 use Rattle.checker.specs.declared.check_error.CheckError.{CheckError}
 use Rattle.checker.specs.declared.check_error.CheckError.TheVariants.{Limit, NoProperty, OutOfMemory}
 use Rattle.checker.specs.Accepted.{IsShowable, bad_of, circuit_of}
@@ -80,70 +81,14 @@ then_clauses v p n bytes = many_at clause_at n bytes >>= λ invariant. parts_at 
 abbrev pub then_count : Version → AProperty → List ℕ → Read Certificate
 then_count v p bytes = field_at greatest any 10 bytes >>= λ n. then_clauses v p n.0 n.1
 
-abbrev pub then_property : Version → List ℕ → Read Certificate
-then_property v bytes = property_at bytes >>= λ p. then_count v p.0 p.1
-
-text_is : (bytes : List ℕ) → (first_line_at bytes >>= λ v. then_property v.0 v.1) ≡ certificate_at bytes
-text_is bytes = sym (certificate_is bytes)
-
--- one of them is refused
-pub version_stops : (bytes : List ℕ) (e : ReaderError) → ForText e (first_line_at bytes ≡ None) → ForText e (certificate_at bytes ≡ None)
-version_stops bytes e f = subst (λ o. ForText e (o ≡ None)) (text_is bytes) (then_none (first_line_at bytes) then_property e f)
-
-pub property_stops : (v : Version) (bytes : List ℕ) (e : ReaderError) → ForText e (property_at bytes ≡ None) → ForText e (then_property v bytes ≡ None)
-property_stops v bytes e f = then_none (property_at bytes) (then_count v) e f
-
-pub count_stops : (v : Version) (p : AProperty) (bytes : List ℕ) (e : ReaderError) → ForText e (field_at greatest any 10 bytes ≡ None) → ForText e (then_count v p bytes ≡ None)
-count_stops v p bytes e f = then_none (field_at greatest any 10 bytes) (then_clauses v p) e f
-
-pub clauses_stop : (v : Version) (p : AProperty) (n : ℕ) (bytes : List ℕ) (e : ReaderError) → ForText e (many_at clause_at n bytes ≡ None) → ForText e (then_clauses v p n bytes ≡ None)
-clauses_stop v p n bytes e f = then_none (many_at clause_at n bytes) (parts_at v p n) e f
-
--- they were read, and what is behind them decides
-pub behind_version : {X : Type 0} (P : Certificate → X → Type 0) (v : Version) (bytes held later zs ws : List ℕ) (r : Result X ReaderError) → Finds (first_line_at bytes) (Ok v) held zs
-    → FindsWith P (then_property v (held ++ zs)) r later ws → FindsWith P (certificate_at bytes) r later ws
-behind_version P v bytes held later zs ws r first next = subst (λ o. FindsWith P o r later ws) (text_is bytes) (then_finds P (first_line_at bytes) then_property v held later zs ws r first next)
-
-pub behind_property : {X : Type 0} (P : Certificate → X → Type 0) (v : Version) (p : AProperty) (bytes held later zs ws : List ℕ) (r : Result X ReaderError) → Finds (property_at bytes) (Ok p) held zs
-    → FindsWith P (then_count v p (held ++ zs)) r later ws → FindsWith P (then_property v bytes) r later ws
-behind_property P v p bytes held later zs ws r first next = then_finds P (property_at bytes) (then_count v) p held later zs ws r first next
-
-pub behind_count : {X : Type 0} (P : Certificate → X → Type 0) (v : Version) (p : AProperty) (n : ℕ) (bytes held later zs ws : List ℕ) (r : Result X ReaderError) → Finds (field_at greatest any 10 bytes) (Ok n) held zs
-    → FindsWith P (then_clauses v p n (held ++ zs)) r later ws → FindsWith P (then_count v p bytes) r later ws
-behind_count P v p n bytes held later zs ws r first next = then_finds P (field_at greatest any 10 bytes) (then_clauses v p) n held later zs ws r first next
-
-pub behind_clauses : {X : Type 0} (P : Certificate → X → Type 0) (v : Version) (p : AProperty) (n : ℕ) (inv : List (List Lit)) (bytes held later zs ws : List ℕ) (r : Result X ReaderError) → length inv ≡ n
-    → Finds (many_at clause_at n bytes) (Ok inv) held zs → FindsWith P (parts_at v p (length inv) inv (held ++ zs)) r later ws → FindsWith P (then_clauses v p n bytes) r later ws
-behind_clauses P v p n inv bytes held later zs ws r many first next =
-    then_finds P (many_at clause_at n bytes) (parts_at v p n) inv held later zs ws r first (subst (λ k. FindsWith P (parts_at v p k inv (held ++ zs)) r later ws) many next)
+-- the parts behind so many clauses
+pub parts_of : {X : Type 0} (P : Certificate → X → Type 0) (v : Version) (p : AProperty) (n : ℕ) (inv : List (List Lit)) (r : Result X ReaderError) (before after : Leaves) (held later : List ℕ) → length inv ≡ n
+    → Reads before after (λ ys zs. FindsWith P (parts_at v p (length inv) inv (held ++ ys)) r later zs) → Reads before after (λ ys zs. FindsWith P (parts_at v p n inv (held ++ ys)) r later zs)
+parts_of P v p n inv r before after held later many found = subst (λ k. Reads before after (λ ys zs. FindsWith P (parts_at v p k inv (held ++ ys)) r later zs)) many found
 
 -- the property is reported with what is found
-abbrev pub IsOutcome : Parts → AProperty → Certificate → Option ℕ → Type 0
-IsOutcome m p c found = (p ≡ c.property) × IsFound m c found
-
-pub outcome_found : {X : Type 0} (P : Certificate → X → Type 0) (m : Parts) (v : Version) (p : AProperty) (n : ℕ) (inv : List (List Lit)) (bytes held later : List ℕ) (found : Option ℕ) (x : X) → ((c : Certificate) → IsOutcome m p c found → P c x)
-    → FindsWith (IsFound m) (parts_at v p n inv bytes) (Ok found) held later → FindsWith P (parts_at v p n inv bytes) (Ok x) held later
-outcome_found P m v p n inv bytes held later found x h (c, is, judged) = (c, is, h c (sym (parts_property v p n inv bytes c (held ++ later) is), judged))
-
--- ---- the whole text
-
--- it is refused before its end
-pub text_refused : (held ys : List ℕ) (e : ReaderError) → held ≡ [] → ForText e (certificate_at (held ++ ys) ≡ None) → ForText e ((c : Certificate) → SpellsCertificate ys c → ⊥)
-text_refused held ys e nothing f =
-    for_text_map e (certificate_at ys ≡ None) ((c : Certificate) → SpellsCertificate ys c → ⊥) (λ none c. text_none ys c none)
-    (subst (λ (h : List ℕ). ForText e (certificate_at (h ++ ys) ≡ None)) nothing f)
-
--- it goes on behind a certificate
-pub text_goes_on : {X : Type 0} (P : Certificate → X → Type 0) (held later ys zs : List ℕ) (x : X) (e : ReaderError) → held ≡ [] → FindsWith P (certificate_at (held ++ ys)) (Ok x) later zs
-    → ForText e (end_at (later ++ zs) ≡ None) → ForText e ((c : Certificate) → SpellsCertificate ys c → ⊥)
-text_goes_on P held later ys zs x e nothing (c, is, p) next =
-    let read : certificate_at ys ≡ Some (c, later ++ zs) = subst (λ (h : List ℕ). certificate_at (h ++ ys) ≡ Some (c, later ++ zs)) nothing is in
-    for_text_map e (end_at (later ++ zs) ≡ None) ((d : Certificate) → SpellsCertificate ys d → ⊥)
-    (λ more d. text_more ys (later ++ zs) c d read (not_at_end (later ++ zs) more)) next
-
--- it is a certificate
-pub text_whole : {X : Type 0} (P : Certificate → X → Type 0) (held later last ys zs ws : List ℕ) (x : X) → held ≡ [] → FindsWith P (certificate_at (held ++ ys)) (Ok x) later zs
-    → Finds (end_at (later ++ zs)) (Ok (tt {0})) last ws → (c : Certificate) × SpellsCertificate ys c × P c x
-text_whole P held later last ys zs ws x nothing (c, is, p) ended =
-    let read : certificate_at ys ≡ Some (c, later ++ zs) = subst (λ (h : List ℕ). certificate_at (h ++ ys) ≡ Some (c, later ++ zs)) nothing is in
-    (c, text_spelled ys (later ++ zs) c read (at_end (later ++ zs) (last ++ ws) tt ended), p)
+pub outcome_told : (m : Parts) (v : Version) (p : AProperty) (n : ℕ) (inv : List (List Lit)) (found : Option ℕ) (before after : Leaves) (held later : List ℕ) → Reads before after (λ ys zs. FindsWith (IsFound m) (parts_at v p n inv (held ++ ys)) (Ok found) later zs)
+    → Reads before after (λ ys zs. FindsWith (λ (c : Certificate) (told : Outcome). (told.property ≡ c.property) × IsFound m c told.refusal) (parts_at v p n inv (held ++ ys)) (Ok (record { property = p; refusal = found })) later zs)
+outcome_told m v p n inv found before after held later parts =
+    reads_to (IsFound m) (λ (c : Certificate) (told : Outcome). (told.property ≡ c.property) × IsFound m c told.refusal) (parts_at v p n inv) found (record { property = p; refusal = found }) before after held later
+    (λ bytes rest c is judged. (sym (parts_property v p n inv bytes c rest is), judged)) parts

@@ -4,10 +4,7 @@ use Rattle.graph.specs.declared.circuit.Lit.{Lit}
 use Rattle.graph.specs.declared.circuit.Property.{Property}
 use Rattle.graph.specs.declared.circuit.Property.TheVariants.{Bad, Justice, Output}
 use Rattle.graph.specs.declared.parts.Parts.{Parts}
-use Rattle.graph.specs.Justice.{IsBounded}
-use Rattle.graph.specs.Properties.{HasProperty}
-use Rattle.graph.specs.Runs.{IsSafe}
-use Rattle.graph.specs.Valuation.{variable}
+use Rattle.graph.specs.Circuits.{HasProperty, variable, IsUpheld}
 use Rattle.graph.specs.WellFormed.{IsWellFormed}
 use Rattle.lrat.specs.declared.line.Line.{Line}
 use Rattle.lrat.specs.Lemmas.{Extends, base_at}
@@ -91,12 +88,6 @@ pub record IsShowable (m : Parts) (p : Property) : Type 0 where
 pub record IsAcceptedCertificate (m : Parts) (c : Certificate) : Type 0 where
   pub showable : IsShowable m c.property
   pub accepted : IsAcceptedFor (circuit_of m c.property) (bad_of m c.property) c
-
--- what a property's certificate shows: no run that keeps the constraints sets the literal that the property watches, or
--- holds more rounds of justice than there are states
-abbrev pub IsUpheld : Parts → Property → Type 0
-IsUpheld m (Justice n) = IsBounded m n
-IsUpheld m safety = IsSafe m safety
 
 -- it is so where a certificate is accepted
 abbrev pub AcceptedLaw : Type 0

@@ -1,4 +1,5 @@
 pub mod Accepted
+pub mod AnyVersion
 pub mod Causes
 pub mod Lines
 pub mod Numbers

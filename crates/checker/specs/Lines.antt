@@ -3,7 +3,7 @@ use Rattle.std.specs.Prelude.{◌≡◌, ℕ, Bool, true, false, List, ◌++◌,
 use Rattle.std.specs.Io.KnownBytes.{Appends}
 use Rattle.base.specs.Devices.{PutsBeginning}
 use Rattle.graph.specs.declared.circuit.Property.{Property}
-use Rattle.graph.specs.Properties.{property_text}
+use Rattle.graph.specs.Circuits.{property_text}
 use Rattle.checker.specs.declared.line.Question.{Question}
 use Rattle.checker.specs.declared.line.Question.TheVariants.{Safe, Run}
 use Rattle.checker.specs.declared.stop.Stop.{Stop}

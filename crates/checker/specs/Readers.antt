@@ -1,10 +1,9 @@
 -- What is said of two readers of std, of one property where it is wanted, or of the one that the evidence names.
-use Rattle.std.specs.Prelude.{◌≡◌, ◌++◌, ℕ, List, Option, None, Some, IfSome}
-use Rattle.base.specs.Devices.{IsAtEnd, Reader, Reads}
-use Rattle.base.specs.Left.{IsLeft}
+use Rattle.std.specs.Prelude.{ℕ, List, Option, None, Some}
+use Rattle.base.specs.Devices.{IsAtEnd, Reader, Reads, IsLeft}
 use Rattle.graph.specs.declared.circuit.Property.{Property}
-use Rattle.checker.specs.Replayed.{BeginsRunLine, BeginsRunLineFor, Confirms, IsRunRefusal, IsRunRefusalFor}
-use Rattle.checker.specs.Verdicts.{Accepts, BeginsLine, BeginsLineFor, IsRefusal, IsRefusalFor}
+use Rattle.checker.specs.Replayed.{BeginsRunLine, BeginsRunLineFor, IsRunRefusal, IsRunRefusalFor}
+use Rattle.checker.specs.Verdicts.{BeginsLine, BeginsLineFor, IsRefusal, IsRefusalFor}
 
 -- the fact is true of what the reader gave in this call, followed by whatever may still come
 abbrev pub Gives : {R : Type 0} → Reader R → Reader R → (R → Option (List ℕ)) → (List ℕ → Type 0) → Type 0

@@ -3,9 +3,9 @@
 ghost use Rattle.std.specs.Prelude.{◌≡◌, ◌≢◌, Contains, IfErr, OnOk};
 ghost use Rattle.base.specs.Witness.{witness};
 ghost use Rattle.graph.specs.declared.circuit.Property.TheVariants.{Justice};
-ghost use Rattle.graph.specs.Properties.{position_of};
+ghost use Rattle.graph.specs.Circuits.{position_of, IsUpheld};
 ghost use Rattle.graph.specs.WellFormed.{used};
-ghost use Rattle.checker.specs.Accepted.{IsAcceptedFor, IsAcceptedCertificate, IsUpheld};
+ghost use Rattle.checker.specs.Accepted.{IsAcceptedFor, IsAcceptedCertificate};
 ghost use Rattle.checker.specs.Causes.{HasCause, HasCauseFor};
 ghost use Rattle.checker.specs.declared.check_error.CheckError.TheVariants.{OutOfMemory};
 

@@ -11,14 +11,15 @@ ghost use Rattle.graph.specs.declared.parts.Parts.{Parts as AParts};
 ghost use Rattle.lrat.specs.Courses.{at_formula};
 ghost use Rattle.cnf.specs.Formulas.{IsInvariant, shared_formula, start_formula};
 ghost use Rattle.cnf.specs.Tables.{IsTableOf};
-ghost use Rattle.certificate.specs.Reading.{certificate_at, lemmas_at, sections_at};
+ghost use Rattle.certificate.specs.Reading.{lemmas_at, sections_at};
 ghost use Rattle.certificate.specs.Streams.{FindsWith, ForText, parts_at};
-ghost use Rattle.certificate.specs.Texts.{SpellsCertificate};
 ghost use Rattle.certificate.specs.declared.certificate.Certificate.{Certificate as ACertificate};
 ghost use Rattle.certificate.specs.declared.reader_error.ReaderError.TheVariants.{Device};
+ghost use Rattle.certificate3.specs.Formats.{Certified, SpellsCertified, behind_at, certified_at};
 ghost use Rattle.checker.specs.Accepted.{IsGood};
 ghost use Rattle.checker.specs.Causes.{HasCauseFor, IsCounted};
 ghost use Rattle.checker.specs.Numbers.{number_of};
+ghost use Rattle.checker.specs.AnyVersion.{IsFoundOf, IsFoundThird, behind_version_at, named_property};
 ghost use Rattle.checker.specs.Streamed.{AreTaken, HasSections, IsFound, IsFoundFor};
 ghost use Rattle.checker.specs.declared.check_error.CheckError.TheVariants.{OutOfMemory};
 
@@ -32,6 +33,8 @@ use base::{Lists, Refused};
 use certificate::{
     Reader, ReaderError, SectionKind, Version, read_clauses, skip_section, skip_sections,
 };
+use certificate3::{AnyFirstLine, Format};
+use checker3::check_behind;
 use cnf::{NextTable, shared_row};
 use graph::{Lit, Model, Property, Source};
 use live_safe::{LiveError, to_safety};
@@ -329,19 +332,20 @@ pub struct Outcome {
     pub refusal: Option<u8>,
 }
 
-/// Reads a certificate, and checks it while it is read.
-fn check_text<S: Source>(
+/// Reads what is behind the first line of a certificate of version 1 or 2, and checks it while it is
+/// read.
+fn check_earlier<S: Source>(
     alloc: Global,
     circuit: &Model,
+    version: Version,
     reader: &mut Reader,
     from: &mut S,
 ) -> Result<Outcome, ReaderError>
     requires source { S.failed from.old < 2 ^ 64 - 1 }
-    ensures says { Reads (S.leaves from.old) (S.leaves from.new) (λ ys zs. FindsWith (λ c found. (found.property ≡ c.property) × IsFound circuit.now c found.refusal) (certificate_at (reader.old.held ++ ys)) result reader.new.held zs) }
+    ensures says { Reads (S.leaves from.old) (S.leaves from.new) (λ ys zs. FindsWith (λ c found. (found.property ≡ c.property) × IsFound circuit.now c found.refusal) (behind_version_at version (reader.old.held ++ ys)) result reader.new.held zs) }
     ensures device { IsErrOf result Device ↔ (S.failed from.new ≡ S.failed from.old + 1) }
     ensures others { (IsErrOf result Device → ⊥) → S.failed from.new ≡ S.failed from.old }
 {
-    let version = reader.version(alloc, from)?;
     let property = reader.property(alloc, from)?;
     let count = reader.count(alloc, from)?;
     let invariant = read_clauses(alloc, count, reader, from)?;
@@ -349,17 +353,63 @@ fn check_text<S: Source>(
     Ok(Outcome { property, refusal })
 }
 
-/// Reads the certificate that the source's bytes spell, and checks it while it is read. It holds the
-/// clauses of the invariant, those that the cases share, those of one section, and one line; a fault
-/// of the text, anywhere in it, goes before every fault of the check. After a fault of the text
-/// nothing more is taken.
+/// As `check_earlier`, of a certificate of version 3.
+fn check_third<S: Source>(
+    alloc: Global,
+    circuit: &Model,
+    reader: &mut Reader,
+    from: &mut S,
+) -> Result<Outcome, ReaderError>
+    requires source { S.failed from.old < 2 ^ 64 - 1 }
+    ensures says { Reads (S.leaves from.old) (S.leaves from.new) (λ ys zs. FindsWith (λ c found. (found.property ≡ c.claim.property) × IsFoundThird circuit.now c found.refusal) (behind_at (reader.old.held ++ ys)) result reader.new.held zs) }
+    ensures device { IsErrOf result Device ↔ (S.failed from.new ≡ S.failed from.old + 1) }
+    ensures others { (IsErrOf result Device → ⊥) → S.failed from.new ≡ S.failed from.old }
+{
+    let found = check_behind(alloc, circuit, reader, from)?;
+    let property = found.claim.property;
+    match found.refusal {
+        None => Ok(Outcome {
+            property,
+            refusal: None,
+        }),
+        Some(refusal) => Ok(Outcome {
+            property,
+            refusal: Some(refusal.number()),
+        }),
+    }
+}
+
+/// Reads a certificate of any version, and checks it while it is read.
+fn check_text<S: Source>(
+    alloc: Global,
+    circuit: &Model,
+    reader: &mut Reader,
+    from: &mut S,
+) -> Result<Outcome, ReaderError>
+    requires source { S.failed from.old < 2 ^ 64 - 1 }
+    ensures says { Reads (S.leaves from.old) (S.leaves from.new) (λ ys zs. FindsWith (λ c found. (found.property ≡ named_property c) × IsFoundOf circuit.now c found.refusal) (certified_at (reader.old.held ++ ys)) result reader.new.held zs) }
+    ensures device { IsErrOf result Device ↔ (S.failed from.new ≡ S.failed from.old + 1) }
+    ensures others { (IsErrOf result Device → ⊥) → S.failed from.new ≡ S.failed from.old }
+{
+    let format = reader.line::<AnyFirstLine, S>(alloc, (), from)?;
+    match format {
+        Format::Earlier(version) => check_earlier(alloc, circuit, version, reader, from),
+        Format::Three => check_third(alloc, circuit, reader, from),
+    }
+}
+
+/// Reads the certificate, of any version, that the source's bytes spell, and checks it while it is
+/// read. It holds the clauses of the invariant, those of one section, and one line; of version 1 or 2
+/// those that the cases share too, and of version 3 the extended circuit. A fault of the text,
+/// anywhere in it, goes before every fault of the check. After a fault of the text nothing more is
+/// taken.
 pub fn check_source<S: Source>(
     alloc: Global,
     circuit: &Model,
     from: &mut S,
 ) -> Result<Outcome, ReaderError>
     requires source { S.failed from.old < 2 ^ 64 - 1 }
-    ensures says { Reads (S.leaves from.old) (S.leaves from.new) (λ ys zs. MatchResult result (λ found. (c : ACertificate) × SpellsCertificate ys c × (found.property ≡ c.property) × IsFound circuit.now c found.refusal) (λ e. ForText e ((c : ACertificate) → SpellsCertificate ys c → ⊥))) }
+    ensures says { Reads (S.leaves from.old) (S.leaves from.new) (λ ys zs. MatchResult result (λ found. (c : Certified) × SpellsCertified ys c × (found.property ≡ named_property c) × IsFoundOf circuit.now c found.refusal) (λ e. ForText e ((c : Certified) → SpellsCertified ys c → ⊥))) }
     ensures ended { IfOk result (λ _. IsAtEnd (S.leaves from.new)) }
     ensures device { IsErrOf result Device ↔ (S.failed from.new ≡ S.failed from.old + 1) }
     ensures others { (IsErrOf result Device → ⊥) → S.failed from.new ≡ S.failed from.old }

@@ -20,6 +20,8 @@ use crate::line::{Question, tell};
 use crate::run_error::RunError;
 use crate::stop::Stop;
 use aiger::load;
+use checker3::refused_law;
+use extension::accepted_law;
 use graph::{AigerFile, Property, Sink, Source};
 use std::alloc::Global;
 
@@ -60,9 +62,9 @@ fn safe_property<M: Source, C: Source>(
     safe_property_of(alloc, &file, certificate)
 }
 
-/// Says whether the certificate that the second source's bytes spell is accepted for the circuit
-/// that the first's spell (AIGER 1.9, binary where the second byte is `i`, else ASCII): it puts
-/// `yes safe P` with the property that the certificate names, or `no NUMBER`, and a line end.
+/// Says whether the certificate, of any version, that the second source's bytes spell is accepted for
+/// the circuit that the first's spell (AIGER 1.9, binary where the second byte is `i`, else ASCII): it
+/// puts `yes safe P` with the property that the certificate names, or `no NUMBER`, and a line end.
 ///
 /// A yes means that no run of the circuit that keeps the constraints sets that bad literal, or the
 /// output that is taken as one, at any time or, for a justice property, holds more rounds of it than
@@ -71,8 +73,9 @@ fn safe_property<M: Source, C: Source>(
 /// source fails, nothing is put.
 ///
 /// The certificate is checked while it is read. It takes no memory beyond the file, the clauses of
-/// the invariant, those that the cases share, lemmas too, those of one section, and one line of the
-/// certificate. While the first text is read, its bytes are held too.
+/// the invariant, those that the cases share, lemmas too, those of one section, one line of the
+/// certificate, and in version 3 the extended circuit. While the first text is read, its bytes are
+/// held too.
 pub fn run_safe<M: Source, C: Source, W: Sink>(
     alloc: Global,
     circuit: &mut M,
@@ -99,6 +102,8 @@ pub fn run_safe<M: Source, C: Source, W: Sink>(
     // After a failure of the sink a beginning of the line was put.
     ensures beginning { Reads (M.leaves circuit.old) (M.leaves circuit.new) (λ xs _. Reads (C.leaves certificate.old) (C.leaves certificate.new) (λ ys _. OnErr result (W.failed out.new ≡ W.failed out.old + 1 → BeginsLine xs ys (W.contents out.old) (W.contents out.new)))) }
 {
+    accepted_law();
+    refused_law();
     let answer = safe_property(alloc, circuit, certificate);
     tell(alloc, Question::Safe, answer, out)
 }
@@ -131,6 +136,8 @@ pub fn run_safe_for<M: Source, C: Source, W: Sink>(
     // After a failure of the sink a beginning of the line was put.
     ensures beginning { Reads (M.leaves circuit.old) (M.leaves circuit.new) (λ xs _. Reads (C.leaves certificate.old) (C.leaves certificate.new) (λ ys _. OnErr result (W.failed out.new ≡ W.failed out.old + 1 → BeginsLineFor property xs ys (W.contents out.old) (W.contents out.new)))) }
 {
+    accepted_law();
+    refused_law();
     let answer = about(property, safe_property(alloc, circuit, certificate));
     tell(alloc, Question::Safe, answer, out)
 }

@@ -19,7 +19,8 @@
 //!
 //! A certificate of version 2 has lemmas: lines that are checked once, and whose clauses the step
 //! cases and the bad case then begin with, beside those of the circuit and the invariant. The initial
-//! cases have none of them.
+//! cases have none of them. One of version 3 has clauses over any literals of an extended circuit:
+//! `run_safe` reads the first line of any version, and hands what is behind it to `checker3`.
 //!
 //! Nothing is assumed of whoever wrote the evidence. A certificate costs its own length and one
 //! circuit: all sections of a kind are checked over one formula, and what a section adds is forgotten

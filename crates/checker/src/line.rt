@@ -1,7 +1,7 @@
 //! The lines that tell an answer.
 
 ghost use Rattle.std.specs.Prelude.{◌≡◌, ◌+◌, ◌-◌, ◌<◌, ◌^◌, ◌++◌, Err, IfOk, OnOk, OnErr, IsErrOf, decimal};
-ghost use Rattle.graph.specs.Properties.{property_text};
+ghost use Rattle.graph.specs.Circuits.{property_text};
 ghost use Rattle.checker.specs.Lines.{BeginsToTell, Tells, yes_line as yes_text, no_line as no_text};
 ghost use Rattle.checker.specs.declared.stop.Stop.TheVariants.{Device as Failure};
 ghost use Rattle.checker.specs.declared.run_error.RunError.TheVariants.{Device};

@@ -5,7 +5,7 @@ use Rattle.graph.specs.declared.circuit.Lit.{Lit}
 use Rattle.graph.specs.declared.circuit.Property.{Property}
 use Rattle.graph.specs.declared.circuit.Property.TheVariants.{Bad, Justice, Output}
 use Rattle.graph.specs.declared.parts.Parts.{Parts}
-use Rattle.graph.specs.Properties.{HasProperty}
+use Rattle.graph.specs.Circuits.{HasProperty}
 use Rattle.graph.specs.WellFormed.{IsWellFormed, used}
 use Rattle.stimulus.proofs.Watching.{bad_watched, output_watched}
 use Rattle.cnf.specs.Formulas.{IsInRange}

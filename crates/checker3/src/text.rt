@@ -2,11 +2,11 @@
 
 ghost use Rattle.std.specs.Prelude.{◌≡◌, ◌+◌, ◌-◌, ◌<◌, ◌≤◌, ◌^◌, ◌↔◌, ℕ, List, ◌++◌, length, None, Some, IfOk, IfNone, IfSome, IsErrOf, MatchResult};
 ghost use Rattle.base.specs.Devices.{IsAtEnd, Reads};
-ghost use Rattle.graph.specs.Properties.{HasProperty};
+ghost use Rattle.graph.specs.Circuits.{HasProperty, IsUpheld};
 ghost use Rattle.graph.specs.declared.circuit.Property.TheVariants.{Justice};
 ghost use Rattle.certificate.specs.Streams.{FindsWith, ForText};
 ghost use Rattle.certificate.specs.declared.reader_error.ReaderError.TheVariants.{Device};
-ghost use Rattle.extension.specs.Accepted.{IsAcceptedCertificate, IsUpheld};
+ghost use Rattle.extension.specs.Accepted.{IsAcceptedCertificate};
 ghost use Rattle.certificate3.specs.Formats.{behind_at};
 ghost use Rattle.certificate3.specs.Reading.{certificate_at, evidence_at};
 ghost use Rattle.certificate3.specs.Texts.{Certificate as ACertificate, SpellsCertificate};

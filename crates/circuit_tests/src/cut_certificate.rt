@@ -36,12 +36,18 @@ impl Read for Cut<'_> {
     }
 }
 
-/// Whether this is the line about a certificate that comes in pieces of this number of bytes.
-fn is_told(alloc: Global, text: &[u8], most: usize, line: &[u8]) -> Result<bool, Fail> {
+/// Whether this is the line about a certificate of the circuit that comes in pieces of this number of bytes.
+fn is_told(
+    alloc: Global,
+    circuit: &[u8],
+    text: &[u8],
+    most: usize,
+    line: &[u8],
+) -> Result<bool, Fail> {
     let mut out = ToVec::new(alloc);
     run_safe(
         alloc,
-        &mut FromBytes::new(HOLD),
+        &mut FromBytes::new(circuit),
         &mut FromRead::new(Cut::new(text, most)),
         &mut out,
     )?;
@@ -49,9 +55,9 @@ fn is_told(alloc: Global, text: &[u8], most: usize, line: &[u8]) -> Result<bool,
 }
 
 /// Whether it is the line, however many bytes come at once.
-fn is_always_told(alloc: Global, text: &[u8], line: &[u8]) -> Result<bool, Fail> {
+fn is_always_told(alloc: Global, circuit: &[u8], text: &[u8], line: &[u8]) -> Result<bool, Fail> {
     for most in &PIECES {
-        if !is_told(alloc, text, *most, line)? {
+        if !is_told(alloc, circuit, text, *most, line)? {
             return Ok(false);
         }
     }
@@ -64,7 +70,7 @@ fn is_judged_so(alloc: Global, text: &[u8]) -> Result<bool, Fail> {
         None => format!(in alloc; "yes safe b0\n")?,
         Some((number, _, _)) => format!(in alloc; "no {number}\n")?,
     };
-    is_always_told(alloc, text, line.as_bytes())
+    is_always_told(alloc, HOLD, text, line.as_bytes())
 }
 
 #[test]
@@ -107,13 +113,44 @@ fn is_refused(alloc: Global, text: &[u8], number: u8) -> Result<bool, Fail> {
         Ok(_) => None,
         Err(error) => Some(error.number()),
     };
-    Ok(whole == Some(number) && is_always_told(alloc, text, line.as_bytes())?)
+    Ok(whole == Some(number) && is_always_told(alloc, HOLD, text, line.as_bytes())?)
 }
 
 #[test]
 fn a_fault_of_the_text_goes_first(rt: HostRuntime) -> Result<(), Fail> {
     for (text, number) in &FAULTY {
         assert!(rt; is_refused(rt.alloc(), text, *number)?, "{text:?}");
+    }
+    Ok(())
+}
+
+/// A latch that keeps its value 0, which has to be set for ever again.
+static HOLD_JUSTICE: &[u8] = b"aag 1 0 1 0 0 0 0 1\n2 2\n1\n2\n";
+
+/// Certificates of it, with their lines: two clauses over the shadow circuit, the same with two hints swapped, and the same of a
+/// bad literal that the circuit has not.
+static OF_JUSTICE: [(&[u8], &[u8]); 3] = [
+    (
+        b"aigcert 1\nj0\n2\n1 3\n1 11\ni\n7 0 2 6 0\n.\ni\n7 0 5 6 0\n.\ns\n41 0 38 40 0\n.\ns\n41 0 40 30 38 39 28 0\n.\nb\n41 0 39 40 36 0\n.\n",
+        b"yes safe j0\n",
+    ),
+    (
+        b"aigcert 1\nj0\n2\n1 3\n1 11\ni\n7 0 2 6 0\n.\ni\n7 0 5 6 0\n.\ns\n41 0 38 40 0\n.\ns\n41 0 30 40 38 39 28 0\n.\nb\n41 0 39 40 36 0\n.\n",
+        b"no 42\n",
+    ),
+    (
+        b"aigcert 1\nb0\n2\n1 3\n1 11\ni\n7 0 2 6 0\n.\ni\n7 0 5 6 0\n.\ns\n41 0 38 40 0\n.\ns\n41 0 40 30 38 39 28 0\n.\nb\n41 0 39 40 36 0\n.\n",
+        b"no 30\n",
+    ),
+];
+
+#[test]
+fn pieces_change_nothing_of_a_justice_property(rt: HostRuntime) -> Result<(), Fail> {
+    for (certificate, line) in &OF_JUSTICE {
+        assert!(rt;
+            is_always_told(rt.alloc(), HOLD_JUSTICE, certificate, line)?,
+            "{certificate:?}"
+        );
     }
     Ok(())
 }

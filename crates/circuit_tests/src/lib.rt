@@ -17,6 +17,8 @@ mod cut_stimulus;
 #[cfg(test)]
 mod encodings;
 #[cfg(test)]
+mod failing_devices;
+#[cfg(test)]
 mod large_certificate;
 #[cfg(test)]
 mod literals;
@@ -30,5 +32,7 @@ mod refutations;
 mod shadow_circuits;
 #[cfg(test)]
 mod verdicts;
+#[cfg(test)]
+mod wide_replay;
 #[cfg(test)]
 mod worked_proofs;

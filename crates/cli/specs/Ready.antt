@@ -1,7 +1,7 @@
 -- Files that can be written in the binary layout.
 use Rattle.std.specs.Prelude.{◌≡◌}
 use Rattle.graph.specs.File.{File}
-use Rattle.graph.specs.WellFormed.{IsOrdered}
+use Rattle.graph.specs.Circuits.{IsOrdered}
 use Rattle.shrink.specs.Shrunk.{IsShrunk}
 
 -- the second file's circuit is ordered: it is the first one's where that is, and else that made smaller by structural

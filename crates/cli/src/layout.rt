@@ -3,7 +3,7 @@
 ghost use Rattle.std.specs.Prelude.{◌≡◌, ◌+◌, ◌-◌, ◌<◌, ◌^◌, ◌↔◌, Err, OnOk, IsErrOf};
 ghost use Rattle.std.specs.Io.KnownBytes.{Appends};
 ghost use Rattle.base.specs.Devices.{PutsBeginning};
-ghost use Rattle.graph.specs.WellFormed.{IsOrdered};
+ghost use Rattle.graph.specs.Circuits.{IsOrdered};
 ghost use Rattle.cli.specs.Layouts.{layout_of, text_in};
 ghost use Rattle.cli.specs.declared.cli_error.CliError.TheVariants.{Device, Unordered};
 ghost use Rattle.cli.specs.declared.layout.Layout.TheVariants.{Binary};

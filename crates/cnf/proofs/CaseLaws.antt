@@ -7,8 +7,7 @@ use Rattle.std.proofs.lemmas.List.Elements.{All-nil, All-cons, All-head, All-tai
 use Rattle.graph.specs.declared.circuit.Lit.{Lit}
 use Rattle.graph.specs.declared.circuit.Latch.{Latch}
 use Rattle.graph.specs.declared.parts.Parts.{Parts}
-use Rattle.graph.specs.Valuation.{variable, place, value_of, IsValuation, Agrees}
-use Rattle.graph.specs.Runs.{IsReset, IsInitial, IsStep}
+use Rattle.graph.specs.Circuits.{variable, place, value_of, IsValuation, Agrees, IsReset, IsInitial, IsStep}
 use Rattle.graph.specs.WellFormed.{IsWellFormed}
 use Rattle.graph.proofs.Evaluation.{All-left, All-right, All-unmap, latches_in_range, latches_even}
 use Rattle.graph.proofs.Gates.{value_of-even}

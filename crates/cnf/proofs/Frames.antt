@@ -4,7 +4,7 @@ use Rattle.std.specs.Prelude.{flat_map}
 use Rattle.std.proofs.lemmas.List.Elements.{All-nil, All-cons, All-head, All-tail}
 use Rattle.graph.specs.declared.circuit.Gate.{Gate}
 use Rattle.graph.specs.declared.parts.Parts.{Parts}
-use Rattle.graph.specs.Valuation.{value_of, IsValuation, Agrees, Fires}
+use Rattle.graph.specs.Circuits.{value_of, IsValuation, Agrees, Fires}
 use Rattle.graph.specs.WellFormed.{IsWellFormed}
 use Rattle.graph.proofs.Evaluation.{lefts_in_range, rights0, rights1}
 use Rattle.graph.proofs.Shape.{All-flat_map, All-unflat_map}

@@ -3,7 +3,7 @@ use Rattle.std.proofs.Common.{◌≡◌, ℕ, ◌+◌, ◌-◌, Bool, true, fals
 use Rattle.std.specs.Prelude.{flat_map}
 use Rattle.std.proofs.lemmas.List.Elements.{All-head, All-tail}
 use Rattle.std.proofs.lemmas.List.{get_or_append_left, get_or-append-add, get_or-drop, length-drop, get_or_push}
-use Rattle.graph.specs.Valuation.{place}
+use Rattle.graph.specs.Circuits.{place}
 use Rattle.cnf.specs.Unrolled.{laid}
 use Rattle.cnf.proofs.Values.{IsLaid}
 

@@ -4,8 +4,7 @@ use Rattle.std.specs.Prelude.{flat_map}
 use Rattle.std.proofs.lemmas.List.Elements.{All-nil, All-cons, All-head, All-tail, All-append}
 use Rattle.graph.specs.declared.circuit.Latch.{Latch}
 use Rattle.graph.specs.declared.parts.Parts.{Parts}
-use Rattle.graph.specs.Valuation.{place, value_of, IsValuation, Agrees}
-use Rattle.graph.specs.Runs.{IsStep, Steps, IsRun, KeepsConstraints}
+use Rattle.graph.specs.Circuits.{place, value_of, IsValuation, Agrees, IsStep, Steps, IsRun, KeepsConstraints}
 use Rattle.graph.specs.WellFormed.{IsWellFormed}
 use Rattle.graph.proofs.Evaluation.{All-left, All-right, latches_in_range}
 use Rattle.graph.proofs.Shape.{All-flat_map, All-unflat_map}

@@ -7,9 +7,7 @@ use Rattle.graph.specs.declared.circuit.Lit.{Lit}
 use Rattle.graph.specs.declared.circuit.Property.{Property}
 use Rattle.graph.specs.declared.circuit.Property.TheVariants.{Bad, Justice, Output}
 use Rattle.graph.specs.declared.parts.Parts.{Parts}
-use Rattle.graph.specs.Properties.{IsWatched}
-use Rattle.graph.specs.Valuation.{value_of, Agrees}
-use Rattle.graph.specs.Runs.{IsInitial, IsStep, Steps, IsRun, KeepsConstraints}
+use Rattle.graph.specs.Circuits.{IsWatched, value_of, Agrees, IsInitial, IsStep, Steps, IsRun, KeepsConstraints}
 use Rattle.graph.specs.WellFormed.{IsWellFormed, used}
 use Rattle.graph.proofs.Alone.{watched_one}
 use Rattle.graph.proofs.Tabled.{holds_of_used}

@@ -4,7 +4,7 @@ use Rattle.std.proofs.lemmas.Bool.{cases_eq, eq-eqb, ne_eqb}
 use Rattle.std.proofs.lemmas.List.{get_or_append_left, get_or_push}
 use Rattle.graph.specs.declared.circuit.Lit.{Lit}
 use Rattle.graph.specs.declared.parts.Parts.{Parts}
-use Rattle.graph.specs.Valuation.{variable, place, value_of, IsValuation}
+use Rattle.graph.specs.Circuits.{variable, place, value_of, IsValuation}
 use Rattle.lrat.specs.Literals.{is_true}
 use Rattle.cnf.specs.Clauses.{signed, is_negated, literal, denial}
 use Rattle.cnf.specs.Formulas.{IsInRange}

@@ -3,7 +3,7 @@ use Rattle.std.specs.Prelude.{◌≡◌, ℕ, ◌+◌, ◌*◌, ◌<◌, ◌≤�
 use Rattle.graph.specs.declared.circuit.Lit.{Lit}
 use Rattle.graph.specs.declared.circuit.Gate.{Gate}
 use Rattle.graph.specs.declared.parts.Parts.{Parts}
-use Rattle.graph.specs.Valuation.{variable, defined}
+use Rattle.graph.specs.Circuits.{variable, defined}
 use Rattle.lrat.specs.declared.formula.Formula.{Formula}
 use Rattle.cnf.specs.Clauses.{truth_clause, frame_clauses, start_clauses, init_clauses, shared_clauses, step_clauses, bad_clauses}
 

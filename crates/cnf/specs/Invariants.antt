@@ -3,8 +3,7 @@ use Rattle.std.specs.Prelude.{ℕ, Bool, List, All, ℤ}
 use Rattle.graph.specs.declared.circuit.Lit.{Lit}
 use Rattle.graph.specs.declared.circuit.Property.{Property}
 use Rattle.graph.specs.declared.parts.Parts.{Parts}
-use Rattle.graph.specs.Properties.{IsWatched}
-use Rattle.graph.specs.Runs.{IsSafe}
+use Rattle.graph.specs.Circuits.{IsWatched, IsSafe}
 use Rattle.cnf.specs.Clauses.{init_clauses, step_clauses, bad_clauses}
 use Rattle.cnf.specs.Meaning.{AreSatisfied}
 

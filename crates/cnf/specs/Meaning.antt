@@ -2,8 +2,7 @@
 use Rattle.std.specs.Prelude.{◌≡◌, ℕ, Bool, true, false, List, [], ◌∷◌, ◌++◌, All, Any, ℤ, ◌↔◌}
 use Rattle.graph.specs.declared.circuit.Lit.{Lit}
 use Rattle.graph.specs.declared.parts.Parts.{Parts}
-use Rattle.graph.specs.Valuation.{Valuation, place, value_of, IsValuation, Agrees}
-use Rattle.graph.specs.Runs.{IsInitial}
+use Rattle.graph.specs.Circuits.{Valuation, place, value_of, IsValuation, Agrees, IsInitial}
 use Rattle.lrat.specs.Literals.{IsSatisfied}
 use Rattle.cnf.specs.Clauses.{next_of, frame_clauses, init_clauses, step_clauses, bad_clauses}
 

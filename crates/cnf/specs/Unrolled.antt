@@ -2,8 +2,7 @@
 use Rattle.std.specs.Prelude.{◌≡◌, ℕ, zero, suc, ◌+◌, ◌*◌, Bool, true, false, List, [], ◌∷◌, ◌++◌, flat_map, drop, length, All, ℤ, ◌↔◌}
 use Rattle.graph.specs.declared.circuit.Latch.{Latch}
 use Rattle.graph.specs.declared.parts.Parts.{Parts}
-use Rattle.graph.specs.Valuation.{Valuation, place, IsValuation}
-use Rattle.graph.specs.Runs.{IsRun, KeepsConstraints}
+use Rattle.graph.specs.Circuits.{Valuation, place, IsValuation, IsRun, KeepsConstraints}
 use Rattle.lrat.specs.declared.formula.Formula.{Formula}
 use Rattle.cnf.specs.Clauses.{literal, denial, reset_clauses, time_clauses}
 use Rattle.cnf.specs.Meaning.{AreSatisfied}

@@ -8,7 +8,7 @@ use Rattle.graph.specs.declared.circuit.Gate.{Gate}
 use Rattle.graph.specs.declared.circuit.Lit.{Lit}
 use Rattle.graph.specs.declared.parts.Parts.{Parts}
 use Rattle.graph.proofs.Evaluation.{All-unmap}
-use Rattle.graph.specs.Valuation.{variable, place, value_of, Fires}
+use Rattle.graph.specs.Circuits.{variable, place, value_of, Fires}
 use Rattle.cones.specs.declared.reach.Reach.{Reach}
 use Rattle.cones.specs.declared.reach.Reach.TheVariants.{Cone, Justification}
 use Rattle.cones.specs.Marks.{IsMarked, IsJustified, IsCone}

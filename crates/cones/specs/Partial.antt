@@ -3,7 +3,7 @@ use Rattle.std.specs.Prelude.{◌≡◌, ℕ, ◌<◌, Bool, true, false, Option
 use Rattle.graph.specs.declared.circuit.Lit.{Lit}
 use Rattle.graph.specs.declared.circuit.Gate.{Gate}
 use Rattle.graph.specs.declared.parts.Parts.{Parts}
-use Rattle.graph.specs.Valuation.{Valuation, variable, place, value_of, state_of, inputs_of, Agrees}
+use Rattle.graph.specs.Circuits.{Valuation, variable, place, value_of, state_of, inputs_of, Agrees}
 use Rattle.lrat.specs.Literals.{is_true}
 use Rattle.cnf.specs.Clauses.{literal, truth_clause, gate_clauses, frame_at}
 use Rattle.cnf.specs.Meaning.{AreSatisfied, KeepsNow}

@@ -3,7 +3,7 @@ use Rattle.std.specs.Prelude.{◌≡◌, ℕ, ◌+◌, ◌<◌, ◌⊎◌, Bool,
 use Rattle.graph.specs.declared.circuit.Gate.{Gate}
 use Rattle.graph.specs.declared.circuit.Lit.{Lit}
 use Rattle.graph.specs.declared.parts.Parts.{Parts}
-use Rattle.graph.specs.Valuation.{Valuation, variable, Fires}
+use Rattle.graph.specs.Circuits.{Valuation, variable, Fires}
 use Rattle.cones.specs.declared.reach.Reach.{Reach}
 use Rattle.cones.specs.declared.reach.Reach.TheVariants.{Cone, Justification}
 use Rattle.cones.specs.Marks.{IsMarked, IsJustified, IsCone}

@@ -1,7 +1,7 @@
 //! The gates of listed variables, and marks that are taken away.
 
 ghost use Rattle.std.specs.Prelude.{◌≡◌, ℕ, ◌<◌, false, length, All, Contains, IfOk};
-ghost use Rattle.graph.specs.Valuation.{place};
+ghost use Rattle.graph.specs.Circuits.{place};
 ghost use Rattle.cones.specs.Marks.{IsMarked};
 ghost use Rattle.cones.specs.Reach.{gates_in};
 

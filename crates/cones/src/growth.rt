@@ -1,7 +1,7 @@
 //! Cones that grow from question to question.
 
 ghost use Rattle.std.specs.Prelude.{◌≡◌, ◌+◌, ◌≤◌, ◌++◌, ℤ, List, length, flat_map, All, Contains, IfOk, OnOk};
-ghost use Rattle.graph.specs.Valuation.{variable};
+ghost use Rattle.graph.specs.Circuits.{variable};
 ghost use Rattle.cnf.specs.Clauses.{gate_clauses};
 ghost use Rattle.cones.specs.Marks.{IsMarked, IsCone};
 ghost use Rattle.cones.specs.Partial.{HasGates};

@@ -2,7 +2,7 @@
 
 ghost use Rattle.std.specs.Prelude.{◌≡◌, ◌+◌, ◌<◌, ◌≤◌, List, Bool, [], ◌∷◌, length, map, slice_index, All, OnOk, IfOk};
 ghost use Rattle.graph.specs.declared.parts.Parts.{Parts};
-ghost use Rattle.graph.specs.Valuation.{variable};
+ghost use Rattle.graph.specs.Circuits.{variable};
 ghost use Rattle.cones.specs.Marks.{IsMarked, IsCone};
 ghost use Rattle.cones.specs.Reach.{IsGateTable, IsSettled, IsClosed, Serves, Grows, IsDomain, IsInside, IsFrom, IsExtended};
 ghost use Rattle.cones.specs.declared.reach.Reach.TheVariants.{Cone, Justification};

@@ -1,6 +1,6 @@
 //! The clauses that say that the latches of a class are equal.
 
-ghost use Rattle.std.specs.Prelude.{◌≡◌, ◌<◌, All, OnOk, IfOk, length};
+ghost use Rattle.std.specs.Prelude.{◌≡◌, ◌<◌, ◌≤◌, ◌+◌, ◌*◌, [], All, OnOk, IfOk, length};
 ghost use Rattle.graph.specs.declared.parts.Parts.{Parts};
 ghost use Rattle.correspondence.specs.Equal.{high_of, low_of, IsEquality};
 
@@ -57,7 +57,8 @@ fn push_constant(
 ) -> Result<bool, Refused>
     requires place { place < length circuit.now.latches }
     requires all { All (IsEquality circuit.now) clauses.old }
-    ensures { OnOk result (All (IsEquality circuit.now) clauses.new) }
+    ensures all { OnOk result (All (IsEquality circuit.now) clauses.new) }
+    ensures few { OnOk result (length clauses.new ≤ length clauses.old + 1) }
 {
     circuit.well_formed();
     let latch = circuit.latches()[place];
@@ -79,7 +80,8 @@ fn push_implication(
     requires place { place < length circuit.now.latches }
     requires lead { lead < length circuit.now.latches }
     requires all { All (IsEquality circuit.now) clauses.old }
-    ensures { OnOk result (All (IsEquality circuit.now) clauses.new) }
+    ensures all { OnOk result (All (IsEquality circuit.now) clauses.new) }
+    ensures few { OnOk result (length clauses.new ≤ length clauses.old + 1) }
 {
     circuit.well_formed();
     let latch = circuit.latches()[place];
@@ -92,9 +94,15 @@ fn push_implication(
 }
 
 impl Equalities {
+    /// The allocator of the clauses.
+    pub(crate) fn allocator(&self) -> Global {
+        *self.members.allocator()
+    }
+
     /// None yet.
     fn new(alloc: Global) -> Equalities
-        ensures { (m : Parts) → All (IsEquality m) result.clauses }
+        ensures all { (m : Parts) → All (IsEquality m) result.clauses }
+        ensures none { result.clauses ≡ [] }
     {
         Equalities {
             clauses: Seq::new(alloc),
@@ -110,7 +118,8 @@ impl Equalities {
         member: Member,
     ) -> Result<(), Refused>
         requires all { All (IsEquality circuit.now) self.old.clauses }
-        ensures { OnOk result (All (IsEquality circuit.now) self.new.clauses) }
+        ensures all { OnOk result (All (IsEquality circuit.now) self.new.clauses) }
+        ensures few { OnOk result (length self.new.clauses ≤ length self.old.clauses + 2) }
     {
         let place = member.place;
         if place < circuit.latches().len()
@@ -130,7 +139,8 @@ impl Equalities {
         lead: usize,
     ) -> Result<(), Refused>
         requires all { All (IsEquality circuit.now) self.old.clauses }
-        ensures { OnOk result (All (IsEquality circuit.now) self.new.clauses) }
+        ensures all { OnOk result (All (IsEquality circuit.now) self.new.clauses) }
+        ensures few { OnOk result (length self.new.clauses ≤ length self.old.clauses + 2) }
     {
         let place = member.place;
         if place >= circuit.latches().len() || lead >= circuit.latches().len() {
@@ -154,7 +164,8 @@ impl Equalities {
         place: usize,
     ) -> Result<(), Refused>
         requires all { All (IsEquality circuit.now) self.old.clauses }
-        ensures { OnOk result (All (IsEquality circuit.now) self.new.clauses) }
+        ensures all { OnOk result (All (IsEquality circuit.now) self.new.clauses) }
+        ensures few { OnOk result (length self.new.clauses ≤ length self.old.clauses + 2) }
     {
         let Some(class) = classes.class_of(place) else {
             return Ok(());
@@ -166,13 +177,14 @@ impl Equalities {
         }
     }
 
-    /// The clauses of the classes.
+    /// The clauses of the classes, at most two for each latch.
     pub(crate) fn of(
         alloc: Global,
         circuit: &Model,
         classes: &Classes,
     ) -> Result<Equalities, Refused>
-        ensures { IfOk result (λ e. All (IsEquality circuit.now) e.clauses) }
+        ensures all { IfOk result (λ e. All (IsEquality circuit.now) e.clauses) }
+        ensures few { IfOk result (λ e. length e.clauses ≤ 2 * length circuit.now.latches) }
     {
         let mut equalities = Equalities::new(alloc);
         for place in 0..circuit.latches().len() {

@@ -1,10 +1,10 @@
 //! The clauses of equal latches.
 
-ghost use Rattle.std.specs.Prelude.{IfOk, IfSome};
+ghost use Rattle.std.specs.Prelude.{◌≡◌, None, IfOk, IfSome};
 ghost use Rattle.base.specs.Budget.{Spends};
 ghost use Rattle.engine.specs.Findings.{IsForBad};
 ghost use Rattle.correspondence.specs.Found.{IsCorrespondence};
-ghost use Rattle.correspondence.specs.Rounds.{IsRound};
+ghost use Rattle.correspondence.specs.Rounds.{IsEnd, IsGivenUp, IsLast};
 
 use crate::equal_latches::Correspondence;
 use crate::rounds::Round;
@@ -19,22 +19,22 @@ use std::alloc::Global;
 const OPEN_PARTS: u64 = 4;
 
 /// What rounds of induction end in: with classes that stay, with the first ones that don't exclude the bad literal, or where
-/// the budget is exhausted.
+/// the budget is exhausted. Once classes did not exclude it, it is not asked again.
 fn induce<S: PartSat, P: Progress>(
     solver: &mut S,
     alloc: Global,
     circuit: &Model,
     search: &mut Search,
+    is_open: bool,
     progress: &mut P,
     budget: &mut Budget,
 ) -> Result<Round, SatError>
     requires { IsForBad circuit.now }
     ensures spends { Spends budget.old budget.new }
-    ensures round { IfOk result (IsRound circuit.now) }
+    ensures round { IfOk result (IsEnd circuit.now is_open budget.new) }
 {
-    let bad = circuit.bad()[0];
     'inducing: while budget.tick() {
-        match search.round(solver, alloc, circuit, bad, progress, budget)? {
+        match search.round(solver, alloc, circuit, is_open, progress, budget)? {
             Round::Split => search.shake(alloc, budget)?,
             ended => return Ok(ended),
         }
@@ -53,10 +53,10 @@ fn induce_open<S: PartSat, P: Progress>(
 ) -> Result<Round, SatError>
     requires { IsForBad circuit.now }
     ensures spends { Spends budget.old budget.new }
-    ensures round { IfOk result (IsRound circuit.now) }
+    ensures last { IfOk result (IsLast circuit.now budget.old budget.new) }
 {
     let mut piece = Budget::new(budget.left() / OPEN_PARTS);
-    let ended = induce(solver, alloc, circuit, search, progress, &mut piece)?;
+    let ended = induce(solver, alloc, circuit, search, true, progress, &mut piece)?;
     budget.spend(piece.spent());
     Ok(ended)
 }
@@ -72,17 +72,17 @@ fn ended<S: PartSat, P: Progress>(
 ) -> Result<Round, SatError>
     requires { IsForBad circuit.now }
     ensures spends { Spends budget.old budget.new }
-    ensures round { IfOk result (IsRound circuit.now) }
+    ensures last { IfOk result (IsLast circuit.now budget.old budget.new) }
 {
-    match induce(solver, alloc, circuit, search, progress, budget)? {
+    match induce(solver, alloc, circuit, search, false, progress, budget)? {
         Round::Open => induce_open(solver, alloc, circuit, search, progress, budget),
         ended => Ok(ended),
     }
 }
 
 /// Clauses that say which latches are equal, and that are inductive: an invariant where they exclude the bad literal. None
-/// where the budget is exhausted before they are found, or the part of it that clauses which don't exclude it may take. Each
-/// round is told to `progress`, and counted.
+/// only where the budget is exhausted before they are found, or the part of it that clauses which don't exclude it may take,
+/// or where the latches are too many. Each round is told to `progress`, and counted.
 pub fn correspond<S: PartSat, P: Progress>(
     solver: &mut S,
     alloc: Global,
@@ -94,11 +94,10 @@ pub fn correspond<S: PartSat, P: Progress>(
     requires { IsForBad circuit.now }
     ensures spends { Spends budget.old budget.new }
     ensures found { IfOk result (λ r. IfSome r (IsCorrespondence circuit.now)) }
+    ensures none { IfOk result (λ r. r ≡ None → IsGivenUp circuit.now budget.old budget.new) }
 {
-    let Some(opened) = opened(alloc, circuit)? else {
-        return Ok(None);
-    };
-    let mut search = Search::new(alloc, circuit, &opened)?;
+    let opened = opened(alloc, circuit)?;
+    let mut search = Search::new(alloc, circuit, opened.as_ref().unwrap_or(circuit))?;
     search.simulate(alloc, budget)?;
     search.shake(alloc, budget)?;
     let ended = ended(solver, alloc, circuit, &mut search, progress, budget)?;

@@ -1,6 +1,6 @@
 //! Rounds of induction.
 
-ghost use Rattle.std.specs.Prelude.{◌≡◌, ◌<◌, ◌≤◌, ◌+◌, ◌++◌, [], true, All, Contains, IfOk, IfSome, IsTrue, OnOk, Some, length, slice_index_or};
+ghost use Rattle.std.specs.Prelude.{◌≡◌, ◌<◌, ◌≤◌, ◌+◌, ◌++◌, [], true, All, Contains, IfOk, IfSome, IsTrue, OnOk, None, Some, length, slice_index_or};
 ghost use Rattle.base.specs.Budget.{Spends};
 ghost use Rattle.graph.specs.WellFormed.{used};
 ghost use Rattle.lrat.specs.Literals.{IsLiteral};
@@ -13,7 +13,7 @@ ghost use Rattle.graph.specs.declared.parts.Parts.{Parts};
 ghost use Rattle.engine.specs.Findings.{IsForBad, IsInvariant};
 ghost use Rattle.merged.specs.Laws.{AreInductive};
 ghost use Rattle.correspondence.specs.Equal.{IsEquality};
-ghost use Rattle.correspondence.specs.declared.rounds.Reply.TheVariants.{Holds};
+ghost use Rattle.correspondence.specs.declared.rounds.Reply.TheVariants.{Holds, Spent};
 ghost use Rattle.correspondence.specs.Found.{IsCorrespondence};
 ghost use Rattle.correspondence.specs.Rounds.{IsCoreOf, IsRound};
 
@@ -211,7 +211,7 @@ impl<'a> Search<'a> {
         ensures vars { S.vars solver.new ≡ S.vars solver.old }
         ensures clauses { S.clauses solver.new ≡ S.clauses solver.old }
         ensures spends { Spends budget.old budget.new }
-        ensures core { IfOk result (IsCoreOf (S.clauses solver.old) question.now.units.items) }
+        ensures core { IfOk result (IsCoreOf (S.clauses solver.old) question.now.units.items budget.new) }
     {
         let (part, units) = (&question.part, question.units.as_slice());
         if !self.is_swept {
@@ -244,6 +244,7 @@ impl<'a> Search<'a> {
         ensures clauses { S.clauses solver.new ≡ S.clauses solver.old }
         ensures spends { Spends budget.old budget.new }
         ensures holds { IfOk result (λ r. r ≡ Holds → AreContradictory (S.clauses solver.old ++ unit_clauses question.now.units.items)) }
+        ensures spent { IfOk result (λ r. r ≡ Spent → budget.new.left ≡ 0) }
     {
         match self.answer(solver, alloc, circuit, equalities, question, budget)? {
             Answer::Core(_) => Ok(Reply::Holds),
@@ -300,6 +301,7 @@ impl<'a> Search<'a> {
         requires loaded { S.clauses solver.old ≡ shared_clauses circuit.now equalities.now.clauses }
         ensures spends { Spends budget.old budget.new }
         ensures hold { IfOk result (λ r. r ≡ Some true → All (λ c. AreContradictory (step_clauses circuit.now equalities.now.clauses c)) equalities.now.clauses) }
+        ensures none { IfOk result (λ r. r ≡ None → budget.new.left ≡ 0) }
     {
         let table = NextTable::new(alloc, circuit)?;
         let mut near = Near::new(alloc, circuit)?;
@@ -327,9 +329,9 @@ impl<'a> Search<'a> {
     fn excludes<S: PartSat>(
         &mut self,
         solver: &mut S,
-        alloc: Global,
         circuit: &Model,
         bad: Lit,
+        is_open: bool,
         equalities: &Equalities,
         budget: &mut Budget,
     ) -> Result<bool, SatError>
@@ -340,9 +342,10 @@ impl<'a> Search<'a> {
         ensures spends { Spends budget.old budget.new }
         ensures excluded { IfOk result (λ yes. IsTrue yes → AreContradictory (S.clauses solver.old ++ unit_clauses (bad_units circuit.now bad))) }
     {
-        if self.is_open {
+        if is_open {
             return Ok(false);
         }
+        let alloc = equalities.allocator();
         let mut units = Vec::new(alloc);
         push(&mut units, bad_unit(circuit, bad))?;
         let part = Near::new(alloc, circuit)?.part_of(alloc, circuit, units.as_slice())?;
@@ -362,9 +365,9 @@ impl<'a> Search<'a> {
     fn ask_all<S: PartSat>(
         &mut self,
         solver: &mut S,
-        alloc: Global,
         circuit: &Model,
         bad: Lit,
+        is_open: bool,
         equalities: Equalities,
         budget: &mut Budget,
     ) -> Result<Round, SatError>
@@ -374,13 +377,13 @@ impl<'a> Search<'a> {
         requires all { All (IsEquality circuit.now) equalities.clauses }
         requires loaded { S.clauses solver.old ≡ shared_clauses circuit.now equalities.clauses }
         ensures spends { Spends budget.old budget.new }
-        ensures fixed { IfOk result (IsRound circuit.now) }
+        ensures fixed { IfOk result (IsRound circuit.now is_open budget.new) }
     {
-        let excluded = self.excludes(solver, alloc, circuit, bad, &equalities, budget)?;
-        if !excluded && !self.is_open {
-            self.is_open = true;
+        let excluded = self.excludes(solver, circuit, bad, is_open, &equalities, budget)?;
+        if !excluded && !is_open {
             return Ok(Round::Open);
         }
+        let alloc = equalities.allocator();
         match self.ask_steps(solver, alloc, circuit, &equalities, budget)? {
             Some(true) => Ok(Round::Fixed(found(equalities.clauses, excluded))),
             Some(false) => Ok(Round::Split),
@@ -388,21 +391,21 @@ impl<'a> Search<'a> {
         }
     }
 
-    /// One round: asks whether the classes exclude the bad literal, and whether equal latches stay equal.
+    /// One round: asks whether the classes exclude the bad literal, unless earlier ones did not, and whether equal latches stay equal.
     pub(crate) fn round<S: PartSat, P: Progress>(
         &mut self,
         solver: &mut S,
         alloc: Global,
         circuit: &Model,
-        bad: Lit,
+        is_open: bool,
         progress: &mut P,
         budget: &mut Budget,
     ) -> Result<Round, SatError>
-        requires for_bad { IsForBad circuit.now }
-        requires bad { bad ≡ bad_literal circuit.now 0 }
+        requires { IsForBad circuit.now }
         ensures spends { Spends budget.old budget.new }
-        ensures fixed { IfOk result (IsRound circuit.now) }
+        ensures fixed { IfOk result (IsRound circuit.now is_open budget.new) }
     {
+        let bad = circuit.bad()[0];
         let equalities = Equalities::of(alloc, circuit, &self.classes)?;
         if equalities.clauses.len() > GREATEST {
             return Ok(Round::Over);
@@ -411,6 +414,6 @@ impl<'a> Search<'a> {
         progress.round_begun(self.rounds, equalities.clauses.len(), budget);
         load(solver, alloc, circuit, equalities.clauses.as_slice())?;
         self.is_swept = false;
-        self.ask_all(solver, alloc, circuit, bad, equalities, budget)
+        self.ask_all(solver, circuit, bad, is_open, equalities, budget)
     }
 }

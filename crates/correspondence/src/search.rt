@@ -30,14 +30,12 @@ const GATES: usize = 64;
 #[derive(Drop)]
 pub(crate) struct Search<'a> {
     circuit: &'a Model,
-    /// the same circuit, but that it begins in any state
+    /// the same circuit, but that it begins in any state, where that is a circuit; else as it is
     opened: &'a Model,
     pub classes: Classes,
     generator: Lcg128Xsl64,
     /// whether signals are swept in this round
     pub is_swept: bool,
-    /// whether the classes of a round did not exclude the bad literal
-    pub is_open: bool,
     /// how many rounds there were
     pub rounds: u64,
 }
@@ -117,7 +115,6 @@ impl<'a> Search<'a> {
             classes: Classes::new(alloc, circuit.latches())?,
             generator: Lcg128Xsl64::seed_from_u64(0),
             is_swept: false,
-            is_open: false,
             rounds: 0,
         })
     }

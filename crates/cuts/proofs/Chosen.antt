@@ -6,7 +6,7 @@ use Rattle.std.proofs.lemmas.List.Elements.{Contains-append_cases}
 use Rattle.graph.specs.declared.circuit.Lit.{Lit}
 use Rattle.graph.specs.declared.circuit.Gate.{Gate}
 use Rattle.graph.specs.declared.parts.Parts.{Parts}
-use Rattle.graph.specs.Valuation.{Valuation, variable, place, value_of, defined, Agrees}
+use Rattle.graph.specs.Circuits.{Valuation, variable, place, value_of, defined, Agrees}
 use Rattle.graph.specs.WellFormed.{IsWellFormed, IsOrder, Reads, gate_in}
 use Rattle.graph.proofs.Evaluation.{Contains-map, held, once-right, lefts_even, rights0, rights1}
 use Rattle.graph.proofs.Gates.{left, value_of-even, apart_at}

@@ -1,7 +1,7 @@
 -- Leaves of a gate's cut, and its value.
 use Rattle.std.proofs.Common.{◌≡◌, ℕ, ◌<◌, ◌⊎◌, ◌&&◌, Bool, false, Option, Some, None, IfSome, inl, inr, refl, sym, ◌∙◌, ap, subst}
 use Rattle.graph.specs.declared.circuit.Gate.{Gate}
-use Rattle.graph.specs.Valuation.{Valuation, place}
+use Rattle.graph.specs.Circuits.{Valuation, place}
 use Rattle.truth_tables.specs.Tables.{value}
 use Rattle.truth_tables.proofs.Tabled.{value_first, value_second, value_third, value_fourth, value_none}
 use Rattle.cuts.specs.declared.cut.Cut.{Cut}

@@ -2,7 +2,7 @@
 use Rattle.std.specs.Prelude.{◌≡◌, ℕ, ◌+◌, ◌<◌, ◌≤◌, ◌⊎◌, Bool, List, map, length, slice_index_or, Contains}
 use Rattle.graph.specs.declared.circuit.Gate.{Gate}
 use Rattle.graph.specs.declared.parts.Parts.{Parts}
-use Rattle.graph.specs.Valuation.{Valuation, variable, place, Agrees}
+use Rattle.graph.specs.Circuits.{Valuation, variable, place, Agrees}
 use Rattle.graph.specs.WellFormed.{IsOrder, gate_in}
 use Rattle.truth_tables.specs.Tables.{value}
 use Rattle.cuts.specs.declared.cut.Cut.{Cut}

@@ -1,7 +1,7 @@
 //! The cut of each gate.
 
 ghost use Rattle.std.specs.Prelude.{◌≡◌, ℕ, ◌+◌, ◌<◌, ◌≤◌, ◌⊎◌, All, IfOk, IfSome, Some, length};
-ghost use Rattle.graph.specs.Valuation.{variable};
+ghost use Rattle.graph.specs.Circuits.{variable};
 ghost use Rattle.cuts.specs.Cuts.{AreCuts, cut_at};
 ghost use Rattle.cuts.specs.Joining.{IsInside, IsChosen, trivial};
 

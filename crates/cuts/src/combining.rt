@@ -1,7 +1,7 @@
 //! A gate's cut, of cuts of its right sides.
 
 ghost use Rattle.std.specs.Prelude.{◌≡◌, IfSome};
-ghost use Rattle.graph.specs.Valuation.{variable};
+ghost use Rattle.graph.specs.Circuits.{variable};
 ghost use Rattle.cuts.specs.Joining.{Adds, AreAmong, IsUnion, IsJoined, trivial};
 
 use crate::cut::{Cut, Leaves};

@@ -1,7 +1,7 @@
 //! What a cut costs.
 
 ghost use Rattle.std.specs.Prelude.{◌≡◌, ◌+◌, ◌<◌, All, IfOk, length};
-ghost use Rattle.graph.specs.Valuation.{variable};
+ghost use Rattle.graph.specs.Circuits.{variable};
 ghost use Rattle.cuts.specs.Joining.{IsInside};
 
 use crate::cut::Cut;

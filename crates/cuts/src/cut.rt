@@ -1,7 +1,7 @@
 //! One cut of a variable.
 
 ghost use Rattle.std.specs.Prelude.{◌≡◌, false};
-ghost use Rattle.graph.specs.Valuation.{Valuation, place};
+ghost use Rattle.graph.specs.Circuits.{Valuation, place};
 ghost use Rattle.cuts.specs.Joining.{AreAmong, IsAmong, side_of, trivial, value_over};
 
 use graph::Lit;

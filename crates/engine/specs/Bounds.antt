@@ -3,9 +3,7 @@ use Rattle.std.specs.Prelude.{◌≡◌, ℕ, ◌+◌, ◌≤◌, false, List, l
 use Rattle.graph.specs.declared.circuit.Lit.{Lit}
 use Rattle.graph.specs.declared.circuit.Property.{Property}
 use Rattle.graph.specs.declared.parts.Parts.{Parts}
-use Rattle.graph.specs.Properties.{IsWatched}
-use Rattle.graph.specs.Valuation.{Valuation, value_of}
-use Rattle.graph.specs.Runs.{IsRun, KeepsConstraints}
+use Rattle.graph.specs.Circuits.{IsWatched, Valuation, value_of, IsRun, KeepsConstraints}
 
 -- no run of at most this number of times that keeps the constraints sets the literal that the property watches
 abbrev pub IsUnsetFor : Parts → Property → ℕ → Type 0

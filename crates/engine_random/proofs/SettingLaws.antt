@@ -1,7 +1,7 @@
 -- Which runs set literals.
 use Rattle.std.proofs.Common.{◌≡◌, ◌↔◌, ℕ, ◌+◌, ◌<◌, Bool, true, false, ◌&&◌, List, get_or, refl, sym, subst, ◌∙◌, arith, below_more, length, Option, Some, None, IsSome, IfSome}
 use Rattle.graph.specs.declared.circuit.Lit.{Lit}
-use Rattle.graph.specs.Valuation.{Valuation, value_of}
+use Rattle.graph.specs.Circuits.{Valuation, value_of}
 use Rattle.simulate.specs.Lanes.{value_in, row_of}
 use Rattle.simulate.specs.Wides.{WideReplayed, AllStep, valuation_of}
 use Rattle.engine_random.specs.Batches.{AreSet, Marks}

@@ -7,7 +7,7 @@ ghost use Rattle.engine.specs.Findings.{IsForBad};
 use aag::read;
 use bmc::Bmc;
 use engine::{Counters, Engine, EngineError, Finding, Reason};
-use graph::{Budget, Model};
+use graph::{Budget, Model, ReadError};
 use solver::{Plain, Sat};
 use std::alloc::Global;
 use std::test::Fail;
@@ -43,11 +43,11 @@ static WORKED: [(&[u8], u8, usize); 7] = [
 ];
 
 /// The circuit of a text, with its first bad literal.
-pub fn circuit(alloc: Global, text: &[u8]) -> Result<Model, Fail>
+pub fn circuit(alloc: Global, text: &[u8]) -> Result<Model, ReadError>
     ensures { IfOk result IsForBad }
 {
     let file = read(alloc, text)?;
-    Ok(file.model().for_bad(alloc, 0)?)
+    file.model().for_bad(alloc, 0)
 }
 
 /// How many times the run has that is found within a budget of `steps`, 0 where there is none.

@@ -1,13 +1,16 @@
 //! Circuits with registers that are equal, opposite or constant: where that is an invariant which excludes the bad
 //! literal, it is found and certified; and each circuit is decided, with another engine behind.
 
+ghost use Rattle.engine.specs.Findings.{IsForBad};
+
 use crate::bounded::circuit;
-use crate::inductive::{is_certified, is_shown};
+use crate::inductive::{is_backed, is_certified};
 use cdcl::Cdcl;
 use correspondence::{Correspondence, Corresponding, correspond};
-use engine::{Engine, Finding, Silent};
-use graph::Budget;
+use engine::{Engine, Silent};
+use graph::{Budget, Model};
 use ic3::Ic3;
+use solver::{PartSat, Plain};
 use std::alloc::Global;
 use std::test::Fail;
 
@@ -52,7 +55,7 @@ static WORKED: [(&[u8], bool, bool); 12] = [
 ];
 
 /// How many steps of the budget a search may cost.
-const STEPS: u64 = 100_000;
+const STEPS: u64 = 1_000_000;
 
 /// Whether an invariant of equal latches is found that gets a certificate.
 fn is_found(alloc: Global, text: &[u8]) -> Result<bool, Fail> {
@@ -73,17 +76,28 @@ fn is_found(alloc: Global, text: &[u8]) -> Result<bool, Fail> {
     }
 }
 
-/// Whether the circuit is found safe or not, with evidence that stands, by equal latches or by IC3.
-fn is_decided(alloc: Global, text: &[u8], safe: bool) -> Result<bool, Fail> {
+/// Whether the circuit is found safe or not, with evidence that stands, by equal latches or by IC3, both by these solvers.
+pub(crate) fn is_decided<S: PartSat>(
+    alloc: Global,
+    first: S,
+    behind: S,
+    circuit: &Model,
+    safe: bool,
+) -> Result<bool, Fail>
+    requires { IsForBad circuit.now }
+{
+    let mut engine = Corresponding::new(first, Ic3::new(behind));
+    let finding = engine.find(alloc, circuit, &mut Budget::new(STEPS))?;
+    is_backed(alloc, circuit, finding, safe)
+}
+
+/// The same of the circuit of a text, by each of the two solvers.
+fn is_decided_by_both(alloc: Global, text: &[u8], safe: bool) -> Result<bool, Fail> {
     let circuit = circuit(alloc, text)?;
-    let mut engine = Corresponding::new(Cdcl::new(alloc), Ic3::new(Cdcl::new(alloc)));
-    match engine.find(alloc, &circuit, &mut Budget::new(STEPS))? {
-        Finding::Invariant(clauses) => Ok(
-            safe && is_certified(alloc, &circuit, clauses.as_slice())?,
-        ),
-        Finding::Run { initial, inputs } => Ok(!safe && is_shown(alloc, &circuit, initial, inputs)),
-        Finding::Unknown(_) => Ok(false),
-    }
+    Ok(
+        is_decided(alloc, Cdcl::new(alloc), Cdcl::new(alloc), &circuit, safe)?
+            && is_decided(alloc, Plain::new(alloc), Plain::new(alloc), &circuit, safe)?,
+    )
 }
 
 #[test]
@@ -97,7 +111,7 @@ fn finds_equal_registers(rt: HostRuntime) -> Result<(), Fail> {
 #[test]
 fn decides_with_ic3_behind(rt: HostRuntime) -> Result<(), Fail> {
     for (text, _, safe) in &WORKED {
-        assert!(rt; is_decided(rt.alloc(), text, *safe)?, "{text:?}");
+        assert!(rt; is_decided_by_both(rt.alloc(), text, *safe)?, "{text:?}");
     }
     Ok(())
 }

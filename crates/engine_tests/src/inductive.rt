@@ -42,13 +42,16 @@ static WORKED: [(&[u8], bool); 7] = [
 /// How many steps of the budget a search may cost.
 const STEPS: u64 = 100_000;
 
+/// How many steps of the budget a certificate may cost.
+const CERTIFYING: u64 = 10_000_000;
+
 /// Whether the clauses get a certificate that the checker accepts.
 pub(crate) fn is_certified(
     alloc: Global,
     circuit: &Model,
     clauses: &[Seq<Lit>],
 ) -> Result<bool, Fail> {
-    let mut budget = Budget::new(STEPS);
+    let mut budget = Budget::new(CERTIFYING);
     match certify(alloc, circuit, Property::Bad(0), clauses, &mut budget)? {
         Certified::Certificate(certificate) => Ok(check(alloc, circuit, &certificate).is_ok()),
         _ => Ok(false),
@@ -70,17 +73,28 @@ pub(crate) fn is_shown(
     judge(alloc, circuit, &stimulus).is_ok()
 }
 
-/// Whether the circuit is found safe or not by this solver, with evidence that stands.
-fn found<S: PartSat>(alloc: Global, solver: S, circuit: &Model, safe: bool) -> Result<bool, Fail>
-    requires { IsForBad circuit.now }
-{
-    match Ic3::new(solver).find(alloc, circuit, &mut Budget::new(STEPS))? {
+/// Whether the finding says that the circuit is safe or not, with evidence that stands.
+pub(crate) fn is_backed(
+    alloc: Global,
+    circuit: &Model,
+    finding: Finding,
+    safe: bool,
+) -> Result<bool, Fail> {
+    match finding {
         Finding::Invariant(clauses) => Ok(
             safe && is_certified(alloc, circuit, clauses.as_slice())?,
         ),
         Finding::Run { initial, inputs } => Ok(!safe && is_shown(alloc, circuit, initial, inputs)),
         Finding::Unknown(_) => Ok(false),
     }
+}
+
+/// Whether the circuit is found safe or not by this solver, with evidence that stands.
+fn found<S: PartSat>(alloc: Global, solver: S, circuit: &Model, safe: bool) -> Result<bool, Fail>
+    requires { IsForBad circuit.now }
+{
+    let finding = Ic3::new(solver).find(alloc, circuit, &mut Budget::new(STEPS))?;
+    is_backed(alloc, circuit, finding, safe)
 }
 
 /// The same of the circuit of a text, by each of the two solvers.
@@ -123,15 +137,15 @@ impl Progress for Told {
     fn round_begun(&mut self, _round: u64, _clauses: usize, _budget: &Budget) {}
 }
 
-/// The progress of the search in the circuit of a text.
-fn told_of(alloc: Global, text: &[u8]) -> Result<Told, Fail> {
+/// The progress of the search in the circuit of a text by this solver.
+fn told_of<S: PartSat>(alloc: Global, solver: S, text: &[u8]) -> Result<Told, Fail> {
     let circuit = circuit(alloc, text)?;
     let nothing = Told {
         frame: 0,
         clauses: 0,
         queries: 0,
     };
-    let mut engine = Ic3::new(Cdcl::new(alloc)).with_progress(nothing);
+    let mut engine = Ic3::new(solver).with_progress(nothing);
     engine.find(alloc, &circuit, &mut Budget::new(STEPS))?;
     Ok(engine.into_progress())
 }
@@ -140,7 +154,9 @@ fn told_of(alloc: Global, text: &[u8]) -> Result<Told, Fail> {
 /// clause; asked again, it excludes the bad literal. Frame 2 has the clause too.
 #[test]
 fn tells_how_far_it_has_come(rt: HostRuntime) -> Result<(), Fail> {
-    let told = told_of(rt.alloc(), WORKED[0].0)?;
+    let told = told_of(rt.alloc(), Cdcl::new(rt.alloc()), WORKED[0].0)?;
+    assert!(rt; told.frame == 2 && told.clauses == 1 && told.queries == 4);
+    let told = told_of(rt.alloc(), Plain::new(rt.alloc()), WORKED[0].0)?;
     assert!(rt; told.frame == 2 && told.clauses == 1 && told.queries == 4);
     Ok(())
 }

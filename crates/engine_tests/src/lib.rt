@@ -4,16 +4,24 @@
 #![tactic(auto)]
 
 #[cfg(test)]
+mod asked_again;
+#[cfg(test)]
 mod backtracking;
 #[cfg(test)]
 mod bounded;
 #[cfg(test)]
 mod equal_registers;
 #[cfg(test)]
+mod exhaustive;
+#[cfg(test)]
 mod inductive;
 #[cfg(test)]
 mod literals;
 #[cfg(test)]
+mod random_circuits;
+#[cfg(test)]
 mod random_engine;
+#[cfg(test)]
+mod random_registers;
 #[cfg(test)]
 mod solvers;

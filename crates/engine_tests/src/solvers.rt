@@ -82,7 +82,7 @@ fn clause_end(list: &[i32], start: usize) -> usize
 }
 
 /// The formula of a list of clauses, each of which ends with 0 and whose literals must be in range.
-fn formula(alloc: Global, vars: u16, list: &[i32]) -> Result<Formula, Trouble>
+pub fn formula(alloc: Global, vars: u16, list: &[i32]) -> Result<Formula, Trouble>
     ensures vars { IfOk result (λ f. f.vars ≡ vars) }
     ensures is_formula { IfOk result IsFormula }
 {
@@ -162,7 +162,7 @@ fn is_true(values: &[bool], literal: i32) -> bool {
 }
 
 /// Whether each clause has a true literal.
-fn satisfies(values: &[bool], formula: &Formula) -> bool {
+pub fn satisfies(values: &[bool], formula: &Formula) -> bool {
     for clause in formula.clauses.as_slice() {
         if !clause
             .as_slice()
@@ -187,7 +187,7 @@ fn is_among(literals: &[i32], others: &[i32]) -> bool {
 
 /// Whether it is a model of the formula, with a value for each variable and for 0, where no core is wanted, and else a
 /// core of such literals.
-fn is_right(answer: &Answer, formula: &Formula, core: Option<&[i32]>) -> bool {
+pub fn is_right(answer: &Answer, formula: &Formula, core: Option<&[i32]>) -> bool {
     match (answer, core) {
         (Answer::Model(values), None) => {
             values.len() as u64 == u64::from(formula.vars) + 1

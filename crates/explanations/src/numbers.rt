@@ -245,7 +245,7 @@ static ROWS: [Explanation; 54] = [
     },
     Explanation {
         number: 70,
-        meaning: "the first line is neither aigcert 1 nor aigcert 2",
+        meaning: "the first line is neither aigcert 1 nor aigcert 2, nor in aigcheck aigcert 3",
         remedy: "give circuit and certificate in this order",
     },
     Explanation {
@@ -256,7 +256,7 @@ static ROWS: [Explanation; 54] = [
     Explanation {
         number: 72,
         meaning: "another section is due, or none",
-        remedy: "n sections i, n sections s, one section b",
+        remedy: "n sections i, n sections s, one section b; in version 3 one of each",
     },
     Explanation {
         number: 80,

@@ -1,7 +1,7 @@
 //! From a justice property and a number of rounds to a bad literal.
 
 ghost use Rattle.std.specs.Prelude.{◌≡◌, ℕ, ◌+◌, ◌*◌, ◌^◌, ◌<◌, ◌≤◌, ◌++◌, ◌↔◌, length, All, IfOk, IfErr, IsTrue, OnOk};
-ghost use Rattle.graph.specs.Justice.{wanted_of};
+ghost use Rattle.graph.specs.Circuits.{wanted_of};
 ghost use Rattle.graph.specs.WellFormed.{IsWellFormed};
 ghost use Rattle.live_safe.specs.Shadow.{chain_gates, chain_end, negative as negative_of};
 ghost use Rattle.extension.specs.Rounds.{always, missing_gates, met_literals, open_gates, seen_latches, stage_gates, stage_latches, ended_literal, rounds_of};

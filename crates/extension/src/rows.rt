@@ -1,7 +1,7 @@
 //! The new variables of the circuit that counts rounds.
 
 ghost use Rattle.std.specs.Prelude.{◌≡◌, ℕ, ◌+◌, ◌*◌, ◌≤◌, length};
-ghost use Rattle.graph.specs.Justice.{wanted_of};
+ghost use Rattle.graph.specs.Circuits.{wanted_of};
 ghost use Rattle.extension.specs.Rows.{AreRows, AreSpaced};
 
 use graph::{Lit, Parts};

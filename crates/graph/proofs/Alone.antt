@@ -5,9 +5,7 @@ use Rattle.graph.specs.declared.circuit.Lit.{Lit}
 use Rattle.graph.specs.declared.circuit.Property.{Property}
 use Rattle.graph.specs.declared.circuit.Property.TheVariants.{Bad, Justice, Output}
 use Rattle.graph.specs.declared.parts.Parts.{Parts}
-use Rattle.graph.specs.Properties.{HasProperty, IsWatched}
-use Rattle.graph.specs.Valuation.{Valuation, Agrees}
-use Rattle.graph.specs.Runs.{StartsInitial, Steps, IsRun, IsSafe}
+use Rattle.graph.specs.Circuits.{HasProperty, IsWatched, Valuation, Agrees, StartsInitial, Steps, IsRun, IsSafe}
 use Rattle.graph.specs.WellFormed.{only_bad}
 
 -- ---- the literal that is watched

@@ -4,12 +4,11 @@ use Rattle.std.proofs.lemmas.Bool.{cases_eq}
 use Rattle.std.proofs.lemmas.List.{length-map, get_or_default}
 use Rattle.std.proofs.lemmas.List.Elements.{Contains-get_or}
 use Rattle.graph.specs.declared.circuit.Gate.{Gate}
-use Rattle.graph.specs.Valuation.{variable}
+use Rattle.graph.specs.Circuits.{variable}
 use Rattle.graph.specs.WellFormed.{IsOrder, Reads, gate_in}
-use Rattle.graph.specs.Faults.{IsLeast}
+use Rattle.graph.specs.Faults.{IsLeast, LeadsIntoCycle}
 use Rattle.graph.specs.declared.ordering.Mark.{Mark}
 use Rattle.graph.specs.declared.ordering.Mark.TheVariants.{Waiting, Open, Ordered, Stuck}
-use Rattle.graph.specs.Faults.{LeadsIntoCycle}
 use Rattle.graph.specs.Search.{lefts, left_in, mark_of, Says, IsSearch, IsEnded}
 use Rattle.graph.proofs.Cycles.{IsOnce, IsBeginning, left_at, chain_gate, ordered_no_cycle, whole_order}
 use Rattle.graph.proofs.Searching.{beginning, mark_same, mark_other}

@@ -8,8 +8,8 @@ use Rattle.graph.specs.declared.circuit.Lit.{Lit}
 use Rattle.graph.specs.declared.circuit.Latch.{Latch}
 use Rattle.graph.specs.declared.circuit.Gate.{Gate}
 use Rattle.graph.specs.declared.parts.Parts.{Parts}
-use Rattle.graph.specs.Valuation.{place, variable, value_of, defined, state_of, inputs_of, Fires, Agrees}
-use Rattle.graph.specs.WellFormed.{gate_in, Reads, IsModel, IsWellFormed, used, justice_literals}
+use Rattle.graph.specs.Circuits.{place, variable, value_of, defined, state_of, inputs_of, Fires, Agrees, justice_literals}
+use Rattle.graph.specs.WellFormed.{gate_in, Reads, IsModel, IsWellFormed, used}
 use Rattle.graph.proofs.Gates.{left, value_of-even}
 
 pub true_or_false : (b : Bool) → (b ≡ true) ⊎ (b ≡ false)

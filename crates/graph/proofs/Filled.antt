@@ -3,7 +3,7 @@ use Rattle.std.proofs.Common.{◌≡◌, ℕ, ◌+◌, ◌<◌, ◌≢◌, ◌�
 use Rattle.std.proofs.lemmas.Bool.Decides.{eqb_tells}
 use Rattle.std.proofs.lemmas.List.Elements.{Contains-get_or}
 use Rattle.std.proofs.lemmas.List.{get_or-map}
-use Rattle.graph.specs.Valuation.{place}
+use Rattle.graph.specs.Circuits.{place}
 
 -- the first n variables have their values, and every other place is as it was
 pub record Written (vars : List ℕ) (values before w : List Bool) (n : ℕ) : Type 0 where

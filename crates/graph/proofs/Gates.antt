@@ -5,7 +5,7 @@ use Rattle.std.proofs.lemmas.List.Elements.{Contains-get_or}
 use Rattle.std.proofs.lemmas.List.{get_or-map, length-map, get_or_default}
 use Rattle.graph.specs.declared.circuit.Lit.{Lit}
 use Rattle.graph.specs.declared.circuit.Gate.{Gate}
-use Rattle.graph.specs.Valuation.{place, variable, value_of, Fires}
+use Rattle.graph.specs.Circuits.{place, variable, value_of, Fires}
 use Rattle.graph.specs.WellFormed.{gate_in, Reads, IsOrder}
 use Rattle.graph.proofs.Filled.{same_or_not, place-set_same, place-set_other}
 

@@ -11,7 +11,8 @@ use Rattle.std.proofs.lemmas.List.{take_more, length-map, map-append}
 use Rattle.graph.specs.declared.circuit.Lit.{Lit}
 use Rattle.graph.specs.declared.circuit.Use.{Use}
 use Rattle.graph.specs.declared.parts.Parts.{Parts}
-use Rattle.graph.specs.WellFormed.{IsInLimits, justice_literals}
+use Rattle.graph.specs.WellFormed.{IsInLimits}
+use Rattle.graph.specs.Circuits.{justice_literals}
 use Rattle.graph.specs.declared.error.ReadError.{ReadError}
 use Rattle.graph.specs.declared.error.ReadError.TheVariants.{TooLong, Header, Number, Limit, Byte, Truncated, LiteralRange, Defining, DefinedTwice, Undefined, Cyclic, Reset, Delta, Symbol, Counts, NoProperty, OutOfMemory}
 use Rattle.graph.specs.Uses.{IsFine, IsFirst, uses_of, latch_uses, gate_uses}

@@ -4,7 +4,8 @@ use Rattle.std.specs.List.{flat_map}
 use Rattle.graph.specs.declared.circuit.Use.{Use}
 use Rattle.graph.specs.declared.circuit.Use.TheVariants.{Defines, Mentions}
 use Rattle.graph.specs.declared.parts.Parts.{Parts}
-use Rattle.graph.specs.WellFormed.{IsInLimits, justice_literals}
+use Rattle.graph.specs.WellFormed.{IsInLimits}
+use Rattle.graph.specs.Circuits.{justice_literals}
 use Rattle.graph.specs.Uses.{uses_of, latch_uses, gate_uses}
 use Rattle.graph.proofs.Going.{uses-few}
 

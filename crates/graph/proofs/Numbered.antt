@@ -4,7 +4,7 @@ use Rattle.std.proofs.Math.ListN.{get_or-append}
 use Rattle.std.proofs.lemmas.Bool.{cases_lt}
 use Rattle.std.proofs.lemmas.List.{get_or_default, get_or-append-add}
 use Rattle.graph.specs.declared.circuit.Lit.{Lit}
-use Rattle.graph.specs.WellFormed.{IsNumbered}
+use Rattle.graph.specs.Circuits.{IsNumbered}
 
 -- the literals before place i are those of the variables from first on
 abbrev pub IsNumberedTo : ℕ → List Lit → ℕ → Type 0

@@ -8,8 +8,8 @@ use Rattle.graph.specs.declared.circuit.Lit.{Lit}
 use Rattle.graph.specs.declared.circuit.Gate.{Gate}
 use Rattle.graph.specs.declared.circuit.Latch.{Latch}
 use Rattle.graph.specs.declared.parts.Parts.{Parts}
-use Rattle.graph.specs.Valuation.{variable, defined}
-use Rattle.graph.specs.WellFormed.{defining, used, IsNumbered, IsDescending, IsOrdered, Needs, Reads, IsChain, HasNoCycle, gate_in, IsOrder, IsModel}
+use Rattle.graph.specs.Circuits.{variable, defined, defining, IsNumbered, IsDescending, IsOrdered}
+use Rattle.graph.specs.WellFormed.{used, Needs, Reads, IsChain, HasNoCycle, gate_in, IsOrder, IsModel}
 use Rattle.graph.specs.Faults.{HasFineLiterals, HasDefined}
 use Rattle.graph.proofs.Blank.{blank_lit}
 use Rattle.graph.proofs.Filled.{same_or_not}

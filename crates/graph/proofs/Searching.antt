@@ -7,7 +7,7 @@ use Rattle.std.proofs.lemmas.List.Sums.{sum_by-set}
 use Rattle.std.proofs.lemmas.List.Elements.{Contains-append_left, Contains-push, Contains-push_cases, All-push, All-map}
 use Rattle.std.proofs.lemmas.List.Quantifiers.{all_pairs_push}
 use Rattle.graph.specs.declared.circuit.Gate.{Gate}
-use Rattle.graph.specs.Valuation.{variable}
+use Rattle.graph.specs.Circuits.{variable}
 use Rattle.graph.specs.WellFormed.{Reads, Needs, Leads}
 use Rattle.graph.specs.declared.ordering.Mark.{Mark}
 use Rattle.graph.specs.declared.ordering.Mark.TheVariants.{Waiting, Open, Ordered, Stuck}

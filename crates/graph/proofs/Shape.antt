@@ -13,11 +13,10 @@ use Rattle.graph.specs.declared.circuit.Use.TheVariants.{Defines, Mentions, Rese
 use Rattle.graph.specs.declared.circuit.Property.{Property}
 use Rattle.graph.specs.declared.circuit.Property.TheVariants.{Bad, Justice, Output}
 use Rattle.graph.specs.declared.parts.Parts.{Parts}
-use Rattle.graph.specs.Properties.{IsWatched}
+use Rattle.graph.specs.Circuits.{IsWatched, variable, defined, HasReset, defining, justice_literals}
 use Rattle.graph.specs.declared.error.ReadError.{ReadError}
 use Rattle.graph.specs.declared.error.ReadError.TheVariants.{TooLong, Header, Number, Limit, Byte, Truncated, LiteralRange, Defining, DefinedTwice, Undefined, Cyclic, Reset, Delta, Symbol, Counts, NoProperty, OutOfMemory}
-use Rattle.graph.specs.Valuation.{variable, defined}
-use Rattle.graph.specs.WellFormed.{IsWellFormed, IsInLimits, HasReset, HasNoCycle, defining, used, justice_literals, IsOrder, IsModel, only_bad}
+use Rattle.graph.specs.WellFormed.{IsWellFormed, IsInLimits, HasNoCycle, used, IsOrder, IsModel, only_bad}
 use Rattle.graph.specs.Uses.{uses_of, latch_uses, gate_uses, IsFine, IsFirst, IsOutOfRange, IsNotDefining, IsWrongReset}
 use Rattle.graph.specs.Faults.{HasCause, HasFineLiterals, HasDefined, IsFirstFault, IsUndefined, IsLeast, LeadsIntoCycle, counts_of}
 use Rattle.graph.specs.declared.definitions.Times.{Times}

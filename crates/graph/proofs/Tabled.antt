@@ -10,8 +10,8 @@ use Rattle.graph.specs.declared.circuit.Lit.{Lit}
 use Rattle.graph.specs.declared.parts.Parts.{Parts}
 use Rattle.graph.specs.declared.definitions.Times.{Times}
 use Rattle.graph.specs.declared.definitions.Times.TheVariants.{Never, Once, Again}
-use Rattle.graph.specs.Valuation.{variable}
-use Rattle.graph.specs.WellFormed.{justice_literals, used}
+use Rattle.graph.specs.Circuits.{variable, justice_literals}
+use Rattle.graph.specs.WellFormed.{used}
 use Rattle.graph.specs.Faults.{IsLeast, IsTwice, IsUndefined}
 use Rattle.graph.proofs.Evaluation.{All-left, All-right, All-unmap}
 use Rattle.graph.specs.Tables.{Stands, IsCounted, IsMarked, StaysCounted, StaysMarked}

@@ -2,9 +2,7 @@
 use Rattle.std.proofs.Common.{◌≡◌, ℕ, zero, suc, ◌+◌, ◌<◌, ◌≤◌, Bool, List, [], ◌∷◌, length, take, arith, sym, subst, get_or-take, length-take-le}
 use Rattle.std.proofs.lemmas.List.Elements.{All-take}
 use Rattle.graph.specs.declared.parts.Parts.{Parts}
-use Rattle.graph.specs.Valuation.{Agrees}
-use Rattle.graph.specs.Runs.{IsStep, IsInitial, Steps, StartsInitial, IsRun}
-use Rattle.graph.specs.Justice.{at}
+use Rattle.graph.specs.Circuits.{Agrees, IsStep, IsInitial, Steps, StartsInitial, IsRun, at}
 
 pub Steps-at : (m : Parts) (r : List (List Bool)) (t : ℕ) → Steps m r → t + 1 < length r → IsStep m (at r t) (at r (t + 1))
 Steps-at m [] t steps inside = absurd (omega arith)

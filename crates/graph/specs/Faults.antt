@@ -7,7 +7,7 @@ use Rattle.graph.specs.declared.circuit.Use.{Use}
 use Rattle.graph.specs.declared.parts.Parts.{Parts}
 use Rattle.graph.specs.declared.error.ReadError.{ReadError}
 use Rattle.graph.specs.declared.error.ReadError.TheVariants.{TooLong, Header, Number, Limit, Byte, Truncated, LiteralRange, Defining, DefinedTwice, Undefined, Cyclic, Reset, Delta, Symbol, Counts, NoProperty, OutOfMemory}
-use Rattle.graph.specs.Valuation.{variable, defined}
+use Rattle.graph.specs.Circuits.{variable, defined}
 use Rattle.graph.specs.WellFormed.{IsInLimits, Leads, used}
 use Rattle.graph.specs.Uses.{uses_of, IsFine, IsFirst, IsOutOfRange, IsNotDefining, IsWrongReset}
 

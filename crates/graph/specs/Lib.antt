@@ -1,7 +1,4 @@
-pub mod Valuation
-pub mod Properties
-pub mod Runs
-pub mod Justice
+pub mod Circuits
 pub mod WellFormed
 pub mod Uses
 pub mod Faults

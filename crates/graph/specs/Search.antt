@@ -1,7 +1,7 @@
 -- What the search for an order knows.
 use Rattle.std.specs.Prelude.{◌≡◌, ℕ, ◌+◌, ◌<◌, ◌≢◌, ◌⊎◌, List, map, length, slice_index, slice_index_or, All, AllPairs, Contains, []}
 use Rattle.graph.specs.declared.circuit.Gate.{Gate}
-use Rattle.graph.specs.Valuation.{variable}
+use Rattle.graph.specs.Circuits.{variable}
 use Rattle.graph.specs.WellFormed.{Reads, Needs}
 use Rattle.graph.specs.declared.ordering.Mark.{Mark}
 use Rattle.graph.specs.declared.ordering.Mark.TheVariants.{Waiting, Open, Ordered, Stuck}

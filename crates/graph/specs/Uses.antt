@@ -5,7 +5,7 @@ use Rattle.graph.specs.declared.circuit.Gate.{Gate}
 use Rattle.graph.specs.declared.parts.Parts.{Parts}
 use Rattle.graph.specs.declared.circuit.Use.{Use}
 use Rattle.graph.specs.declared.circuit.Use.TheVariants.{Defines, Mentions, Resets}
-use Rattle.graph.specs.WellFormed.{HasReset, justice_literals}
+use Rattle.graph.specs.Circuits.{HasReset, justice_literals}
 
 abbrev pub latch_uses : Latch → List Use
 latch_uses l = Defines l.lit ∷ Mentions l.next ∷ Resets l ∷ []

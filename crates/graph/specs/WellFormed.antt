@@ -1,28 +1,16 @@
 -- Which parts make a circuit (AIGER 1.9, with this project's limits).
-use Rattle.std.specs.Prelude.{◌≡◌, ℕ, ◌+◌, ◌*◌, ◌%◌, ◌<◌, ◌≤◌, ◌≢◌, ◌⊎◌, List, [], ◌∷◌, ◌++◌, map, length, sum_by, slice_index, slice_index_or, All, Any, AllPairs, Contains, flat_map}
+use Rattle.std.specs.Prelude.{◌≡◌, ℕ, ◌+◌, ◌*◌, ◌%◌, ◌<◌, ◌≤◌, ◌≢◌, ◌⊎◌, List, [], ◌∷◌, ◌++◌, map, length, sum_by, slice_index, slice_index_or, All, Any, AllPairs, Contains}
 use Rattle.graph.specs.declared.circuit.Lit.{Lit}
-use Rattle.graph.specs.declared.circuit.Latch.{Latch}
 use Rattle.graph.specs.declared.circuit.Gate.{Gate}
+use Rattle.graph.specs.declared.circuit.Property.{Property}
 use Rattle.graph.specs.declared.parts.Parts.{Parts}
-use Rattle.graph.specs.Valuation.{variable, defined}
-
--- the literals that define something: inputs, latches and the gates' left sides
-abbrev pub defining : Parts → List Lit
-defining m = m.inputs ++ map (λ l. l.lit) m.latches ++ map (λ g. g.lhs) m.gates
-
--- the literals of all justice properties
-abbrev pub justice_literals : List (List Lit) → List Lit
-justice_literals properties = flat_map (λ lits. lits) properties
+use Rattle.graph.specs.Circuits.{variable, defined, defining, justice_literals, HasReset, IsWatched}
 
 -- the literals that are only used
 abbrev pub used : Parts → List Lit
 used m =
     map (λ l. l.next) m.latches ++ m.outputs ++ m.bad ++ m.constraints ++ justice_literals m.justice ++ m.fairness
     ++ map (λ g. g.rhs0) m.gates ++ map (λ g. g.rhs1) m.gates
-
--- a reset is 0, 1 or the latch's own literal
-abbrev pub HasReset : Latch → Type 0
-HasReset l = (l.reset.0 ≡ 0) ⊎ (l.reset.0 ≡ 1) ⊎ (l.reset.0 ≡ l.lit.0)
 
 -- v is the variable of a right side of the gate
 abbrev pub Reads : Gate → ℕ → Type 0
@@ -86,21 +74,13 @@ pub record IsModel (m : Parts) (order : List ℕ) : Type 0 where
   pub well_formed : IsWellFormed m
   pub ordered : IsOrder m.gates order
 
--- the literals are those of the variables from first on
-abbrev pub IsNumbered : ℕ → List Lit → Type 0
-IsNumbered first lits = (k : ℕ) (d : Lit) → k < length lits → (slice_index_or lits k d).0 ≡ 2 * (first + k)
-
--- the gate's literals descend, the right sides below the left
-abbrev pub IsDescending : Gate → Type 0
-IsDescending g = (g.rhs0.0 < g.lhs.0) × (g.rhs1.0 ≤ g.rhs0.0)
-
--- the numbering of the binary layout: inputs, then latches, then gates have the literals 2, 4, 6 and so on, no variable
--- is left over, and each gate's literals descend
-pub record IsOrdered (m : Parts) : Type 0 where
-  pub all_defined : m.max_var ≡ length (defining m)
-  pub numbered : IsNumbered 1 (defining m)
-  pub descending : All IsDescending m.gates
-
 -- the same circuit and constraints with one bad literal and nothing else to show
 abbrev pub only_bad : Parts → Lit → Parts
 only_bad m a = record m { outputs = []; bad = a ∷ []; justice = []; fairness = [] }
+
+-- the second circuit is the first with the literal that the property watches as its one bad literal, and nothing else to
+-- show
+pub record IsAlone (m : Parts) (p : Property) (one : Parts) : Type 0 where
+  pub bad : Lit
+  pub watched : IsWatched m p bad
+  pub only : one ≡ only_bad m bad

@@ -1,7 +1,7 @@
 //! What a circuit is made of.
 
 ghost use Rattle.std.specs.Prelude.{◌≡◌, ◌%◌, ◌↔◌, IsTrue};
-ghost use Rattle.graph.specs.Valuation.{variable as variable_of};
+ghost use Rattle.graph.specs.Circuits.{variable as variable_of};
 
 /// A literal (AIGER): variable `v` is `2v` and its negation is `2v + 1`; 0 is false and 1 is true.
 #[derive(Clone, Copy, PartialEq, Eq)]

@@ -3,9 +3,8 @@
 ghost use Rattle.std.specs.Prelude.{◌≡◌, ◌≢◌, ◌+◌, ◌≤◌, ◌⊎◌, ◌↔◌, ◌∷◌, [], List, Bool, length, slice_get, IsTrue, IfOk, IfErr, IsErrOf};
 ghost use Rattle.base.specs.Witness.{witness};
 ghost use Rattle.graph.specs.Faults.{HasCause};
-ghost use Rattle.graph.specs.Properties.{HasProperty, IsAlone, IsWatched};
-ghost use Rattle.graph.specs.Valuation.{Agrees, state_of, inputs_of};
-ghost use Rattle.graph.specs.WellFormed.{IsWellFormed, IsOrder, IsOrdered, only_bad};
+ghost use Rattle.graph.specs.Circuits.{HasProperty, IsWatched, Agrees, state_of, inputs_of, IsOrdered};
+ghost use Rattle.graph.specs.WellFormed.{IsAlone, IsWellFormed, IsOrder, only_bad};
 ghost use Rattle.graph.specs.declared.circuit.Property.{Property};
 ghost use Rattle.graph.specs.declared.circuit.Property.TheVariants.{Bad, Output};
 

@@ -1,7 +1,8 @@
 //! The numbering of the binary layout.
 
 ghost use Rattle.std.specs.Prelude.{◌≡◌, ◌+◌, ◌^◌, ◌<◌, ◌↔◌, length, map, All, IsTrue};
-ghost use Rattle.graph.specs.WellFormed.{IsInLimits, IsOrdered, IsNumbered, IsDescending, defining};
+ghost use Rattle.graph.specs.WellFormed.{IsInLimits};
+ghost use Rattle.graph.specs.Circuits.{IsOrdered, IsNumbered, IsDescending, defining};
 
 use crate::circuit::{Gate, Latch, Lit};
 use crate::parts::Parts;

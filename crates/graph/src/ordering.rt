@@ -5,7 +5,7 @@
 //! enters and leaves the stack once, and is looked at three times at most.
 
 ghost use Rattle.std.specs.Prelude.{◌≡◌, ℕ, ◌+◌, ◌<◌, ◌≤◌, ◌≢◌, ◌++◌, ◌∷◌, [], length, map, All, AllPairs, Contains, ◌-◌, ◌^◌, IfOk, OnOk, MatchResult, MatchOption, IsTrue, ◌↔◌, slice_index, slice_index_or, slice_set, take, sum_by, List, vec_len};
-ghost use Rattle.graph.specs.Valuation.{variable};
+ghost use Rattle.graph.specs.Circuits.{variable};
 ghost use Rattle.graph.specs.WellFormed.{IsOrder};
 ghost use Rattle.graph.specs.Faults.{IsLeast, LeadsIntoCycle};
 ghost use Rattle.graph.specs.Search.{lefts, mark_of, weight, ArePlaces, IsSearch, StepIs, Asks};

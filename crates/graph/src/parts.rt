@@ -3,7 +3,7 @@
 ghost use Rattle.std.specs.Mem.{type_size};
 ghost use Rattle.std.specs.Prelude.{◌≡◌, ◌↔◌, [], IfOk, OnOk, IsTrue};
 ghost use Rattle.base.specs.Sizes.{IsItemSize};
-ghost use Rattle.graph.specs.Properties.{AreOutputsBad, HasProperty};
+ghost use Rattle.graph.specs.Circuits.{AreOutputsBad, HasProperty};
 ghost use Rattle.graph.specs.WellFormed.{only_bad as only_bad_of};
 
 use crate::circuit::{Gate, Latch, Lit, Property};

@@ -5,8 +5,7 @@ use Rattle.std.proofs.lemmas.Option.{get_or_from_slice_get}
 use Rattle.std.proofs.lemmas.List.Elements.{All-nil, All-cons, All-head, All-tail, Contains-get_or}
 use Rattle.graph.specs.declared.circuit.Lit.{Lit}
 use Rattle.graph.specs.declared.parts.Parts.{Parts}
-use Rattle.graph.specs.Valuation.{Valuation, value_of, state_of, Agrees}
-use Rattle.graph.specs.Runs.{IsRun, KeepsConstraints, Steps, next_state}
+use Rattle.graph.specs.Circuits.{Valuation, value_of, state_of, Agrees, IsRun, KeepsConstraints, Steps, next_state}
 use Rattle.cnf.specs.Formulas.{bad_literal}
 use Rattle.cnf.specs.Meaning.{KeepsNow}
 use Rattle.ic3_step.specs.States.{IsTime}

@@ -6,8 +6,7 @@ use Rattle.std.proofs.lemmas.List.{get_or-map}
 use Rattle.base.specs.Budget.{Steps}
 use Rattle.graph.specs.declared.circuit.Latch.{Latch}
 use Rattle.graph.specs.declared.parts.Parts.{Parts}
-use Rattle.graph.specs.Valuation.{Valuation, value_of, state_of}
-use Rattle.graph.specs.Runs.{IsReset}
+use Rattle.graph.specs.Circuits.{Valuation, value_of, state_of, IsReset}
 use Rattle.ic3_step.specs.declared.state.StateLit.{StateLit}
 use Rattle.ic3_step.specs.declared.step.Consecution.TheVariants.{Held}
 use Rattle.ic3_step.specs.States.{IsPartOf, latch_at}

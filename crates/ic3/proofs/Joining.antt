@@ -5,7 +5,7 @@ use Rattle.std.proofs.lemmas.List.{get_or_default}
 use Rattle.base.specs.Budget.{Steps}
 use Rattle.graph.specs.declared.circuit.Lit.{Lit}
 use Rattle.graph.specs.declared.parts.Parts.{Parts}
-use Rattle.graph.specs.Valuation.{Valuation, value_of, state_of}
+use Rattle.graph.specs.Circuits.{Valuation, value_of, state_of}
 use Rattle.graph.specs.WellFormed.{IsWellFormed}
 use Rattle.cnf.specs.Formulas.{bad_literal}
 use Rattle.cnf.proofs.Formed.{bad_known}

@@ -11,3 +11,4 @@ pub mod Rising
 pub mod Reduced
 pub mod Clear
 pub mod Queued
+pub mod Tried

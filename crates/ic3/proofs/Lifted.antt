@@ -7,8 +7,7 @@ use Rattle.graph.specs.declared.circuit.Lit.{Lit}
 use Rattle.graph.specs.declared.circuit.Gate.{Gate}
 use Rattle.graph.specs.declared.circuit.Latch.{Latch}
 use Rattle.graph.specs.declared.parts.Parts.{Parts}
-use Rattle.graph.specs.Valuation.{Valuation, variable, place, value_of, defined, state_of, inputs_of, Fires}
-use Rattle.graph.specs.Runs.{next_state}
+use Rattle.graph.specs.Circuits.{Valuation, variable, place, value_of, defined, state_of, inputs_of, Fires, next_state}
 use Rattle.graph.specs.WellFormed.{IsModel, IsWellFormed}
 use Rattle.graph.proofs.Evaluation.{held, Contains-map, inputs_even, latches_even, value_of-same, All-left, All-right}
 use Rattle.graph.proofs.Gates.{left, value_of-even}

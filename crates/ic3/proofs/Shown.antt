@@ -6,8 +6,7 @@ use Rattle.std.proofs.lemmas.List.Elements.{All-head, All-tail, All-cons, All-ni
 use Rattle.base.specs.Budget.{Steps as Spent}
 use Rattle.graph.specs.declared.circuit.Latch.{Latch}
 use Rattle.graph.specs.declared.parts.Parts.{Parts}
-use Rattle.graph.specs.Valuation.{Valuation, value_of, state_of, inputs_of, Agrees}
-use Rattle.graph.specs.Runs.{StartsInitial, Steps, KeepsConstraints, next_state}
+use Rattle.graph.specs.Circuits.{Valuation, value_of, state_of, inputs_of, Agrees, StartsInitial, Steps, KeepsConstraints, next_state}
 use Rattle.graph.specs.WellFormed.{IsModel}
 use Rattle.cnf.specs.Formulas.{bad_literal}
 use Rattle.cnf.specs.Meaning.{KeepsNow}

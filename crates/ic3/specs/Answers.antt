@@ -1,10 +1,9 @@
 -- What the search's queries are answered (Bradley 2011).
-use Rattle.std.specs.Prelude.{◌≡◌, ◌≢◌, ℕ, ◌<◌, ◌≤◌, Bool, true, List, [], ◌∷◌, filter, length, map, slice_index_or, All}
+use Rattle.std.specs.Prelude.{◌≡◌, ◌≢◌, ℕ, ◌+◌, ◌<◌, ◌≤◌, ◌⊎◌, Bool, true, List, [], ◌∷◌, filter, length, map, slice_index_or, All, Any, Contains}
 use Rattle.base.specs.Budget.{Steps}
 use Rattle.graph.specs.declared.circuit.Property.TheVariants.{Bad}
 use Rattle.graph.specs.declared.parts.Parts.{Parts}
-use Rattle.graph.specs.Valuation.{Valuation, value_of}
-use Rattle.graph.specs.Runs.{next_state}
+use Rattle.graph.specs.Circuits.{Valuation, value_of, next_state}
 use Rattle.cnf.specs.Formulas.{bad_literal}
 use Rattle.engine.specs.Bounds.{IsClear}
 use Rattle.engine.specs.Findings.{IsSo}
@@ -14,7 +13,7 @@ use Rattle.engine.specs.declared.finding.Reason.TheVariants.{Budget, Depth, NoEv
 use Rattle.ic3_step.specs.declared.state.StateLit.{StateLit}
 use Rattle.ic3_step.specs.declared.step.Consecution.{Consecution}
 use Rattle.ic3_step.specs.declared.step.Consecution.TheVariants.{Held, Broken, Spent}
-use Rattle.ic3_step.specs.States.{Denies, IsPartOf, IsAt}
+use Rattle.ic3_step.specs.States.{Denies, IsPartOf, IsAt, IsSet, IsTime}
 use Rattle.ic3_step.specs.Steps.{denials_of}
 use Rattle.ic3_frames.specs.declared.frames.Entry.{Entry}
 use Rattle.ic3_frames.specs.Clauses.{IsResetLit}
@@ -54,6 +53,48 @@ abbrev pub IsInductiveAnswer : Parts → List Entry → ℕ → List StateLit �
 IsInductiveAnswer m entries k c after (Held part) = IsInductiveFrom m entries k part × IsPartOf part c
 IsInductiveAnswer m entries k c after (Broken t) = (w : Valuation) × IsAt m (denials_of m.latches c) w t × Denies (next_state m w) c
 IsInductiveAnswer m entries k c after Spent = after.left ≡ 0
+
+-- a literal of the clause is this latch's
+abbrev pub HasLatch : List StateLit → ℕ → Type 0
+HasLatch c i = Any (λ a. a.latch ≡ i) c
+
+-- a step leads from a time that keeps the constraints to a state in which the clause is false
+abbrev pub IsFalseAfter : Parts → List StateLit → Type 0
+IsFalseAfter m c = (w : Valuation) × IsTime m w × Denies (next_state m w) c
+
+-- without this latch the clause is not inductive: none of its other literals is a reset, or a step leads to where all of them are unset
+abbrev pub IsNeeded : Parts → List StateLit → ℕ → Type 0
+IsNeeded m c i =
+    All (λ a. a.latch ≢ i → IsResetLit m.latches a → ⊥) c ⊎ ((w : Valuation) × IsTime m w × All (λ a. a.latch ≢ i → IsSet (next_state m w) a → ⊥) c)
+
+-- the clause lacks this latch, or needs it, or the budget is exhausted
+abbrev pub IsTried : Parts → List StateLit → ℕ → Steps → Type 0
+IsTried m c i after = (HasLatch c i → ⊥) ⊎ (IsNeeded m c i ⊎ (after.left ≡ 0))
+
+-- each latch of the clause is one of the clause that was needed before, or the clause needs it, or the budget is exhausted
+abbrev pub IsShortened : Parts → List StateLit → Steps → List StateLit → Type 0
+IsShortened m before after c = All (λ a. HasLatch before a.latch ⊎ (IsNeeded m c a.latch ⊎ (after.left ≡ 0))) c
+
+-- the clause cannot be pushed on from this frame: there is no next one, or a step leads to where it is false, or the budget is exhausted
+abbrev pub IsFurthest : Parts → ℕ → List StateLit → Steps → ℕ → Type 0
+IsFurthest m top c after k = (top ≤ k + 1) ⊎ (IsFalseAfter m c ⊎ (after.left ≡ 0))
+
+-- the clause is empty, or it ends at the level and is part of the whole one
+abbrev pub IsBefore : List Entry → ℕ → List StateLit → List StateLit → Type 0
+IsBefore entries level whole c = (c ≡ []) ⊎ (Contains entries (record { clause = c; level = level }) × IsPartOf c whole)
+
+-- a part of the clause, which was made shorter, joined the frames as far on as it can be pushed; it was not tried without the latches of a
+-- clause that ends at the level and is part of the same one, if there is one
+pub record IsLearned (m : Parts) (old new : Levels) (level : ℕ) (whole : List StateLit) (after : Steps) : Type 0 where
+  pub clause : List StateLit
+  pub before : List StateLit
+  pub last : ℕ
+  pub joined : Contains new.entries (record { clause = clause; level = last + 1 })
+  pub part : IsPartOf clause whole
+  pub ends : IsBefore old.entries level whole before
+  pub shortened : IsShortened m before after clause
+  pub no_less : level ≤ last
+  pub furthest : IsFurthest m old.top clause after last
 
 -- an obligation's clause is over the latches, and false in its state; that and its inputs have the circuit's lengths
 pub record IsObligation (m : Parts) (o : Obligation) : Type 0 where

@@ -5,8 +5,7 @@ use Rattle.std.specs.Prelude.{◌≡◌, ℕ, ◌+◌, ◌<◌, Bool, true, fals
 use Rattle.graph.specs.declared.circuit.Lit.{Lit}
 use Rattle.graph.specs.declared.circuit.Latch.{Latch}
 use Rattle.graph.specs.declared.parts.Parts.{Parts}
-use Rattle.graph.specs.Valuation.{Valuation, variable, place, value_of, Agrees, state_of, inputs_of}
-use Rattle.graph.specs.Runs.{next_state}
+use Rattle.graph.specs.Circuits.{Valuation, variable, place, value_of, Agrees, state_of, inputs_of, next_state}
 use Rattle.cnf.specs.Formulas.{bad_literal}
 use Rattle.cnf.specs.Meaning.{KeepsNow}
 use Rattle.cones.specs.Marks.{IsMarked}

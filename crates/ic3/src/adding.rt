@@ -1,6 +1,6 @@
 //! Clauses that join the frames.
 
-ghost use Rattle.std.specs.Prelude.{◌≡◌, ◌+◌, ◌<◌, Bool, List, OnOk};
+ghost use Rattle.std.specs.Prelude.{◌≡◌, ◌+◌, ◌<◌, Bool, List, Contains, OnOk};
 ghost use Rattle.ic3_step.specs.States.{Holds};
 ghost use Rattle.ic3_frames.specs.Frames.{InFrame};
 ghost use Rattle.ic3.specs.Sound.{IsSound};
@@ -27,6 +27,7 @@ impl<S: PartSat> FrameSolver<S> {
         requires inductive { IsInductiveFrom circuit.now frames.old.entries level clause }
         ensures top { frames.new.top ≡ frames.old.top }
         ensures sound { OnOk result (IsSound circuit.now self.new frames.new) }
+        ensures joined { OnOk result (Contains frames.new.entries (record { clause = clause; level = level + 1 })) }
         ensures held { OnOk result ((s : List Bool) → InFrame frames.new.entries (level + 1) s → Holds s clause) }
     {
         let alloc = frames.allocator();

@@ -5,11 +5,12 @@ ghost use Rattle.base.specs.Budget.{Spends};
 ghost use Rattle.ic3_step.specs.States.{Holds, IsPartOf};
 ghost use Rattle.ic3_frames.specs.Frames.{InFrame, IsStateClause};
 ghost use Rattle.ic3.specs.Sound.{IsSound};
-ghost use Rattle.ic3.specs.Answers.{IsInductiveFrom, IsBlocking};
+ghost use Rattle.ic3.specs.Answers.{IsBefore, IsBlocking, IsInductiveFrom, IsLearned};
 ghost use Rattle.ic3.specs.declared.blocking.Blocking.TheVariants.{Blocked};
 
 use crate::frame_solver::FrameSolver;
 use crate::reset::reset_literal;
+use base::Refused;
 use engine::EngineError;
 use graph::{Budget, Model, Seq};
 use ic3_frames::Frames;
@@ -27,6 +28,20 @@ pub(crate) enum Blocking {
     Predecessor(Assignment),
     /// The budget is exhausted.
     Spent,
+}
+
+/// Of the clauses that end at the level and are part of this one, the longest; or no literals where there is none.
+fn longest_before<'a>(
+    frames: &'a Frames,
+    level: u32,
+    whole: &[StateLit],
+) -> Result<&'a [StateLit], Refused>
+    ensures { IfOk result (λ c. IsBefore frames.now.entries level whole.now c.now) }
+{
+    match frames.longest_part(frames.allocator(), level, whole)? {
+        Some(place) => Ok(frames.entries()[place].clause.as_slice()),
+        None => Ok(&[]),
+    }
 }
 
 impl<S: PartSat> FrameSolver<S> {
@@ -50,12 +65,9 @@ impl<S: PartSat> FrameSolver<S> {
         ensures spends { Spends budget.old budget.new }
         ensures sound { OnOk result (IsSound circuit.now self.new frames.new) }
         ensures held { OnOk result ((s : List Bool) → InFrame frames.new.entries (level + 1) s → Holds s whole.now) }
+        ensures learned { OnOk result (IsLearned circuit.now frames.old frames.new level whole.now budget.new) }
     {
-        let alloc = frames.allocator();
-        let needed = match frames.longest_part(alloc, level, whole)? {
-            Some(place) => frames.entries()[place].clause.as_slice(),
-            None => &[],
-        };
+        let needed = longest_before(frames, level, whole)?;
         let before = clause.as_slice().len();
         let shorter = self.generalize(circuit, frames, level, clause, needed, budget)?;
         self.transition

@@ -1,15 +1,15 @@
 //! Clauses that hold at first, and after each step from a frame in which they hold.
 
-ghost use Rattle.std.specs.Prelude.{◌≡◌, ◌<◌, ◌≤◌, true, Contains, IfOk, IfSome, OnOk};
+ghost use Rattle.std.specs.Prelude.{◌≡◌, ◌<◌, ◌≤◌, true, None, Contains, IfOk, IfSome, OnOk};
 ghost use Rattle.base.specs.Budget.{Spends};
 ghost use Rattle.ic3_step.specs.States.{IsPartOf};
 ghost use Rattle.ic3_frames.specs.Clauses.{IsResetLit};
 ghost use Rattle.ic3_frames.specs.Frames.{IsStateClause, HoldsOnward};
 ghost use Rattle.ic3.specs.Sound.{IsSound};
-ghost use Rattle.ic3.specs.Answers.{IsInductiveFrom, IsInductiveAnswer};
+ghost use Rattle.ic3.specs.Answers.{HasLatch, IsFurthest, IsInductiveFrom, IsInductiveAnswer, IsShortened, IsTried};
 
 use crate::frame_solver::FrameSolver;
-use crate::order::rarest_first;
+use crate::order::{has_latch, rarest_first};
 use crate::picked::{with_part, without};
 use crate::reset::reset_literal;
 use engine::EngineError;
@@ -51,7 +51,8 @@ impl<S: PartSat> FrameSolver<S> {
         }
     }
 
-    /// Asks for the clause without the literal of a latch, or for a part of that.
+    /// Asks for the clause without the literal of a latch, or for a part of that. It answers none only where the clause lacks the latch
+    /// or needs it, or where the budget is exhausted.
     fn drop_literal(
         &mut self,
         circuit: &Model,
@@ -66,8 +67,10 @@ impl<S: PartSat> FrameSolver<S> {
         ensures spends { Spends budget.old budget.new }
         ensures sound { OnOk result (IsSound circuit.now self.new frames.now) }
         ensures lawful { IfOk result (λ r. IfSome r (λ part. IsInductiveFrom circuit.now frames.now.entries level part × IsPartOf part clause.now)) }
+        ensures without { IfOk result (λ r. IfSome r (λ part. HasLatch part latch → ⊥)) }
+        ensures none { IfOk result (λ r. r ≡ None → IsTried circuit.now clause.now latch budget.new) }
     {
-        if !clause.iter().any(|lit| lit.latch == latch) {
+        if !has_latch(clause, latch) {
             return Ok(None);
         }
         let shorter = without(frames.allocator(), clause, latch)?;
@@ -78,7 +81,8 @@ impl<S: PartSat> FrameSolver<S> {
         self.transition.count(Counted::DropQuery);
         match self.inductive(circuit, frames, level, shorter, first, budget)? {
             Consecution::Held(part) => Ok(Some(part)),
-            _ => Ok(None),
+            Consecution::Broken(_) => Ok(None),
+            Consecution::Spent => Ok(None),
         }
     }
 
@@ -100,10 +104,11 @@ impl<S: PartSat> FrameSolver<S> {
         ensures sound { OnOk result (IsSound circuit.now self.new frames.now) }
         ensures inductive { IfOk result (IsInductiveFrom circuit.now frames.now.entries level) }
         ensures part { IfOk result (λ part. IsPartOf part clause) }
+        ensures shortened { IfOk result (IsShortened circuit.now needed.now budget.new) }
     {
         let latches = rarest_first(frames.allocator(), frames.uses(), clause.as_slice(), needed)?;
         let mut kept = clause;
-        'dropping: for latch in &latches {
+        'dropping: for latch in latches.as_slice() {
             if !budget.tick() {
                 return Ok(kept);
             }
@@ -159,6 +164,7 @@ impl<S: PartSat> FrameSolver<S> {
         ensures no_less { IfOk result (λ k. level ≤ k) }
         ensures below { IfOk result (λ k. k < frames.new.top) }
         ensures inductive { IfOk result (λ k. IsInductiveFrom circuit.now frames.new.entries k clause.now) }
+        ensures furthest { IfOk result (IsFurthest circuit.now frames.new.top clause.now budget.new) }
     {
         let mut last = level;
         'pushing: for next in level + 1..frames.top() {

@@ -3,7 +3,7 @@
 
 ghost use Rattle.std.specs.Prelude.{◌≡◌, ◌+◌, ◌<◌, ◌++◌, ◌^◌, ◌↔◌, IsTrue, ℕ, false, length, All, IfOk, OnOk};
 ghost use Rattle.graph.specs.declared.parts.Parts.{Parts};
-ghost use Rattle.graph.specs.Valuation.{Valuation, variable, place};
+ghost use Rattle.graph.specs.Circuits.{Valuation, variable, place};
 ghost use Rattle.ic3_step.specs.States.{Denies, IsAt, AllSet};
 ghost use Rattle.ic3_step.specs.Replies.{IsUsable};
 ghost use Rattle.cones.specs.Marks.{IsMarked};

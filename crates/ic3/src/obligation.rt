@@ -2,8 +2,7 @@
 
 ghost use Rattle.std.specs.Prelude.{◌≡◌, ◌∷◌, [], true, None, Some, IfOk, OnOk};
 ghost use Rattle.engine.specs.Findings.{IsForBad};
-ghost use Rattle.graph.specs.Valuation.{Valuation, value_of};
-ghost use Rattle.graph.specs.Runs.{next_state};
+ghost use Rattle.graph.specs.Circuits.{Valuation, value_of, next_state};
 ghost use Rattle.cnf.specs.Formulas.{bad_literal};
 ghost use Rattle.ic3_step.specs.States.{IsAt, Denies};
 ghost use Rattle.ic3_step.specs.Steps.{denials_of};

@@ -3,7 +3,7 @@
 ghost use Rattle.std.specs.Prelude.{◌≡◌, ◌∷◌, [], true, IfOk, IfSome, OnOk};
 ghost use Rattle.base.specs.Budget.{Spends};
 ghost use Rattle.engine.specs.Findings.{IsForBad};
-ghost use Rattle.graph.specs.Valuation.{Valuation, value_of};
+ghost use Rattle.graph.specs.Circuits.{Valuation, value_of};
 ghost use Rattle.cnf.specs.Formulas.{bad_literal};
 ghost use Rattle.ic3_step.specs.States.{IsAt};
 ghost use Rattle.ic3.specs.Sound.{IsSound};

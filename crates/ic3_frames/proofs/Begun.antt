@@ -7,8 +7,7 @@ use Rattle.graph.proofs.Evaluation.{true_or_false}
 use Rattle.graph.specs.declared.circuit.Lit.{Lit}
 use Rattle.graph.specs.declared.circuit.Latch.{Latch}
 use Rattle.graph.specs.declared.parts.Parts.{Parts}
-use Rattle.graph.specs.Valuation.{value_of, state_of}
-use Rattle.graph.specs.Runs.{IsInitial}
+use Rattle.graph.specs.Circuits.{value_of, state_of, IsInitial}
 use Rattle.ic3_step.specs.declared.state.StateLit.{StateLit}
 use Rattle.ic3_step.specs.States.{latch_at, IsSet, Holds}
 use Rattle.ic3_step.proofs.Latched.{no_latch}

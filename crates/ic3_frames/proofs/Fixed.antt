@@ -4,8 +4,7 @@ use Rattle.std.proofs.lemmas.Bool.{cases_lt, lt-ltb, le-ltb, ltb-true, false≢t
 use Rattle.std.proofs.lemmas.List.Elements.{All-nil, All-cons, All-map, All-contains, All-weaker, All-filter, All-contains_itself, filter_passes, Contains-append_right}
 use Rattle.graph.specs.declared.circuit.Lit.{Lit}
 use Rattle.graph.specs.declared.parts.Parts.{Parts}
-use Rattle.graph.specs.Valuation.{value_of, state_of}
-use Rattle.graph.specs.Runs.{next_state}
+use Rattle.graph.specs.Circuits.{value_of, state_of, next_state}
 use Rattle.graph.specs.WellFormed.{IsWellFormed}
 use Rattle.graph.proofs.Evaluation.{All-unmap}
 use Rattle.lrat.specs.Literals.{is_true, IsSatisfied}

@@ -6,8 +6,7 @@ use Rattle.std.proofs.lemmas.List.Elements.{All-map, All-contains, Contains-get_
 use Rattle.graph.specs.declared.circuit.Lit.{Lit}
 use Rattle.graph.specs.declared.circuit.Latch.{Latch}
 use Rattle.graph.specs.declared.parts.Parts.{Parts}
-use Rattle.graph.specs.Valuation.{variable, place, value_of, state_of}
-use Rattle.graph.specs.Runs.{next_state}
+use Rattle.graph.specs.Circuits.{variable, place, value_of, state_of, next_state}
 use Rattle.graph.specs.WellFormed.{IsWellFormed}
 use Rattle.graph.proofs.Evaluation.{held, Contains-map, once-left, once-right, latches_even, latches_in_range}
 use Rattle.graph.proofs.Gates.{left, value_of-even, apart_at}

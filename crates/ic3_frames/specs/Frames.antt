@@ -3,8 +3,7 @@
 use Rattle.std.specs.Prelude.{◌≡◌, ◌+◌, ◌<◌, ◌≤◌, ◌⊎◌, ℕ, Bool, false, Option, Some, List, length, slice_index_or, All, AllPairs, Contains}
 use Rattle.graph.specs.declared.circuit.Lit.{Lit}
 use Rattle.graph.specs.declared.parts.Parts.{Parts}
-use Rattle.graph.specs.Valuation.{Valuation, value_of, state_of}
-use Rattle.graph.specs.Runs.{IsInitial, next_state}
+use Rattle.graph.specs.Circuits.{Valuation, value_of, state_of, IsInitial, next_state}
 use Rattle.ic3_step.specs.declared.state.StateLit.{StateLit}
 use Rattle.ic3_step.specs.States.{Holds, IsTime, IsPartOf}
 use Rattle.ic3_frames.specs.declared.frames.Entry.{Entry}

@@ -6,7 +6,7 @@ use Rattle.std.proofs.lemmas.List.{take_more, append-nil}
 use Rattle.std.proofs.lemmas.List.Elements.{All-nil, All-cons, All-head, All-tail, Contains-append_cases, filter_map-append}
 use Rattle.graph.specs.declared.circuit.Lit.{Lit}
 use Rattle.graph.specs.declared.parts.Parts.{Parts}
-use Rattle.graph.specs.Valuation.{variable, value_of}
+use Rattle.graph.specs.Circuits.{variable, value_of}
 use Rattle.lrat.specs.Literals.{is_true}
 use Rattle.cnf.specs.Clauses.{signed, is_negated, literal}
 use Rattle.cnf.specs.Formulas.{IsInRange}

@@ -9,8 +9,7 @@ use Rattle.base.specs.Budget.{Steps}
 use Rattle.graph.specs.declared.circuit.Lit.{Lit}
 use Rattle.graph.specs.declared.circuit.Latch.{Latch}
 use Rattle.graph.specs.declared.parts.Parts.{Parts}
-use Rattle.graph.specs.Valuation.{variable, place, value_of, defined}
-use Rattle.graph.specs.Runs.{next_state}
+use Rattle.graph.specs.Circuits.{variable, place, value_of, defined, next_state}
 use Rattle.graph.specs.WellFormed.{IsWellFormed}
 use Rattle.graph.proofs.Tabled.{holds_of_used}
 use Rattle.graph.proofs.Evaluation.{All-left, All-right, All-unmap}

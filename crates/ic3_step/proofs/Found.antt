@@ -5,7 +5,7 @@ use Rattle.base.specs.Budget.{Steps}
 use Rattle.graph.specs.declared.circuit.Lit.{Lit}
 use Rattle.graph.specs.declared.circuit.Latch.{Latch}
 use Rattle.graph.specs.declared.parts.Parts.{Parts}
-use Rattle.graph.specs.Valuation.{variable, place, value_of, defined, state_of}
+use Rattle.graph.specs.Circuits.{variable, place, value_of, defined, state_of}
 use Rattle.graph.specs.WellFormed.{IsWellFormed, IsModel as IsCircuit}
 use Rattle.graph.proofs.Evaluation.{held, All-left, All-right, All-unmap, Contains-map, latches_even}
 use Rattle.graph.proofs.Gates.{left, value_of-even}

@@ -6,7 +6,7 @@ use Rattle.std.proofs.lemmas.List.Elements.{Contains-get_or, Contains-append_rig
 use Rattle.graph.specs.declared.circuit.Lit.{Lit}
 use Rattle.graph.specs.declared.circuit.Latch.{Latch}
 use Rattle.graph.specs.declared.parts.Parts.{Parts}
-use Rattle.graph.specs.Valuation.{place, value_of, state_of}
+use Rattle.graph.specs.Circuits.{place, value_of, state_of}
 use Rattle.lrat.specs.Literals.{is_true, IsSatisfied}
 use Rattle.cnf.specs.Clauses.{literal, denial}
 use Rattle.cnf.proofs.Formed.{IsKnown, latches_known}

@@ -7,7 +7,7 @@ use Rattle.std.proofs.lemmas.List.Elements.{All-cons, All-nil, All-append, Conta
 use Rattle.graph.specs.declared.circuit.Lit.{Lit}
 use Rattle.graph.specs.declared.circuit.Gate.{Gate}
 use Rattle.graph.specs.declared.parts.Parts.{Parts}
-use Rattle.graph.specs.Valuation.{variable, place}
+use Rattle.graph.specs.Circuits.{variable, place}
 use Rattle.graph.proofs.Evaluation.{All-left, All-right}
 use Rattle.graph.proofs.Shape.{All-flat_map}
 use Rattle.lrat.specs.Literals.{is_true, IsSatisfied}

@@ -6,7 +6,7 @@ use Rattle.std.proofs.lemmas.List.Elements.{All-append, All-map, All-contains}
 use Rattle.base.specs.Budget.{Steps}
 use Rattle.graph.specs.declared.circuit.Lit.{Lit}
 use Rattle.graph.specs.declared.parts.Parts.{Parts}
-use Rattle.graph.specs.Valuation.{place, state_of}
+use Rattle.graph.specs.Circuits.{place, state_of}
 use Rattle.graph.specs.WellFormed.{IsWellFormed}
 use Rattle.lrat.specs.Literals.{IsSatisfied}
 use Rattle.cnf.specs.Clauses.{time_clauses}

@@ -2,7 +2,7 @@
 use Rattle.std.specs.Prelude.{ℕ, ◌+◌, ◌*◌, ◌==◌, Bool, true, false, if◌then◌else◌, nat_lt, List, ◌++◌, map, filter_map, slice_index_or, Option, None, Some, ℤ, pos, negsuc, unsigned_abs}
 use Rattle.graph.specs.declared.circuit.Lit.{Lit}
 use Rattle.graph.specs.declared.parts.Parts.{Parts}
-use Rattle.graph.specs.Valuation.{variable}
+use Rattle.graph.specs.Circuits.{variable}
 use Rattle.cnf.specs.Clauses.{literal}
 use Rattle.ic3_step.specs.declared.state.Assignment.{Assignment}
 use Rattle.ic3_step.specs.Contents.{guard_literal}

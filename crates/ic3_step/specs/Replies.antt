@@ -3,7 +3,7 @@ use Rattle.std.specs.Prelude.{◌≡◌, ℕ, ◌⊎◌, List, All, Contains}
 use Rattle.base.specs.Budget.{Steps}
 use Rattle.graph.specs.declared.circuit.Lit.{Lit}
 use Rattle.graph.specs.declared.parts.Parts.{Parts}
-use Rattle.graph.specs.Valuation.{Valuation, variable, defined, state_of}
+use Rattle.graph.specs.Circuits.{Valuation, variable, defined, state_of}
 use Rattle.ic3_step.specs.declared.reply.Reply.{Reply}
 use Rattle.ic3_step.specs.declared.reply.Reply.TheVariants.{Found, Core, Spent}
 use Rattle.ic3_step.specs.States.{Guarded, HoldsGuarded, IsTime, IsAt, AllSet}

@@ -2,7 +2,7 @@
 use Rattle.std.specs.Prelude.{◌≡◌, ℕ, ◌<◌, ◌⊎◌, Bool, true, false, List, ◌++◌, length, slice_index_or, All, Contains}
 use Rattle.graph.specs.declared.circuit.Lit.{Lit}
 use Rattle.graph.specs.declared.parts.Parts.{Parts}
-use Rattle.graph.specs.Valuation.{Valuation, variable, place, value_of, defined, Agrees, state_of, inputs_of}
+use Rattle.graph.specs.Circuits.{Valuation, variable, place, value_of, defined, Agrees, state_of, inputs_of}
 use Rattle.cnf.specs.Meaning.{KeepsNow}
 use Rattle.cones.specs.Marks.{IsMarked, IsCone}
 use Rattle.ic3_step.specs.declared.state.StateLit.{StateLit}

@@ -4,8 +4,7 @@ use Rattle.base.specs.Budget.{Steps}
 use Rattle.graph.specs.declared.circuit.Lit.{Lit}
 use Rattle.graph.specs.declared.circuit.Latch.{Latch}
 use Rattle.graph.specs.declared.parts.Parts.{Parts}
-use Rattle.graph.specs.Valuation.{Valuation, state_of}
-use Rattle.graph.specs.Runs.{next_state}
+use Rattle.graph.specs.Circuits.{Valuation, state_of, next_state}
 use Rattle.cnf.specs.Clauses.{along}
 use Rattle.ic3_step.specs.declared.state.StateLit.{StateLit}
 use Rattle.ic3_step.specs.declared.step.Consecution.{Consecution}

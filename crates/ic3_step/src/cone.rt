@@ -2,7 +2,7 @@
 
 ghost use Rattle.std.specs.Prelude.{◌≡◌, ℤ, List, ◌+◌, ◌<◌, ◌≤◌, ◌^◌, ◌++◌, ◌∷◌, ℕ, false, length, map, flat_map, All, IfOk, OnOk};
 ghost use Rattle.lrat.specs.Shared.{unit_clauses};
-ghost use Rattle.graph.specs.Valuation.{variable, place};
+ghost use Rattle.graph.specs.Circuits.{variable, place};
 ghost use Rattle.cnf.specs.Clauses.{literal, truth_clause, gate_clauses, frame_at};
 ghost use Rattle.cnf.specs.Formulas.{IsInRange, IsGateIn};
 ghost use Rattle.cones.specs.Marks.{IsMarked};

@@ -1,7 +1,7 @@
 //! What is read off a solver's answer.
 
 ghost use Rattle.std.specs.Prelude.{◌≡◌, ◌<◌, ◌≤◌, length, IfOk};
-ghost use Rattle.graph.specs.Valuation.{variable};
+ghost use Rattle.graph.specs.Circuits.{variable};
 ghost use Rattle.ic3_step.specs.Readings.{value_at, time_at, is_negation as is_negation_of, circuit_lit as circuit_lit_of, lit_for as lit_for_of, core_lits as core_lits_of};
 
 use crate::state::Assignment;

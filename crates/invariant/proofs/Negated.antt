@@ -1,7 +1,7 @@
 -- The clause of a cube is its negation.
 use Rattle.std.proofs.Common.{◌≡◌, ℕ, ◌+◌, ◌*◌, ◌/◌, ◌%◌, Bool, true, false, not, cond, List, [], ◌∷◌, All, Option, Some, None, refl, sym, ap, ◌∙◌, arith}
 use Rattle.std.proofs.lemmas.List.Elements.{All-nil, All-cons, All-head, All-tail}
-use Rattle.graph.specs.Valuation.{Valuation, place, value_of, variable}
+use Rattle.graph.specs.Circuits.{Valuation, place, value_of, variable}
 use Rattle.graph.specs.declared.circuit.Latch.{Latch}
 use Rattle.graph.specs.declared.circuit.Lit.{Lit}
 use Rattle.invariant.specs.Plas.{latch_value, literal_against, clause_of, IsIn, NegationLaw}

@@ -5,7 +5,7 @@ use Rattle.scan.specs.Bytes.{tag_at}
 use Rattle.scan.specs.Numbers.{begins_digit, digits_after}
 use Rattle.graph.specs.File.{File}
 use Rattle.graph.specs.Symbols.{index_of}
-use Rattle.graph.specs.Valuation.{Valuation, place, value_of, variable}
+use Rattle.graph.specs.Circuits.{Valuation, place, value_of, variable}
 use Rattle.graph.specs.declared.circuit.Latch.{Latch}
 use Rattle.graph.specs.declared.circuit.Lit.{Lit}
 use Rattle.graph.specs.declared.symbol.Symbol.{Symbol}

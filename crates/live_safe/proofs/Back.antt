@@ -6,11 +6,9 @@ use Rattle.std.proofs.lemmas.List.Elements.{All-from_get_or}
 use Rattle.graph.specs.declared.circuit.Lit.{Lit}
 use Rattle.graph.specs.declared.circuit.Latch.{Latch}
 use Rattle.graph.specs.declared.parts.Parts.{Parts}
-use Rattle.graph.specs.Valuation.{place, variable, value_of, state_of, inputs_of, Fires, Agrees}
-use Rattle.graph.specs.Runs.{IsReset, next_state, IsRun}
+use Rattle.graph.specs.Circuits.{place, variable, value_of, state_of, inputs_of, Fires, Agrees, IsReset, next_state, IsRun, wanted_of, at, IsSetWithin}
 use Rattle.graph.specs.WellFormed.{IsWellFormed}
 use Rattle.graph.proofs.Evaluation.{All-left, All-right}
-use Rattle.graph.specs.Justice.{wanted_of, at, IsSetWithin}
 use Rattle.live_safe.specs.Shadow.{positive, save_of, saved_of, seen_from, new_latches, new_gates, shadow_of}
 use Rattle.live_safe.specs.Laws.{FoundLaw}
 use Rattle.live_safe.proofs.Begun.{begins_from}

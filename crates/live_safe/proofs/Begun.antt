@@ -1,8 +1,7 @@
 -- The first state of a replay.
 use Rattle.std.proofs.Common.{◌≡◌, ◌<◌, Bool, List, [], ◌∷◌, length, arith}
 use Rattle.graph.specs.declared.parts.Parts.{Parts}
-use Rattle.graph.specs.Valuation.{state_of}
-use Rattle.graph.specs.Justice.{at}
+use Rattle.graph.specs.Circuits.{state_of, at}
 use Rattle.stimulus.specs.Shown.{Begins}
 
 pub begins_at : (m : Parts) (initial : List Bool) (r : List (List Bool)) → Begins m initial r → state_of m (at r 0) ≡ initial

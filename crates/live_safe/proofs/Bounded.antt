@@ -5,10 +5,8 @@ use Rattle.std.proofs.lemmas.List.{length-map}
 use Rattle.std.proofs.lemmas.List.Elements.{All-take}
 use Rattle.graph.specs.declared.circuit.Lit.{Lit}
 use Rattle.graph.specs.declared.parts.Parts.{Parts}
-use Rattle.graph.specs.Valuation.{value_of, state_of, inputs_of}
-use Rattle.graph.specs.Runs.{IsRun, next_state}
+use Rattle.graph.specs.Circuits.{value_of, state_of, inputs_of, IsRun, next_state, wanted_of, at, HoldsRounds, IsBounded}
 use Rattle.graph.specs.declared.circuit.Property.TheVariants.{Justice}
-use Rattle.graph.specs.Justice.{wanted_of, at, HoldsRounds, IsBounded}
 use Rattle.stimulus.specs.declared.value.Stimulus.TheVariants.{Violated}
 use Rattle.stimulus.specs.Shown.{IsReplay, closing_state, ClosesLasso, ShowsLasso}
 use Rattle.graph.proofs.Times.{Steps-at, Starts-at, at-take, IsRun-take}

@@ -8,11 +8,9 @@ use Rattle.std.proofs.lemmas.List.Elements.{All-append, All-from_get_or}
 use Rattle.graph.specs.declared.circuit.Lit.{Lit}
 use Rattle.graph.specs.declared.circuit.Latch.{Latch}
 use Rattle.graph.specs.declared.parts.Parts.{Parts}
-use Rattle.graph.specs.Valuation.{place, variable, value_of, state_of, inputs_of, Agrees}
-use Rattle.graph.specs.Runs.{IsReset, IsInitial, IsStep, next_state, IsRun, KeepsConstraints}
+use Rattle.graph.specs.Circuits.{place, variable, value_of, state_of, inputs_of, Agrees, IsReset, IsInitial, IsStep, next_state, IsRun, KeepsConstraints, wanted_of, at, IsSetWithin}
 use Rattle.graph.specs.WellFormed.{IsWellFormed}
 use Rattle.graph.specs.declared.circuit.Property.TheVariants.{Justice}
-use Rattle.graph.specs.Justice.{wanted_of, at, IsSetWithin}
 use Rattle.stimulus.specs.Shown.{IsReplay, closing_state, ClosesLasso}
 use Rattle.live_safe.specs.Shadow.{positive, save_of, saved_of, seen_from, new_latches, shadow_of}
 use Rattle.live_safe.specs.Laws.{Carries, CarriedLaw}

@@ -1,7 +1,7 @@
 -- How many literals, latches and inputs there are, and how great their numbers.
 use Rattle.std.proofs.Common.{◌≡◌, ℕ, ◌+◌, ◌*◌, ◌^◌, ◌<◌, Bool, List, [], ◌∷◌, ◌↔◌, IsTrue, length, arith, All, ◌∙◌, sym, length-append}
 use Rattle.graph.specs.declared.parts.Parts.{Parts}
-use Rattle.graph.specs.Justice.{wanted_of}
+use Rattle.graph.specs.Circuits.{wanted_of}
 use Rattle.graph.specs.WellFormed.{IsWellFormed}
 use Rattle.live_safe.specs.Shadow.{positive, save_of, new_latches, shadow_of}
 use Rattle.live_safe.specs.Laws.{FitsShadow}

@@ -7,10 +7,9 @@ use Rattle.graph.specs.declared.circuit.Lit.{Lit}
 use Rattle.graph.specs.declared.circuit.Latch.{Latch}
 use Rattle.graph.specs.declared.circuit.Gate.{Gate}
 use Rattle.graph.specs.declared.parts.Parts.{Parts}
-use Rattle.graph.specs.Valuation.{place, variable, value_of, defined, Fires, Agrees}
+use Rattle.graph.specs.Circuits.{place, variable, value_of, defined, Fires, Agrees, wanted_of}
 use Rattle.graph.proofs.Evaluation.{held}
 use Rattle.graph.proofs.Gates.{left}
-use Rattle.graph.specs.Justice.{wanted_of}
 use Rattle.live_safe.specs.Shadow.{positive, negative, negation, joins, save_of, saved_of, shadow_from, seen_from, start_of, idle_of, copies_from, watches_from, chain_from, copy_gates, shadow_latches, equal_literals, watch_gates, seen_latches, seen_literals, chain_gates, chained, new_latches, new_gates, shadow_of}
 use Rattle.live_safe.proofs.Values.{value-positive, value-at, variable-negation}
 use Rattle.live_safe.proofs.Extension.{IsNext, AreNext, AreNext-append, run_gates, length-run, place-run, run_fires}

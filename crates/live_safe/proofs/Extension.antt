@@ -4,7 +4,7 @@ use Rattle.std.proofs.lemmas.List.{get_or_push, get_or_append_left, length_push}
 use Rattle.std.proofs.lemmas.List.Elements.{All-nil, All-cons}
 use Rattle.graph.specs.declared.circuit.Lit.{Lit}
 use Rattle.graph.specs.declared.circuit.Gate.{Gate}
-use Rattle.graph.specs.Valuation.{place, variable, value_of, Fires}
+use Rattle.graph.specs.Circuits.{place, variable, value_of, Fires}
 use Rattle.live_safe.proofs.Values.{value-at}
 
 -- the gate defines the variable n and reads variables below it

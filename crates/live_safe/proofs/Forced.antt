@@ -7,10 +7,8 @@ use Rattle.graph.specs.declared.circuit.Lit.{Lit}
 use Rattle.graph.specs.declared.circuit.Latch.{Latch}
 use Rattle.graph.specs.declared.circuit.Gate.{Gate}
 use Rattle.graph.specs.declared.parts.Parts.{Parts}
-use Rattle.graph.specs.Valuation.{place, value_of, state_of, Fires}
-use Rattle.graph.specs.Runs.{IsStep, next_state}
+use Rattle.graph.specs.Circuits.{place, value_of, state_of, Fires, IsStep, next_state, wanted_of}
 use Rattle.graph.proofs.Evaluation.{All-left, All-right}
-use Rattle.graph.specs.Justice.{wanted_of}
 use Rattle.live_safe.specs.Shadow.{positive, negative, negation, joins, save_of, saved_of, shadow_from, seen_from, start_of, idle_of, copies_from, watches_from, chain_from, copy_gates, shadow_latches, equal_literals, watch_gates, seen_latches, seen_literals, chain_gates, chain_end, chained, new_latches, new_gates, closing_literal, shadow_of}
 use Rattle.live_safe.proofs.Values.{value-positive, value-negative, value-negation, fires_at}
 

@@ -8,10 +8,9 @@ use Rattle.graph.specs.declared.circuit.Lit.{Lit}
 use Rattle.graph.specs.declared.circuit.Latch.{Latch}
 use Rattle.graph.specs.declared.circuit.Gate.{Gate}
 use Rattle.graph.specs.declared.parts.Parts.{Parts}
-use Rattle.graph.specs.Valuation.{variable}
+use Rattle.graph.specs.Circuits.{variable, wanted_of}
 use Rattle.graph.specs.WellFormed.{Reads, Needs, IsChain, HasNoCycle}
 use Rattle.graph.proofs.Gates.{left}
-use Rattle.graph.specs.Justice.{wanted_of}
 use Rattle.live_safe.specs.Shadow.{positive, negative, negation, joins, cleared, save_of, saved_of, shadow_from, seen_from, start_of, idle_of, copies_from, watches_from, chain_from, copy_gates, shadow_latches, equal_literals, watch_gates, seen_latches, seen_literals, chain_gates, chain_end, chained, new_latches, new_gates, closing_literal, shadow_of}
 use Rattle.live_safe.proofs.Values.{variable-negation}
 use Rattle.live_safe.proofs.Extension.{AreNext}

@@ -3,10 +3,9 @@ use Rattle.std.proofs.Common.{ℕ, zero, suc, ◌+◌, ◌*◌, ◌≤◌, List,
 use Rattle.std.proofs.lemmas.List.Elements.{All-append, All-nil}
 use Rattle.graph.specs.declared.circuit.Lit.{Lit}
 use Rattle.graph.specs.declared.parts.Parts.{Parts}
-use Rattle.graph.specs.Valuation.{variable}
-use Rattle.graph.specs.WellFormed.{IsWellFormed, used, justice_literals}
+use Rattle.graph.specs.Circuits.{variable, justice_literals, wanted_of}
+use Rattle.graph.specs.WellFormed.{IsWellFormed, used}
 use Rattle.graph.proofs.Evaluation.{All-left, All-right, All-unmap, latches_in_range, lefts_in_range, rights0, rights1}
-use Rattle.graph.specs.Justice.{wanted_of}
 
 abbrev pub IsIn : ℕ → Lit → Type 0
 IsIn n a = variable a ≤ n

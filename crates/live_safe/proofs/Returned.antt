@@ -8,8 +8,7 @@ use Rattle.std.proofs.lemmas.List.Elements.{All-map}
 use Rattle.graph.specs.declared.circuit.Lit.{Lit}
 use Rattle.graph.specs.declared.circuit.Property.TheVariants.{Bad, Justice}
 use Rattle.graph.specs.declared.parts.Parts.{Parts}
-use Rattle.graph.specs.Valuation.{value_of, state_of, inputs_of}
-use Rattle.graph.specs.Justice.{at}
+use Rattle.graph.specs.Circuits.{value_of, state_of, inputs_of, at}
 use Rattle.graph.proofs.Times.{Starts-at}
 use Rattle.stimulus.specs.declared.value.Stimulus.TheVariants.{Violated}
 use Rattle.stimulus.specs.Shown.{ShowsBad, ShowsLasso}

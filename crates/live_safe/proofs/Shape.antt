@@ -7,11 +7,10 @@ use Rattle.graph.specs.declared.circuit.Lit.{Lit}
 use Rattle.graph.specs.declared.circuit.Latch.{Latch}
 use Rattle.graph.specs.declared.circuit.Gate.{Gate}
 use Rattle.graph.specs.declared.parts.Parts.{Parts}
-use Rattle.graph.specs.Valuation.{variable, defined}
-use Rattle.graph.specs.WellFormed.{IsWellFormed, HasReset, defining, used, justice_literals}
+use Rattle.graph.specs.Circuits.{variable, defined, HasReset, defining, justice_literals, wanted_of}
+use Rattle.graph.specs.WellFormed.{IsWellFormed, used}
 use Rattle.graph.proofs.Evaluation.{held, IsOnce, once-left, once-right, once-across, All-left, All-right, All-unmap, rights0, rights1, Contains-map, defined_nonzero}
 use Rattle.graph.proofs.Gates.{left}
-use Rattle.graph.specs.Justice.{wanted_of}
 use Rattle.live_safe.specs.Shadow.{positive, save_of, saved_of, start_of, new_latches, new_gates, closing_literal, shadow_of}
 use Rattle.live_safe.proofs.Extension.{AreNext}
 use Rattle.live_safe.proofs.Ranges.{AreIn, are_in, one_property}

@@ -2,7 +2,7 @@
 use Rattle.std.proofs.Common.{◌≡◌, ℕ, ◌+◌, ◌-◌, ◌*◌, ◌/◌, ◌%◌, Bool, true, false, not, ◌&&◌, List, refl, inl, inr, arith, ◌∙◌, sym}
 use Rattle.std.proofs.lemmas.Bool.{cases_eq}
 use Rattle.graph.specs.declared.circuit.Lit.{Lit}
-use Rattle.graph.specs.Valuation.{place, variable, value_of, Fires}
+use Rattle.graph.specs.Circuits.{place, variable, value_of, Fires}
 use Rattle.live_safe.specs.Shadow.{positive, negative, negation, joins}
 
 pub value-positive : (w : List Bool) (v : ℕ) → value_of w (positive v) ≡ place w v

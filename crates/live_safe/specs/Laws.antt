@@ -2,9 +2,7 @@
 use Rattle.std.specs.Prelude.{◌≡◌, ℕ, ◌+◌, ◌-◌, ◌<◌, ◌≤◌, ◌==◌, Bool, true, false, List, [], ◌∷◌, ◌++◌, length, map, take, slice_index_or, All}
 use Rattle.graph.specs.declared.circuit.Property.TheVariants.{Bad, Justice}
 use Rattle.graph.specs.declared.parts.Parts.{Parts}
-use Rattle.graph.specs.Valuation.{Valuation, value_of, state_of, inputs_of}
-use Rattle.graph.specs.Runs.{IsRun, KeepsConstraints, IsSafe}
-use Rattle.graph.specs.Justice.{at, IsBounded}
+use Rattle.graph.specs.Circuits.{Valuation, value_of, state_of, inputs_of, IsRun, KeepsConstraints, IsSafe, at, IsBounded}
 use Rattle.stimulus.specs.declared.value.Stimulus.{Stimulus}
 use Rattle.stimulus.specs.declared.value.Stimulus.TheVariants.{Violated}
 use Rattle.stimulus.specs.Shown.{ShowsBad, ShowsLasso}

@@ -6,7 +6,7 @@ use Rattle.graph.specs.declared.circuit.Lit.{Lit}
 use Rattle.graph.specs.declared.circuit.Latch.{Latch}
 use Rattle.graph.specs.declared.circuit.Gate.{Gate}
 use Rattle.graph.specs.declared.parts.Parts.{Parts}
-use Rattle.graph.specs.Justice.{wanted_of}
+use Rattle.graph.specs.Circuits.{wanted_of}
 
 -- the literal of a variable
 abbrev pub positive : ℕ → Lit

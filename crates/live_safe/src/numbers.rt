@@ -1,7 +1,7 @@
 //! The variables of the shadow circuit.
 
 ghost use Rattle.std.specs.Prelude.{◌≡◌, ℕ, ◌+◌, ◌*◌, ◌≤◌, length};
-ghost use Rattle.graph.specs.Justice.{wanted_of};
+ghost use Rattle.graph.specs.Circuits.{wanted_of};
 ghost use Rattle.live_safe.specs.Numbers.{AreNumbers, AreSpaced};
 
 use graph::{Lit, Parts};

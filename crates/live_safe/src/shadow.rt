@@ -1,7 +1,7 @@
 //! The parts of the shadow circuit.
 
 ghost use Rattle.std.specs.Prelude.{◌≡◌, ℕ, ◌+◌, ◌*◌, ◌^◌, ◌<◌, ◌≤◌, ◌++◌, ◌∷◌, [], length, All, IfOk};
-ghost use Rattle.graph.specs.Justice.{wanted_of};
+ghost use Rattle.graph.specs.Circuits.{wanted_of};
 ghost use Rattle.live_safe.specs.Shadow.{shadow_of};
 
 use crate::gates::all_gates;

@@ -1,7 +1,7 @@
 //! The literals that a justice property wants.
 
 ghost use Rattle.std.specs.Prelude.{◌≡◌, ◌<◌, ◌≤◌, length, IfOk};
-ghost use Rattle.graph.specs.Justice.{wanted_of};
+ghost use Rattle.graph.specs.Circuits.{wanted_of};
 ghost use Rattle.graph.specs.WellFormed.{IsWellFormed};
 
 use base::{Refused, copied, extend};

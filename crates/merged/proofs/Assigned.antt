@@ -8,7 +8,7 @@ use Rattle.graph.specs.declared.circuit.Lit.{Lit}
 use Rattle.graph.specs.declared.circuit.Latch.{Latch}
 use Rattle.graph.specs.declared.circuit.Gate.{Gate}
 use Rattle.graph.specs.declared.parts.Parts.{Parts}
-use Rattle.graph.specs.Valuation.{variable}
+use Rattle.graph.specs.Circuits.{variable}
 use Rattle.graph.proofs.Evaluation.{All-left, All-right, All-unmap}
 use Rattle.graph.proofs.Shape.{All-flat_map, All-unflat_map}
 use Rattle.lrat.specs.Literals.{is_true, IsSatisfied}

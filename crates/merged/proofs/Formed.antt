@@ -6,8 +6,8 @@ use Rattle.std.proofs.lemmas.List.Elements.{All-nil, All-head, All-tail, All-app
 use Rattle.graph.specs.declared.circuit.Lit.{Lit}
 use Rattle.graph.specs.declared.circuit.Gate.{Gate}
 use Rattle.graph.specs.declared.parts.Parts.{Parts}
-use Rattle.graph.specs.Valuation.{variable, defined}
-use Rattle.graph.specs.WellFormed.{defining, used, HasReset, Reads, Needs, IsChain, HasNoCycle, IsInLimits, IsWellFormed}
+use Rattle.graph.specs.Circuits.{variable, defined, defining, HasReset}
+use Rattle.graph.specs.WellFormed.{used, Reads, Needs, IsChain, HasNoCycle, IsInLimits, IsWellFormed}
 use Rattle.graph.proofs.Evaluation.{held, once-across, defined_nonzero}
 use Rattle.graph.proofs.Gates.{left}
 use Rattle.graph.proofs.Tabled.{HoldsOfUsed, holds_of_used}

@@ -4,8 +4,7 @@ use Rattle.std.proofs.lemmas.Option.{same_Some}
 use Rattle.std.proofs.lemmas.List.Elements.{All-append}
 use Rattle.graph.specs.declared.circuit.Lit.{Lit}
 use Rattle.graph.specs.declared.parts.Parts.{Parts}
-use Rattle.graph.specs.Valuation.{Valuation, variable, value_of}
-use Rattle.graph.specs.Runs.{StartsInitial, IsRun}
+use Rattle.graph.specs.Circuits.{Valuation, variable, value_of, StartsInitial, IsRun}
 use Rattle.graph.specs.WellFormed.{IsWellFormed}
 use Rattle.stimulus.specs.Shown.{Begins, IsReplay, last_of}
 use Rattle.cnf.specs.Clauses.{init_clauses, step_clauses}

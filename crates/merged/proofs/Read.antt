@@ -3,7 +3,7 @@ use Rattle.std.proofs.Common.{◌≡◌, ◌∙◌, ℕ, zero, suc, ◌⊎◌, �
 use Rattle.std.proofs.lemmas.Bool.{cases_eq, eq-eqb, ne_eqb}
 use Rattle.std.proofs.lemmas.List.Elements.{All-contains, Contains-append_right}
 use Rattle.graph.specs.declared.circuit.Lit.{Lit}
-use Rattle.graph.specs.Valuation.{variable}
+use Rattle.graph.specs.Circuits.{variable}
 use Rattle.cnf.specs.Clauses.{along, is_negated}
 use Rattle.cnf.specs.Formulas.{clause_at}
 use Rattle.cnf.proofs.Values.{turned}

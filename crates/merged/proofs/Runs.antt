@@ -4,8 +4,7 @@ use Rattle.std.proofs.lemmas.Bool.{cases_Bool}
 use Rattle.std.proofs.lemmas.List.Elements.{All-nil, All-cons, All-head, All-tail}
 use Rattle.graph.specs.declared.circuit.Lit.{Lit}
 use Rattle.graph.specs.declared.parts.Parts.{Parts}
-use Rattle.graph.specs.Valuation.{Valuation, place, value_of, IsValuation, Agrees}
-use Rattle.graph.specs.Runs.{IsInitial, IsStep, StartsInitial, Steps, IsRun, KeepsConstraints}
+use Rattle.graph.specs.Circuits.{Valuation, place, value_of, IsValuation, Agrees, IsInitial, IsStep, StartsInitial, Steps, IsRun, KeepsConstraints}
 use Rattle.graph.specs.WellFormed.{IsWellFormed}
 use Rattle.cnf.specs.Formulas.{IsOverLatches}
 use Rattle.cnf.specs.Meaning.{extension_of, HoldsClause, Denies, DeniesNext, KeepsNow, IsKept}

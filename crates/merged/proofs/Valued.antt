@@ -5,8 +5,7 @@ use Rattle.graph.specs.declared.circuit.Lit.{Lit}
 use Rattle.graph.specs.declared.circuit.Latch.{Latch}
 use Rattle.graph.specs.declared.circuit.Gate.{Gate}
 use Rattle.graph.specs.declared.parts.Parts.{Parts}
-use Rattle.graph.specs.Valuation.{Valuation, variable, place, value_of, defined, state_of, IsValuation, Fires, Agrees}
-use Rattle.graph.specs.Runs.{IsReset, IsInitial, IsStep, next_state}
+use Rattle.graph.specs.Circuits.{Valuation, variable, place, value_of, defined, state_of, IsValuation, Fires, Agrees, IsReset, IsInitial, IsStep, next_state}
 use Rattle.graph.proofs.Evaluation.{All-unmap}
 use Rattle.cnf.specs.Meaning.{KeepsNow}
 use Rattle.merged.specs.Reading.{read_as, IsReadIn}

@@ -3,8 +3,7 @@ use Rattle.std.specs.Prelude.{◌≡◌, ◌↔◌, ℕ, Bool, List, ◌++◌, m
 use Rattle.graph.specs.declared.circuit.Lit.{Lit}
 use Rattle.graph.specs.declared.circuit.Property.TheVariants.{Bad}
 use Rattle.graph.specs.declared.parts.Parts.{Parts}
-use Rattle.graph.specs.Valuation.{Valuation, value_of, state_of, inputs_of, IsValuation, Agrees}
-use Rattle.graph.specs.Runs.{next_state, IsRun, KeepsConstraints}
+use Rattle.graph.specs.Circuits.{Valuation, value_of, state_of, inputs_of, IsValuation, Agrees, next_state, IsRun, KeepsConstraints}
 use Rattle.stimulus.specs.declared.value.Stimulus.TheVariants.{Violated}
 use Rattle.stimulus.specs.Shown.{ShowsBad}
 use Rattle.cnf.specs.Clauses.{init_clauses, step_clauses}

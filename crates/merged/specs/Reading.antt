@@ -1,7 +1,7 @@
 -- Latches that are read as other literals, and what clauses say of them.
 use Rattle.std.specs.Prelude.{◌≡◌, ◌⊎◌, ℕ, ◌+◌, ◌<◌, ◌%◌, ◌==◌, if◌then◌else◌, Bool, true, not, List, [], ◌∷◌, length, slice_index_or, All, Any, Option, None, Some}
 use Rattle.graph.specs.declared.circuit.Lit.{Lit}
-use Rattle.graph.specs.Valuation.{variable}
+use Rattle.graph.specs.Circuits.{variable}
 use Rattle.cnf.specs.Clauses.{along, is_negated}
 use Rattle.cnf.specs.Formulas.{clause_at}
 

@@ -1,7 +1,7 @@
 //! What clauses say of latches.
 
 ghost use Rattle.std.specs.Prelude.{◌≡◌, ◌<◌, ℕ, true, All, IfSome, None};
-ghost use Rattle.graph.specs.Valuation.{variable};
+ghost use Rattle.graph.specs.Circuits.{variable};
 ghost use Rattle.graph.specs.declared.circuit.Lit.{Lit};
 ghost use Rattle.cnf.specs.Clauses.{along, is_negated};
 ghost use Rattle.merged.specs.Reading.{Says, opposite_of, constant_of};

@@ -9,7 +9,7 @@ use Rattle.std.proofs.lemmas.List.FromFn.{map-range_with_len_more, length-map-ra
 use Rattle.graph.specs.declared.circuit.Property.{Property}
 use Rattle.graph.specs.declared.circuit.Property.TheVariants.{Bad, Justice, Output}
 use Rattle.graph.specs.declared.parts.Parts.{Parts}
-use Rattle.graph.specs.Properties.{HasProperty, AreOutputsBad}
+use Rattle.graph.specs.Circuits.{HasProperty, AreOutputsBad}
 use Rattle.properties.specs.Order.{ComesBefore, property_at}
 use Rattle.properties.specs.declared.listing.Kind.{Kind}
 use Rattle.properties.specs.declared.listing.Kind.TheVariants as kind

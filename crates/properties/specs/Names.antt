@@ -1,7 +1,7 @@
 -- The names of files with evidence.
 use Rattle.std.specs.Prelude.{ℕ, List, ◌++◌, codes}
 use Rattle.graph.specs.declared.circuit.Property.{Property}
-use Rattle.graph.specs.Properties.{property_text}
+use Rattle.graph.specs.Circuits.{property_text}
 use Rattle.properties.specs.declared.naming.Evidence.{Evidence}
 use Rattle.properties.specs.declared.naming.Evidence.TheVariants.{Certificate, Stimulus}
 

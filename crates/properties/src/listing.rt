@@ -3,7 +3,7 @@
 ghost use Rattle.std.specs.Prelude.{◌≡◌, ◌<◌, ◌++◌, IfOk, OnOk, All, AllPairs, Contains, length, map};
 ghost use Rattle.std.specs.List.{range_with_len};
 ghost use Rattle.graph.specs.declared.circuit.Property.{Property as AProperty};
-ghost use Rattle.graph.specs.Properties.{AreOutputsBad, HasProperty};
+ghost use Rattle.graph.specs.Circuits.{AreOutputsBad, HasProperty};
 ghost use Rattle.properties.specs.Order.{ComesBefore, property_at};
 
 use base::{Refused, push};

@@ -1,7 +1,7 @@
 //! Names of properties, and of files with evidence about them.
 
 ghost use Rattle.std.specs.Prelude.{◌≡◌, IfOk, string_bytes};
-ghost use Rattle.graph.specs.Properties.{property_text};
+ghost use Rattle.graph.specs.Circuits.{property_text};
 ghost use Rattle.properties.specs.Names.{evidence_path};
 
 use graph::Property;

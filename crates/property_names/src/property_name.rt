@@ -1,7 +1,7 @@
 //! Properties by their names.
 
 ghost use Rattle.std.specs.Prelude.{◌≡◌, ◌<◌, ◌^◌, ℕ, Some, IfSome, decimal};
-ghost use Rattle.graph.specs.Properties.{position_of, property_text};
+ghost use Rattle.graph.specs.Circuits.{position_of, property_text};
 ghost use Rattle.graph.specs.declared.circuit.Property.{Property as AProperty};
 
 use graph::Property;

@@ -1,7 +1,7 @@
 //! 256 runs from any states.
 
 ghost use Rattle.std.specs.Prelude.{◌≡◌, ◌≤◌, All, IfOk, IfSome, IsSome, IsTrue};
-ghost use Rattle.graph.specs.Valuation.{variable};
+ghost use Rattle.graph.specs.Circuits.{variable};
 
 use base::Refused;
 use graph::{Lit, Model};

@@ -9,7 +9,7 @@ use Rattle.scan.specs.Lists.{items_at}
 use Rattle.scan.proofs.Toolbox.{Reads}
 use Rattle.graph.specs.declared.circuit.Property.{Property as AProperty}
 use Rattle.graph.specs.declared.circuit.Property.TheVariants.{Bad, Justice, Output}
-use Rattle.graph.specs.Properties.{position_of, property_text}
+use Rattle.graph.specs.Circuits.{position_of, property_text}
 use Rattle.pieces.specs.Pieces.{is_inner, piece_at, GoesOn}
 use Rattle.pieces.proofs.PieceLaws.{goes_nil, goes_one, goes_append}
 use Rattle.stimulus.specs.Reading.{line_at, property_at, value_at}

@@ -7,9 +7,7 @@ use Rattle.std.proofs.lemmas.List.Elements.{All-push}
 use Rattle.graph.specs.declared.circuit.Lit.{Lit}
 use Rattle.graph.specs.declared.circuit.Property.{Property}
 use Rattle.graph.specs.declared.parts.Parts.{Parts}
-use Rattle.graph.specs.Properties.{HasProperty, IsWatched, position_of}
-use Rattle.graph.specs.Runs.{next_state}
-use Rattle.graph.specs.Valuation.{Valuation, value_of}
+use Rattle.graph.specs.Circuits.{HasProperty, IsWatched, position_of, next_state, Valuation, value_of}
 use Rattle.graph.proofs.Alone.{watched_there}
 use Rattle.simulate.specs.Replays.{Replayed, begun}
 use Rattle.simulate.specs.Starts.{Starts, IsFirstAgainst}

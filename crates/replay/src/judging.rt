@@ -2,8 +2,7 @@
 
 ghost use Rattle.std.specs.Prelude.{◌≡◌, ◌+◌, ◌-◌, ◌^◌, ◌<◌, ◌≤◌, ◌↔◌, ℕ, List, ◌++◌, Some, IfOk, IsErrOf, MatchResult};
 ghost use Rattle.base.specs.Devices.{IsAtEnd, Reads};
-ghost use Rattle.graph.specs.Properties.{IsWatched};
-ghost use Rattle.graph.specs.Valuation.{variable};
+ghost use Rattle.graph.specs.Circuits.{IsWatched, variable};
 ghost use Rattle.graph.specs.declared.circuit.Property.{Property as AProperty};
 ghost use Rattle.graph.specs.declared.circuit.Property.TheVariants.{Justice};
 ghost use Rattle.graph.specs.declared.parts.Parts.{Parts as AParts};

@@ -2,8 +2,7 @@
 
 ghost use Rattle.std.specs.Prelude.{◌≡◌, ◌+◌, ◌-◌, ◌^◌, ◌<◌, ◌≤◌, ◌↔◌, ℕ, Bool, List, ◌++◌, All, length, true, IsTrue, IsSome, Some, IsErrOf};
 ghost use Rattle.base.specs.Devices.{Reads};
-ghost use Rattle.graph.specs.Properties.{IsWatched};
-ghost use Rattle.graph.specs.Valuation.{Valuation, value_of, variable};
+ghost use Rattle.graph.specs.Circuits.{IsWatched, Valuation, value_of, variable};
 ghost use Rattle.graph.specs.declared.circuit.Property.{Property as AProperty};
 ghost use Rattle.graph.specs.declared.parts.Parts.{Parts as AParts};
 ghost use Rattle.scan.specs.Lists.{items_at};

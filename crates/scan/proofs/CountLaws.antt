@@ -7,7 +7,8 @@ use Rattle.std.proofs.lemmas.Bool.{eqb-true, or_cases, and_parts, leb-true, le-l
 use Rattle.std.proofs.lemmas.List.{append-nil}
 use Rattle.std.proofs.lemmas.List.Elements.{All-from_recursion, recursion_from_All}
 use Rattle.scan.specs.Words.{any, IsWord}
-use Rattle.scan.specs.Counts.{ends_count, counts_at, spaced, IsCounts}
+use Rattle.scan.specs.Counts.{ends_count, counts_at}
+use Rattle.scan.specs.Lists.{spaced, IsCounts}
 use Rattle.scan.specs.Spelling.{Nothing, Then}
 use Rattle.scan.proofs.Toolbox.{Reads, reads_as, reads_then, reads_nothing, reads_if}
 use Rattle.scan.proofs.WordLaws.{word_reads}

@@ -18,19 +18,6 @@ counts_at limit (suc k) bytes = do
   w ← word_at limit any (ends_count k) bytes
   if w.0.1 == 10 then Some (w.0.0 ∷ replicate k 0, w.1) else (counts_at limit k w.1 >>= λ r. Some (w.0.0 ∷ r.0, r.1))
 
--- a space and a count
-abbrev pub spaced : ℕ → List ℕ
-spaced n = 32 ∷ decimal n
-
--- a text is four to eight counts of at most limit, a space before each, and a line end; the counts that are left out are 0
-pub record IsCounts (limit : ℕ) (text counts : List ℕ) : Type 0 where
-  pub written : List ℕ
-  pub enough : 4 ≤ length written
-  pub few : length written ≤ 8
-  pub within : All (λ n. n ≤ limit) written
-  pub padded : counts ≡ written ++ replicate (8 - length written) 0
-  pub spells : text ≡ flat_map spaced written ++ 10 ∷ []
-
 -- the fault is that of the first count that is missing, over its limit, or followed by a byte that may not end it
 pub record IsCountsFault {K : Type 0} (kinds : Kinds K) (limit : ℕ) (text : List ℕ) (e : Fault K) : Type 0 where
   pub before : List ℕ

@@ -1,6 +1,7 @@
--- Values one after another.
-use Rattle.std.specs.Prelude.{◌≡◌, ℕ, zero, suc, List, [], ◌∷◌, ◌++◌, length, Option, Some, None}
+-- Values one after another, and the counts of a header.
+use Rattle.std.specs.Prelude.{◌≡◌, ℕ, zero, suc, List, [], ◌∷◌, ◌++◌, length, Option, Some, None, ◌-◌, ◌≤◌, All, replicate, decimal}
 use Rattle.scan.specs.Reading.{◌>>=◌, Read}
+use Rattle.std.specs.List.{flat_map}
 
 -- as many values as the count says
 unfoldable pub many_at : {A : Type 0} → (List ℕ → Read A) → ℕ → List ℕ → Read (List A)
@@ -32,3 +33,16 @@ Each R text (x ∷ xs) = (front : List ℕ) × (rest : List ℕ) × R front x ×
 -- texts one after another, and the text of the end
 abbrev pub EachUntil : {A : Type 0} → (List ℕ → Option A → Type 0) → List ℕ → List A → Type 0
 EachUntil R text xs = (front : List ℕ) × (end : List ℕ) × Each (λ t x. R t (Some x)) front xs × R end None × (text ≡ front ++ end)
+
+-- a space and a count
+abbrev pub spaced : ℕ → List ℕ
+spaced n = 32 ∷ decimal n
+
+-- a text is four to eight counts of at most limit, a space before each, and a line end; the counts that are left out are 0
+pub record IsCounts (limit : ℕ) (text counts : List ℕ) : Type 0 where
+  pub written : List ℕ
+  pub enough : 4 ≤ length written
+  pub few : length written ≤ 8
+  pub within : All (λ n. n ≤ limit) written
+  pub padded : counts ≡ written ++ replicate (8 - length written) 0
+  pub spells : text ≡ flat_map spaced written ++ 10 ∷ []

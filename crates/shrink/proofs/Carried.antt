@@ -6,7 +6,7 @@ use Rattle.std.proofs.lemmas.List.Elements.{Contains-append_cases, Contains-get_
 use Rattle.graph.specs.declared.circuit.Lit.{Lit}
 use Rattle.graph.specs.declared.circuit.Gate.{Gate}
 use Rattle.graph.specs.declared.parts.Parts.{Parts}
-use Rattle.graph.specs.Valuation.{Valuation, variable, place, value_of, defined, Fires}
+use Rattle.graph.specs.Circuits.{Valuation, variable, place, value_of, defined, Fires}
 use Rattle.graph.specs.WellFormed.{IsModel, gate_in, Reads}
 use Rattle.graph.proofs.Evaluation.{held, once-across, rights0, rights1, lefts_even, lefts_in_range, All-left}
 use Rattle.graph.proofs.Gates.{left, value_of-even}

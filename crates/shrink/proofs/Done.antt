@@ -14,8 +14,8 @@ use Rattle.graph.specs.declared.circuit.Lit.{Lit}
 use Rattle.graph.specs.declared.circuit.Gate.{Gate}
 use Rattle.graph.specs.declared.circuit.Latch.{Latch}
 use Rattle.graph.specs.declared.parts.Parts.{Parts}
-use Rattle.graph.specs.Valuation.{Valuation, variable, place, value_of, defined, state_of, inputs_of, Agrees}
-use Rattle.graph.specs.WellFormed.{IsWellFormed, IsModel, IsOrder, IsOrdered, IsNumbered, IsInLimits, IsDescending, HasReset, defining, used, justice_literals, gate_in}
+use Rattle.graph.specs.Circuits.{Valuation, variable, place, value_of, defined, state_of, inputs_of, Agrees, IsOrdered, IsNumbered, IsDescending, HasReset, defining, justice_literals}
+use Rattle.graph.specs.WellFormed.{IsWellFormed, IsModel, IsOrder, IsInLimits, used, gate_in}
 use Rattle.graph.proofs.Evaluation.{held, once-left, Contains-map, All-left, All-right, All-unmap, used_outside, defined_nonzero, latches_even, latches_in_range}
 use Rattle.graph.proofs.Gates.{left, value_of-even}
 use Rattle.graph.proofs.Shape.{All-flat_map, All-unflat_map}

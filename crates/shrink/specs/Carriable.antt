@@ -2,7 +2,7 @@
 use Rattle.std.specs.Prelude.{◌<◌, List, length, All}
 use Rattle.graph.specs.declared.circuit.Lit.{Lit}
 use Rattle.graph.specs.declared.parts.Parts.{Parts}
-use Rattle.graph.specs.Valuation.{variable}
+use Rattle.graph.specs.Circuits.{variable}
 use Rattle.shrink.specs.Hashed.{image_of}
 
 -- the literal's variable has a place, and what it is carried to has a negation

@@ -4,7 +4,7 @@ use Rattle.graph.specs.declared.circuit.Lit.{Lit}
 use Rattle.graph.specs.declared.circuit.Gate.{Gate}
 use Rattle.graph.specs.declared.circuit.Latch.{Latch}
 use Rattle.graph.specs.declared.parts.Parts.{Parts}
-use Rattle.graph.specs.Valuation.{Valuation, variable, place, value_of, Agrees}
+use Rattle.graph.specs.Circuits.{Valuation, variable, place, value_of, Agrees}
 use Rattle.graph.specs.WellFormed.{gate_in}
 use Rattle.shrink.specs.Making.{Follows}
 

@@ -2,7 +2,7 @@
 use Rattle.std.specs.Prelude.{◌≡◌, ℕ, ◌+◌, ◌*◌, ◌<◌, ◌≤◌, ◌&&◌, ◌==◌, Bool, false, List, ◌++◌, length, slice_index_or, All, Option, Some}
 use Rattle.graph.specs.declared.circuit.Lit.{Lit}
 use Rattle.graph.specs.declared.circuit.Gate.{Gate}
-use Rattle.graph.specs.Valuation.{Valuation, place, value_of, Fires}
+use Rattle.graph.specs.Circuits.{Valuation, place, value_of, Fires}
 use Rattle.shrink.specs.Shrunk.{IsProper}
 
 -- the numbers of the right sides

@@ -3,8 +3,7 @@ use Rattle.std.specs.Prelude.{◌≡◌, ◌≢◌, ◌≤◌, Bool, true, false
 use Rattle.graph.specs.declared.circuit.Latch.{Latch}
 use Rattle.graph.specs.declared.circuit.Gate.{Gate}
 use Rattle.graph.specs.declared.parts.Parts.{Parts}
-use Rattle.graph.specs.Valuation.{Valuation, variable, value_of, state_of, inputs_of, Agrees}
-use Rattle.graph.specs.WellFormed.{IsOrdered}
+use Rattle.graph.specs.Circuits.{Valuation, variable, value_of, state_of, inputs_of, Agrees, IsOrdered}
 use Rattle.graph.specs.Symbols.{symbol_counts}
 
 -- the value that a latch begins with, if it is reset to one

@@ -2,7 +2,7 @@
 
 ghost use Rattle.std.specs.Prelude.{◌≡◌, ◌+◌, ◌*◌, ◌<◌, ◌≤◌, length, OnOk};
 ghost use Rattle.std.specs.HashMap.{get};
-ghost use Rattle.graph.specs.Valuation.{variable};
+ghost use Rattle.graph.specs.Circuits.{variable};
 ghost use Rattle.graph.specs.WellFormed.{IsModel};
 ghost use Rattle.shrink.specs.Hashed.{AreCarried, image_of, renamed};
 ghost use Rattle.shrink.specs.Making.{AreMade, IsTable, same_sides};

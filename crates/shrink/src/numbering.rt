@@ -1,7 +1,7 @@
 //! Numbering inputs and latches.
 
 ghost use Rattle.std.specs.Prelude.{◌≡◌, ◌≢◌, ◌+◌, ◌*◌, ◌<◌, ◌≤◌, ◌⊎◌, ℕ, All, AllPairs, Contains, IfOk, length, map, slice_index_or};
-ghost use Rattle.graph.specs.Valuation.{variable};
+ghost use Rattle.graph.specs.Circuits.{variable};
 ghost use Rattle.graph.specs.declared.circuit.Lit.{Lit as ALit};
 ghost use Rattle.shrink.specs.Hashed.{AreNumbered, bases as bases_of, image_of};
 

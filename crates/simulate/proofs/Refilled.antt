@@ -5,7 +5,7 @@ use Rattle.std.proofs.lemmas.List.{get_or-map, length-map, ext_get_or}
 use Rattle.graph.specs.declared.circuit.Lit.{Lit}
 use Rattle.graph.specs.declared.circuit.Latch.{Latch}
 use Rattle.graph.specs.declared.parts.Parts.{Parts}
-use Rattle.graph.specs.Valuation.{place, variable, value_of, defined, state_of, inputs_of, Fires, Agrees}
+use Rattle.graph.specs.Circuits.{place, variable, value_of, defined, state_of, inputs_of, Fires, Agrees}
 use Rattle.graph.specs.WellFormed.{IsWellFormed}
 use Rattle.graph.proofs.Blank.{blank_lit, blank_latch}
 use Rattle.graph.proofs.Gates.{left, value_of-even}

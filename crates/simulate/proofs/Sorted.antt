@@ -2,7 +2,7 @@
 use Rattle.std.proofs.Common.{◌≡◌, ℕ, ◌+◌, ◌%◌, ◌<◌, ◌≢◌, ◌⊎◌, ◌&&◌, Bool, List, [], ◌∷◌, ◌++◌, length, map, set, get_or, refl, inl, inr, arith, All, AllPairs, Contains, ◌∙◌, sym, ap, below_more, subst}
 use Rattle.std.proofs.lemmas.List.{get_or-map, length-map, get_or_default, get_or_append_left, get_or_push, length_push, map-set}
 use Rattle.graph.specs.declared.circuit.Gate.{Gate}
-use Rattle.graph.specs.Valuation.{place, value_of, Fires}
+use Rattle.graph.specs.Circuits.{place, value_of, Fires}
 use Rattle.graph.specs.WellFormed.{gate_in, Reads, IsOrder}
 use Rattle.graph.proofs.Filled.{same_or_not, place-set_other}
 use Rattle.graph.proofs.Gates.{left, apart_at, Fires-kept, Fires-made}

@@ -2,7 +2,8 @@
 use Rattle.std.proofs.Common.{◌≡◌, ℕ, ◌+◌, ◌<◌, ◌≤◌, ◌*◌, Bool, false, List, ◌++◌, length, map, set, get_or, arith, All, ◌∙◌, sym, below_more, length-set}
 use Rattle.std.proofs.lemmas.List.{get_or-map, length-map, ext_get_or}
 use Rattle.graph.specs.declared.parts.Parts.{Parts}
-use Rattle.graph.specs.WellFormed.{IsWellFormed, justice_literals}
+use Rattle.graph.specs.WellFormed.{IsWellFormed}
+use Rattle.graph.specs.Circuits.{justice_literals}
 use Rattle.graph.proofs.Filled.{place-set_same, place-set_other}
 use Rattle.graph.proofs.Evaluation.{All-left, All-unmap}
 

@@ -1,8 +1,7 @@
 -- Replaying a circuit, one time after another.
 use Rattle.std.specs.Prelude.{◌≡◌, Bool, List, Option, Some, None}
 use Rattle.graph.specs.declared.parts.Parts.{Parts}
-use Rattle.graph.specs.Valuation.{Valuation, Agrees, state_of, inputs_of}
-use Rattle.graph.specs.Runs.{next_state}
+use Rattle.graph.specs.Circuits.{Valuation, Agrees, state_of, inputs_of, next_state}
 
 -- a circuit, the state of the next time, and the valuation of the time before it
 pub record Replayed : Type 0 where

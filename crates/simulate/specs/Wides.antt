@@ -3,7 +3,7 @@ use Rattle.std.specs.Prelude.{◌≡◌, ℕ, ◌<◌, true, List, length, slice
 use Rattle.graph.specs.declared.circuit.Gate.{Gate}
 use Rattle.graph.specs.declared.circuit.Latch.{Latch}
 use Rattle.graph.specs.declared.parts.Parts.{Parts}
-use Rattle.graph.specs.Valuation.{Valuation, place, variable, defined}
+use Rattle.graph.specs.Circuits.{Valuation, place, variable, defined}
 use Rattle.graph.specs.WellFormed.{gate_in, Reads, IsOrder}
 use Rattle.simulate.specs.declared.replay_error.ReplayError.{ReplayError}
 use Rattle.simulate.specs.declared.replay_error.ReplayError.TheVariants.{InitialReset, OutOfMemory}

@@ -1,7 +1,7 @@
 //! The steps of an evaluation of 256 runs, over plain slices.
 
 ghost use Rattle.std.specs.Prelude.{◌≡◌, ℕ, ◌<◌, ◌+◌, ◌%◌, ◌≢◌, ◌⊎◌, ◌&&◌, length, map, All, AllPairs, Contains, IfOk, slice_index_or};
-ghost use Rattle.graph.specs.Valuation.{variable, place, value_of, Fires};
+ghost use Rattle.graph.specs.Circuits.{variable, place, value_of, Fires};
 ghost use Rattle.graph.specs.WellFormed.{IsOrder, IsWellFormed};
 ghost use Rattle.simulate.specs.Lanes.{value_in, row_of};
 ghost use Rattle.simulate.specs.Replays.{IsTheValuation};

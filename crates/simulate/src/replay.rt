@@ -2,7 +2,7 @@
 
 ghost use Rattle.std.specs.Prelude.{◌≡◌, ◌≢◌, ◌<◌, ◌≤◌, length, map, All, IfOk, IfErr, IfSome, IsSome};
 ghost use Rattle.base.specs.Witness.{witness};
-ghost use Rattle.graph.specs.Valuation.{variable, value_of};
+ghost use Rattle.graph.specs.Circuits.{variable, value_of};
 ghost use Rattle.simulate.specs.Refusals.{HasCause};
 ghost use Rattle.simulate.specs.Replays.{begun, Steps};
 ghost use Rattle.simulate.specs.Starts.{Starts};

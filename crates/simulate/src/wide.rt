@@ -2,7 +2,7 @@
 
 ghost use Rattle.std.specs.Prelude.{◌≡◌, ◌≢◌, ◌<◌, ◌≤◌, ℕ, length, IfOk, IfErr, IfSome, IsSome};
 ghost use Rattle.base.specs.Witness.{witness};
-ghost use Rattle.graph.specs.Valuation.{variable, value_of};
+ghost use Rattle.graph.specs.Circuits.{variable, value_of};
 ghost use Rattle.simulate.specs.Lanes.{value_in, row_of};
 ghost use Rattle.simulate.specs.Wides.{wide_begun, AllStart, AllStep, HasWideCause};
 

@@ -4,9 +4,7 @@ use Rattle.std.proofs.lemmas.List.{take_more, drop_more, get_or-append-add, get_
 use Rattle.std.proofs.lemmas.List.Elements.{All-nil, All-cons, All-head, All-tail}
 use Rattle.graph.specs.declared.circuit.Latch.{Latch}
 use Rattle.graph.specs.declared.parts.Parts.{Parts}
-use Rattle.graph.specs.Valuation.{Valuation, value_of, Agrees, state_of, inputs_of}
-use Rattle.graph.specs.Runs.{next_state, IsInitial, StartsInitial, IsRun, Steps}
-use Rattle.graph.specs.Justice.{at}
+use Rattle.graph.specs.Circuits.{Valuation, value_of, Agrees, state_of, inputs_of, next_state, IsInitial, StartsInitial, IsRun, Steps, at}
 use Rattle.simulate.specs.Replays.{Replayed, IsTheValuation, Steps as Passes}
 use Rattle.simulate.specs.Starts.{Starts}
 use Rattle.stimulus.specs.Shown.{Begins, IsReplay, last_of, closing_state}

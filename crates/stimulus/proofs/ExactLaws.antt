@@ -6,13 +6,10 @@ use Rattle.graph.specs.declared.circuit.Lit.{Lit}
 use Rattle.graph.specs.declared.circuit.Property.{Property}
 use Rattle.graph.specs.declared.circuit.Property.TheVariants.{Justice}
 use Rattle.graph.specs.declared.parts.Parts.{Parts}
-use Rattle.graph.specs.Valuation.{Valuation, value_of, inputs_of}
-use Rattle.graph.specs.Runs.{IsRun, KeepsConstraints}
-use Rattle.graph.specs.Justice.{at, wanted_of}
+use Rattle.graph.specs.Circuits.{Valuation, value_of, inputs_of, IsRun, KeepsConstraints, at, wanted_of, position_of, HasProperty, IsWatched}
 use Rattle.stimulus.specs.declared.value.Stimulus.TheVariants.{Violated}
 use Rattle.stimulus.specs.declared.judge_error.JudgeError.{JudgeError}
 use Rattle.stimulus.specs.declared.judge_error.JudgeError.TheVariants.{NotViolated, NoProperty, LineLength, NoInputLine, InitialReset, ConstraintBroken, BadNotSet, NoLasso, OutOfMemory}
-use Rattle.graph.specs.Properties.{position_of, HasProperty, IsWatched}
 use Rattle.graph.proofs.Alone.{watched_one, watched_there}
 use Rattle.stimulus.specs.Shown.{Begins, IsReplay, Shows, ClosesLasso, last_of, closing_state}
 use Rattle.stimulus.specs.Causes.{HasCauseIn, KeepsAt, BreaksAt, LeavesBad, LeavesLasso}

@@ -6,8 +6,7 @@ use Rattle.std.proofs.lemmas.List.{get_or-drop, get_or-replicate, drop_more}
 use Rattle.std.proofs.lemmas.Option.{same_Some}
 use Rattle.graph.specs.declared.circuit.Lit.{Lit}
 use Rattle.graph.specs.declared.parts.Parts.{Parts}
-use Rattle.graph.specs.Valuation.{Valuation, value_of, place, state_of}
-use Rattle.graph.specs.Justice.{at, IsSetWithin}
+use Rattle.graph.specs.Circuits.{Valuation, value_of, place, state_of, at, IsSetWithin}
 use Rattle.graph.proofs.Filled.{place-set_same, place-set_other}
 use Rattle.simulate.specs.Replays.{Replayed}
 use Rattle.stimulus.specs.Shown.{ClosesLasso}

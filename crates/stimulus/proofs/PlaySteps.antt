@@ -4,8 +4,7 @@ use Rattle.std.proofs.Math.Seq.{get_or-append_seam}
 use Rattle.std.proofs.Math.ListN.{get_or-append}
 use Rattle.std.proofs.lemmas.List.{get_or_default, length-take-le}
 use Rattle.graph.specs.declared.parts.Parts.{Parts}
-use Rattle.graph.specs.Valuation.{Valuation}
-use Rattle.graph.specs.Justice.{at}
+use Rattle.graph.specs.Circuits.{Valuation, at}
 use Rattle.simulate.specs.Replays.{Replayed}
 use Rattle.stimulus.specs.Causes.{KeepsAt}
 use Rattle.stimulus.specs.Courses.{IsPlayed, PlaysAll, PlaysUpTo}

@@ -3,9 +3,8 @@ use Rattle.std.proofs.Common.{ℕ, zero, suc, ◌+◌, ◌*◌, ◌<◌, ◌≤�
 use Rattle.std.proofs.lemmas.List.Elements.{All-append}
 use Rattle.graph.specs.declared.circuit.Lit.{Lit}
 use Rattle.graph.specs.declared.parts.Parts.{Parts}
-use Rattle.graph.specs.Valuation.{variable}
-use Rattle.graph.specs.WellFormed.{IsWellFormed, justice_literals}
-use Rattle.graph.specs.Justice.{wanted_of}
+use Rattle.graph.specs.Circuits.{variable, justice_literals, wanted_of}
+use Rattle.graph.specs.WellFormed.{IsWellFormed}
 use Rattle.graph.proofs.Evaluation.{All-left, All-right, used_outside}
 
 -- of one of the circuit's variables

@@ -9,8 +9,7 @@ use Rattle.base.specs.Devices.{Puts, PutsBeginning}
 use Rattle.base.proofs.Putting.{begins_behind, begins_more}
 use Rattle.graph.specs.declared.parts.Parts.{Parts}
 use Rattle.graph.specs.declared.circuit.Lit.{Lit}
-use Rattle.graph.specs.Valuation.{Valuation, inputs_of, state_of, value_of}
-use Rattle.graph.specs.Justice.{at}
+use Rattle.graph.specs.Circuits.{Valuation, inputs_of, state_of, value_of, at}
 use Rattle.simulate.specs.Replays.{Replayed, Steps}
 use Rattle.stimulus.specs.Shown.{IsReplay, closing_state}
 use Rattle.stimulus.specs.Courses.{Course, IsAt}

@@ -10,7 +10,7 @@ use Rattle.scan.proofs.WordLaws.{field_reads}
 use Rattle.scan.proofs.ListLaws.{TakesSome, items_reads}
 use Rattle.graph.specs.declared.circuit.Property.{Property}
 use Rattle.graph.specs.declared.circuit.Property.TheVariants.{Bad, Justice, Output}
-use Rattle.graph.specs.Properties.{position_of}
+use Rattle.graph.specs.Circuits.{position_of}
 use Rattle.stimulus.specs.declared.value.Stimulus.{Stimulus}
 use Rattle.stimulus.specs.declared.value.Stimulus.TheVariants.{Holds, Violated, Unknown}
 use Rattle.stimulus.specs.Texts.{property_line, value_text, line_text, SpellsStimulus}

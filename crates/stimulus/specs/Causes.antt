@@ -5,10 +5,7 @@ use Rattle.graph.specs.declared.circuit.Lit.{Lit}
 use Rattle.graph.specs.declared.circuit.Property.{Property}
 use Rattle.graph.specs.declared.circuit.Property.TheVariants.{Justice}
 use Rattle.graph.specs.declared.parts.Parts.{Parts}
-use Rattle.graph.specs.Valuation.{Valuation, value_of}
-use Rattle.graph.specs.Runs.{IsRun, KeepsConstraints}
-use Rattle.graph.specs.Justice.{wanted_of, at}
-use Rattle.graph.specs.Properties.{position_of, HasProperty, IsWatched}
+use Rattle.graph.specs.Circuits.{Valuation, value_of, IsRun, KeepsConstraints, wanted_of, at, position_of, HasProperty, IsWatched}
 use Rattle.simulate.specs.Starts.{Starts, IsFirstAgainst}
 use Rattle.stimulus.specs.declared.value.Stimulus.{Stimulus}
 use Rattle.stimulus.specs.declared.value.Stimulus.TheVariants.{Holds, Violated, Unknown}

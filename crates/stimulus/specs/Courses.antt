@@ -2,9 +2,7 @@
 use Rattle.std.specs.Prelude.{◌≡◌, ℕ, ◌+◌, ◌<◌, ◌⊎◌, Bool, true, List, [], ◌∷◌, ◌++◌, length, take, drop, slice_index_or, Some, All}
 use Rattle.graph.specs.declared.circuit.Lit.{Lit}
 use Rattle.graph.specs.declared.parts.Parts.{Parts}
-use Rattle.graph.specs.Valuation.{Valuation, value_of, place, Agrees, state_of, inputs_of}
-use Rattle.graph.specs.Runs.{next_state}
-use Rattle.graph.specs.Justice.{at}
+use Rattle.graph.specs.Circuits.{Valuation, value_of, place, Agrees, state_of, inputs_of, next_state, at}
 use Rattle.simulate.specs.Replays.{Replayed}
 use Rattle.simulate.specs.Starts.{Starts, IsFirstAgainst}
 use Rattle.stimulus.specs.declared.judge_error.JudgeError.{JudgeError}

@@ -2,7 +2,7 @@
 use Rattle.std.specs.Prelude.{◌≡◌, ℕ, Bool, List, Option}
 use Rattle.std.specs.Io.KnownBytes.{Appends}
 use Rattle.graph.specs.declared.parts.Parts.{Parts}
-use Rattle.graph.specs.Valuation.{Valuation}
+use Rattle.graph.specs.Circuits.{Valuation}
 use Rattle.simulate.specs.Replays.{Replayed, Steps}
 use Rattle.stimulus.specs.Shown.{IsReplay}
 use Rattle.stimulus.specs.Courses.{IsPlayed}

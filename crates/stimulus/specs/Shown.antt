@@ -3,10 +3,7 @@ use Rattle.std.specs.Prelude.{◌≡◌, ℕ, ◌-◌, ◌<◌, ◌⊎◌, Bool,
 use Rattle.graph.specs.declared.circuit.Lit.{Lit}
 use Rattle.graph.specs.declared.circuit.Property.TheVariants.{Justice}
 use Rattle.graph.specs.declared.parts.Parts.{Parts}
-use Rattle.graph.specs.Properties.{IsWatched}
-use Rattle.graph.specs.Valuation.{Valuation, value_of, Agrees, state_of, inputs_of}
-use Rattle.graph.specs.Runs.{next_state, Steps, IsRun, KeepsConstraints}
-use Rattle.graph.specs.Justice.{wanted_of, at, IsSetWithin}
+use Rattle.graph.specs.Circuits.{IsWatched, Valuation, value_of, Agrees, state_of, inputs_of, next_state, Steps, IsRun, KeepsConstraints, wanted_of, at, IsSetWithin}
 use Rattle.stimulus.specs.declared.value.Stimulus.{Stimulus}
 use Rattle.stimulus.specs.declared.value.Stimulus.TheVariants.{Holds, Violated, Unknown}
 use Rattle.stimulus.specs.Texts.{property_of}

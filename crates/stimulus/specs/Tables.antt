@@ -3,8 +3,7 @@ use Rattle.std.specs.Prelude.{◌≡◌, ℕ, ◌+◌, Bool, List, [], ◌∷◌
 use Rattle.std.specs.Io.KnownBytes.{Appends}
 use Rattle.base.specs.Devices.{PutsBeginning}
 use Rattle.graph.specs.declared.parts.Parts.{Parts}
-use Rattle.graph.specs.Valuation.{Valuation, value_of, state_of, inputs_of}
-use Rattle.graph.specs.Runs.{IsRun}
+use Rattle.graph.specs.Circuits.{Valuation, value_of, state_of, inputs_of, IsRun}
 use Rattle.simulate.specs.Starts.{Starts, IsFirstAgainst}
 use Rattle.stimulus.specs.declared.value.Stimulus.{Stimulus}
 use Rattle.stimulus.specs.declared.value.Stimulus.TheVariants.{Holds, Violated, Unknown}

@@ -1,7 +1,7 @@
 -- Texts of stimuli (the layout of the hardware model checking competition).
 use Rattle.std.specs.Prelude.{◌≡◌, ℕ, ◌<◌, ◌^◌, Bool, List, ◌++◌, codes, flat_map, if◌then◌else◌}
 use Rattle.graph.specs.declared.circuit.Property.{Property}
-use Rattle.graph.specs.Properties.{position_of, property_text}
+use Rattle.graph.specs.Circuits.{position_of, property_text}
 use Rattle.stimulus.specs.declared.value.Stimulus.{Stimulus}
 use Rattle.stimulus.specs.declared.value.Stimulus.TheVariants.{Holds, Violated, Unknown}
 

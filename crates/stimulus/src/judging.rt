@@ -4,8 +4,7 @@ ghost use Rattle.std.specs.Prelude.{◌≡◌, ◌≢◌, ◌≤◌, IfErr, OnOk
 ghost use Rattle.base.specs.Witness.{witness};
 ghost use Rattle.graph.specs.declared.circuit.Property.{Property as AProperty};
 ghost use Rattle.graph.specs.declared.circuit.Property.TheVariants.{Justice};
-ghost use Rattle.graph.specs.Properties.{IsWatched};
-ghost use Rattle.graph.specs.Valuation.{variable};
+ghost use Rattle.graph.specs.Circuits.{IsWatched, variable};
 ghost use Rattle.stimulus.specs.Causes.{HasCause, HasCauseIn, IsFit};
 ghost use Rattle.stimulus.specs.Courses.{HasRun};
 ghost use Rattle.stimulus.specs.Shown.{Shows};

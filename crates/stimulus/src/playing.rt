@@ -1,7 +1,7 @@
 //! Replaying all lines.
 
 ghost use Rattle.std.specs.Prelude.{◌≡◌, ◌≢◌, ◌≤◌, [], ◌↔◌, true, IsTrue, IsSome, Some, All, length, IfOk, IfErr, MatchOption};
-ghost use Rattle.graph.specs.Valuation.{Valuation, value_of, variable};
+ghost use Rattle.graph.specs.Circuits.{Valuation, value_of, variable};
 ghost use Rattle.stimulus.specs.Courses.{HasRun, HasRunCause, PlaysAll, PlaysUpTo};
 
 use crate::judge_error::JudgeError;

@@ -2,7 +2,7 @@
 
 ghost use Rattle.std.specs.Prelude.{◌≡◌, ◌≢◌, ◌≤◌, ◌+◌, ◌-◌, ◌^◌, ◌<◌, ◌++◌, List, [], All, length, map, Some, IsSome, IfErr, OnOk, OnErr, decimal, flat_map, Option, ℕ};
 ghost use Rattle.base.specs.Devices.{CountsFailure, Puts, PutsBeginning};
-ghost use Rattle.graph.specs.Valuation.{Valuation, inputs_of, value_of, variable};
+ghost use Rattle.graph.specs.Circuits.{Valuation, inputs_of, value_of, variable};
 ghost use Rattle.simulate.specs.Starts.{Starts};
 ghost use Rattle.stimulus.specs.Causes.{IsPlayable};
 ghost use Rattle.stimulus.specs.Courses.{Course, IsAt};

@@ -3,7 +3,7 @@
 ghost use Rattle.std.specs.Prelude.{◌≡◌, ◌-◌, ◌^◌, ◌<◌, ◌++◌, ℕ, List, OnOk, OnErr, codes, decimal, flat_map};
 ghost use Rattle.std.specs.Io.KnownBytes.{Appends};
 ghost use Rattle.base.specs.Devices.{CountsFailure, Puts, PutsBeginning};
-ghost use Rattle.graph.specs.Properties.{position_of, property_text};
+ghost use Rattle.graph.specs.Circuits.{position_of, property_text};
 ghost use Rattle.stimulus.specs.Texts.{SpellsStimulus, line_text, property_line, property_of, stimulus_text, value_text, violated_text};
 
 use crate::stim_write_error::StimWriteError;

@@ -11,8 +11,8 @@ use Rattle.graph.specs.declared.symbol.Symbol.{Symbol}
 use Rattle.graph.specs.declared.symbol.SymbolKind.{SymbolKind}
 use Rattle.graph.specs.File.{File}
 use Rattle.graph.specs.Symbols.{index_of, AreSymbols}
-use Rattle.graph.specs.Valuation.{variable}
-use Rattle.graph.specs.WellFormed.{IsWellFormed, justice_literals}
+use Rattle.graph.specs.Circuits.{variable, justice_literals}
+use Rattle.graph.specs.WellFormed.{IsWellFormed}
 use Rattle.graph.proofs.Evaluation.{All-left, All-right}
 use Rattle.stimulus.proofs.Ranges.{bad_in_range, constraints_in_range, outputs_in_range}
 use Rattle.trace.specs.declared.bits.Bit.{Bit}

@@ -5,7 +5,7 @@ use Rattle.std.proofs.lemmas.Grind.{flat_map-append}
 use Rattle.std.proofs.Math.Seq.{take-append_seam, drop-append_seam}
 use Rattle.std.proofs.lemmas.List.{append-nil, drop-drop, length-map, length-take-le}
 use Rattle.graph.specs.declared.parts.Parts.{Parts}
-use Rattle.graph.specs.Valuation.{Valuation, value_of}
+use Rattle.graph.specs.Circuits.{Valuation, value_of}
 use Rattle.simulate.specs.Replays.{Replayed, Steps}
 use Rattle.stimulus.proofs.CourseLaws.{moves_of, played_none, played_more}
 use Rattle.trace.specs.declared.bits.Bit.{Bit}

@@ -4,8 +4,7 @@ use Rattle.std.proofs.lemmas.List.{take_all}
 use Rattle.graph.specs.declared.circuit.Lit.{Lit}
 use Rattle.graph.specs.declared.circuit.Property.TheVariants.{Bad, Justice, Output}
 use Rattle.graph.specs.declared.parts.Parts.{Parts}
-use Rattle.graph.specs.Justice.{wanted_of}
-use Rattle.graph.specs.Valuation.{Valuation, place}
+use Rattle.graph.specs.Circuits.{wanted_of, Valuation, place}
 use Rattle.stimulus.specs.Courses.{Course, Marks, MeetsAt, NeverMeets}
 use Rattle.simulate.specs.Replays.{Replayed}
 use Rattle.stimulus.specs.Shown.{ClosesLasso, IsReplay, closing_state}

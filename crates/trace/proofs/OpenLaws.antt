@@ -9,7 +9,7 @@ use Rattle.graph.specs.declared.circuit.Latch.{Latch}
 use Rattle.graph.specs.declared.parts.Parts.{Parts}
 use Rattle.graph.specs.WellFormed.{IsWellFormed}
 use Rattle.graph.proofs.Evaluation.{latches_even}
-use Rattle.graph.specs.Valuation.{Fires, Valuation, place, state_of, value_of, variable}
+use Rattle.graph.specs.Circuits.{Fires, Valuation, place, state_of, value_of, variable}
 use Rattle.witness.specs.Completions.{Completes, Keeps}
 use Rattle.trace.specs.OpenValues.{AreGiven, Stand, open_and, open_not, open_place, open_value_of}
 

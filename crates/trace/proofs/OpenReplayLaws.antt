@@ -5,8 +5,7 @@ use Rattle.std.proofs.lemmas.Grind.{flat_map-append}
 use Rattle.std.proofs.lemmas.List.{append-nil, get_or_append_left, get_or_push, length_push, drop_more, ext_get_or, get_or-map, get_or-set_same, get_or-set_other, length-map, take_all, take_more}
 use Rattle.graph.specs.declared.circuit.Latch.{Latch}
 use Rattle.graph.specs.declared.parts.Parts.{Parts}
-use Rattle.graph.specs.Runs.{next_state}
-use Rattle.graph.specs.Valuation.{Valuation, value_of}
+use Rattle.graph.specs.Circuits.{next_state, Valuation, value_of}
 use Rattle.stimulus.specs.Courses.{Course, IsAt}
 use Rattle.stimulus.proofs.CourseLaws.{course_length}
 use Rattle.witness.specs.Completions.{Completes, Keeps}

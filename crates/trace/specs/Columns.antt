@@ -2,7 +2,7 @@
 use Rattle.std.specs.Prelude.{◌≡◌, ℕ, zero, suc, Bool, List, [], ◌∷◌, Option, Some, map, take, drop}
 use Rattle.std.specs.List.{flat_map}
 use Rattle.graph.specs.declared.parts.Parts.{Parts}
-use Rattle.graph.specs.Valuation.{Valuation, value_of}
+use Rattle.graph.specs.Circuits.{Valuation, value_of}
 use Rattle.simulate.specs.Replays.{Replayed}
 use Rattle.stimulus.specs.Courses.{IsPlayed}
 use Rattle.trace.specs.declared.bits.Bit.{Bit}

@@ -4,8 +4,7 @@ use Rattle.graph.specs.declared.circuit.Lit.{Lit}
 use Rattle.graph.specs.declared.circuit.Property.{Property}
 use Rattle.graph.specs.declared.circuit.Property.TheVariants.{Justice}
 use Rattle.graph.specs.declared.parts.Parts.{Parts}
-use Rattle.graph.specs.Justice.{wanted_of}
-use Rattle.graph.specs.Valuation.{Valuation}
+use Rattle.graph.specs.Circuits.{wanted_of, Valuation}
 use Rattle.stimulus.specs.Shown.{ClosesLasso}
 
 -- the first time from which the replay closes a lasso with this closing state in which each wanted literal is set, or none

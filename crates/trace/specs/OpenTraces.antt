@@ -4,7 +4,7 @@ use Rattle.std.specs.Io.KnownBytes.{Appends}
 use Rattle.base.specs.Devices.{PutsBeginning}
 use Rattle.graph.specs.declared.circuit.Latch.{Latch}
 use Rattle.graph.specs.declared.parts.Parts.{Parts}
-use Rattle.graph.specs.Valuation.{Valuation}
+use Rattle.graph.specs.Circuits.{Valuation}
 use Rattle.graph.specs.File.{File}
 use Rattle.simulate.specs.Starts.{Starts}
 use Rattle.stimulus.specs.declared.sim_error.SimError.{SimError}

@@ -3,7 +3,7 @@ use Rattle.std.specs.Prelude.{◌≡◌, ℕ, ◌<◌, ◌%◌, Bool, true, fals
 use Rattle.graph.specs.declared.circuit.Lit.{Lit}
 use Rattle.graph.specs.declared.circuit.Gate.{Gate}
 use Rattle.graph.specs.declared.circuit.Latch.{Latch}
-use Rattle.graph.specs.Valuation.{Valuation, place, variable}
+use Rattle.graph.specs.Circuits.{Valuation, place, variable}
 use Rattle.witness.specs.Completions.{Keeps}
 
 -- the value of a variable, where it is known

@@ -4,7 +4,7 @@ use Rattle.std.specs.Io.KnownBytes.{Appends}
 use Rattle.std.specs.List.{flat_map}
 use Rattle.base.specs.Devices.{PutsBeginning}
 use Rattle.graph.specs.declared.circuit.Property.{Property}
-use Rattle.graph.specs.Valuation.{Valuation}
+use Rattle.graph.specs.Circuits.{Valuation}
 use Rattle.graph.specs.File.{File}
 use Rattle.simulate.specs.Starts.{Starts, IsFirstAgainst}
 use Rattle.stimulus.specs.declared.value.Stimulus.{Stimulus}

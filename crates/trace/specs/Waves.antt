@@ -3,7 +3,7 @@ use Rattle.std.specs.Prelude.{◌≡◌, ℕ, Bool, List, [], ◌++◌, Option, 
 use Rattle.std.specs.Io.KnownBytes.{Appends}
 use Rattle.base.specs.Devices.{PutsBeginning}
 use Rattle.graph.specs.declared.circuit.Property.{Property}
-use Rattle.graph.specs.Valuation.{Valuation}
+use Rattle.graph.specs.Circuits.{Valuation}
 use Rattle.graph.specs.File.{File}
 use Rattle.simulate.specs.Starts.{Starts, IsFirstAgainst}
 use Rattle.stimulus.specs.declared.value.Stimulus.{Stimulus}

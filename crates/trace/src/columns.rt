@@ -1,7 +1,7 @@
 //! The values of bits at each time of a replay.
 
 ghost use Rattle.std.specs.Prelude.{◌≡◌, ◌≤◌, ◌++◌, All, Some, IsSome, IfOk, OnOk, length};
-ghost use Rattle.graph.specs.Valuation.{Valuation, variable};
+ghost use Rattle.graph.specs.Circuits.{Valuation, variable};
 ghost use Rattle.trace.specs.Columns.{HasValues, known_at};
 
 use crate::bits::Bit;

@@ -1,8 +1,7 @@
 //! Where the loop of a lasso begins.
 
 ghost use Rattle.std.specs.Prelude.{◌≡◌, ◌≤◌, ◌<◌, ℕ, [], ◌∷◌, ◌↔◌, true, IsTrue, IsSome, Some, List, All, length, IfOk, IfErr, MatchOption};
-ghost use Rattle.graph.specs.Justice.{wanted_of};
-ghost use Rattle.graph.specs.Valuation.{Valuation, place, variable};
+ghost use Rattle.graph.specs.Circuits.{wanted_of, Valuation, place, variable};
 ghost use Rattle.simulate.specs.Refusals.{HasCause};
 ghost use Rattle.stimulus.specs.Courses.{Course, Marks, MeetsAt, NeverMeets};
 ghost use Rattle.trace.specs.Loops.{IsFirstLasso, IsLoopStart};

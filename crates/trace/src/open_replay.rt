@@ -3,8 +3,7 @@
 ghost use Rattle.std.specs.Prelude.{◌≡◌, ◌≤◌, ◌<◌, ◌*◌, ◌+◌, ◌++◌, ℕ, slice_index_or, List, Bool, All, length, map, IfOk, OnOk};
 ghost use Rattle.std.specs.List.{flat_map};
 ghost use Rattle.graph.specs.declared.circuit.Latch.{Latch as ALatch};
-ghost use Rattle.graph.specs.Runs.{next_state};
-ghost use Rattle.graph.specs.Valuation.{Valuation, variable};
+ghost use Rattle.graph.specs.Circuits.{next_state, Valuation, variable};
 ghost use Rattle.simulate.specs.Starts.{Starts};
 ghost use Rattle.stimulus.specs.Courses.{Course, IsAt};
 ghost use Rattle.stimulus.specs.Shown.{IsReplay};

@@ -2,7 +2,7 @@
 
 ghost use Rattle.std.specs.Prelude.{◌≡◌, ◌≤◌, ◌<◌, ◌%◌, ◌+◌, ◌≢◌, ℕ, false, List, Bool, All, AllPairs, Contains, None, length, map, slice_index_or, ◌⊎◌};
 ghost use Rattle.graph.specs.declared.circuit.Lit.{Lit as ALit};
-ghost use Rattle.graph.specs.Valuation.{Fires, Valuation, place, variable};
+ghost use Rattle.graph.specs.Circuits.{Fires, Valuation, place, variable};
 ghost use Rattle.graph.specs.WellFormed.{IsOrder};
 ghost use Rattle.stimulus.specs.Courses.{IsAt};
 ghost use Rattle.witness.specs.Completions.{Completes};

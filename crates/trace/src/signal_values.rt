@@ -1,7 +1,7 @@
 //! The values of a file's signals at each time of a replay.
 
 ghost use Rattle.std.specs.Prelude.{◌≡◌, ◌≢◌, ◌≤◌, ℕ, List, Option, None, All, IfOk, IfErr};
-ghost use Rattle.graph.specs.Valuation.{variable};
+ghost use Rattle.graph.specs.Circuits.{variable};
 ghost use Rattle.simulate.specs.Starts.{Starts};
 ghost use Rattle.stimulus.specs.Causes.{IsPlayable};
 ghost use Rattle.stimulus.specs.Tables.{HasSimCauseIn};

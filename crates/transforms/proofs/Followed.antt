@@ -6,9 +6,7 @@ use Rattle.std.proofs.lemmas.List.Elements.{All-nil, All-cons, All-head, All-tai
 use Rattle.graph.specs.declared.circuit.Lit.{Lit}
 use Rattle.graph.specs.declared.circuit.Latch.{Latch}
 use Rattle.graph.specs.declared.parts.Parts.{Parts}
-use Rattle.graph.specs.Justice.{at}
-use Rattle.graph.specs.Valuation.{Valuation, variable, place, value_of, state_of, inputs_of, Agrees}
-use Rattle.graph.specs.Runs.{IsInitial, IsStep, Steps, IsRun, next_state}
+use Rattle.graph.specs.Circuits.{at, Valuation, variable, place, value_of, state_of, inputs_of, Agrees, IsInitial, IsStep, Steps, IsRun, next_state}
 use Rattle.live_safe.proofs.Forced.{all_from_map}
 use Rattle.live_safe.proofs.Values.{value-at}
 use Rattle.cones.specs.Marks.{AreSameAt, ExistenceLaw}

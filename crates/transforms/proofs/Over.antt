@@ -8,7 +8,7 @@ use Rattle.graph.specs.declared.circuit.Lit.{Lit}
 use Rattle.graph.specs.declared.circuit.Property.{Property}
 use Rattle.graph.specs.declared.circuit.Property.TheVariants.{Bad, Justice, Output}
 use Rattle.graph.specs.declared.parts.Parts.{Parts}
-use Rattle.graph.specs.Valuation.{variable, place}
+use Rattle.graph.specs.Circuits.{variable, place}
 use Rattle.graph.specs.WellFormed.{IsWellFormed}
 use Rattle.stimulus.proofs.Ranges.{bad_in_range, outputs_in_range}
 use Rattle.live_safe.proofs.Ranges.{AreIn, are_in}

@@ -9,10 +9,7 @@ use Rattle.graph.specs.declared.circuit.Gate.{Gate}
 use Rattle.graph.specs.declared.circuit.Property.{Property}
 use Rattle.graph.specs.declared.circuit.Property.TheVariants.{Bad, Justice, Output}
 use Rattle.graph.specs.declared.parts.Parts.{Parts}
-use Rattle.graph.specs.Properties.{IsWatched}
-use Rattle.graph.specs.Valuation.{Valuation, variable, place, value_of, Agrees, Fires}
-use Rattle.graph.specs.Runs.{IsRun, KeepsConstraints}
-use Rattle.graph.specs.Justice.{at}
+use Rattle.graph.specs.Circuits.{IsWatched, Valuation, variable, place, value_of, Agrees, Fires, IsRun, KeepsConstraints, at}
 use Rattle.graph.specs.WellFormed.{IsWellFormed, used}
 use Rattle.graph.proofs.Alone.{watched_one}
 use Rattle.graph.proofs.Evaluation.{All-unmap}

@@ -8,9 +8,7 @@ use Rattle.graph.specs.declared.circuit.Lit.{Lit}
 use Rattle.graph.specs.declared.circuit.Latch.{Latch}
 use Rattle.graph.specs.declared.circuit.Property.TheVariants.{Bad}
 use Rattle.graph.specs.declared.parts.Parts.{Parts}
-use Rattle.graph.specs.Justice.{at}
-use Rattle.graph.specs.Valuation.{Valuation, place, variable, value_of, state_of, inputs_of, defined}
-use Rattle.graph.specs.Runs.{IsReset, IsRun, KeepsConstraints}
+use Rattle.graph.specs.Circuits.{at, Valuation, place, variable, value_of, state_of, inputs_of, defined, IsReset, IsRun, KeepsConstraints}
 use Rattle.graph.specs.WellFormed.{IsWellFormed, only_bad}
 use Rattle.graph.proofs.Alone.{run_with, run_without, watched_one}
 use Rattle.graph.proofs.Evaluation.{held, All-right, Contains-map}

@@ -4,7 +4,7 @@ use Rattle.graph.specs.declared.circuit.Lit.{Lit}
 use Rattle.graph.specs.declared.circuit.Property.{Property}
 use Rattle.graph.specs.declared.circuit.Property.TheVariants.{Bad, Justice, Output}
 use Rattle.graph.specs.declared.parts.Parts.{Parts}
-use Rattle.graph.specs.Valuation.{variable, place}
+use Rattle.graph.specs.Circuits.{variable, place}
 use Rattle.cones.specs.Marks.{IsMarked, IsCone}
 
 -- the literal and the constraints are of the cone, and with a gate its right sides, and with a latch its next literal

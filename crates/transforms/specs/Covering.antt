@@ -5,10 +5,7 @@ use Rattle.graph.specs.declared.circuit.Latch.{Latch}
 use Rattle.graph.specs.declared.circuit.Property.{Property}
 use Rattle.graph.specs.declared.circuit.Property.TheVariants.{Bad}
 use Rattle.graph.specs.declared.parts.Parts.{Parts}
-use Rattle.graph.specs.Justice.{at}
-use Rattle.graph.specs.Properties.{IsWatched}
-use Rattle.graph.specs.Runs.{IsRun, KeepsConstraints}
-use Rattle.graph.specs.Valuation.{Valuation, value_of}
+use Rattle.graph.specs.Circuits.{at, IsWatched, IsRun, KeepsConstraints, Valuation, value_of}
 use Rattle.graph.specs.WellFormed.{only_bad}
 use Rattle.stimulus.specs.declared.value.Stimulus.TheVariants.{Violated}
 use Rattle.stimulus.specs.Shown.{IsReplay, ShowsBad}

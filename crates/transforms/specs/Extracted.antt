@@ -5,10 +5,7 @@ use Rattle.graph.specs.declared.circuit.Latch.{Latch}
 use Rattle.graph.specs.declared.circuit.Property.{Property}
 use Rattle.graph.specs.declared.circuit.Property.TheVariants.{Bad, Justice, Output}
 use Rattle.graph.specs.declared.parts.Parts.{Parts}
-use Rattle.graph.specs.Justice.{at}
-use Rattle.graph.specs.Properties.{IsWatched, position_of}
-use Rattle.graph.specs.Runs.{IsRun, KeepsConstraints, IsSafe}
-use Rattle.graph.specs.Valuation.{Valuation, variable, place, value_of, state_of, inputs_of}
+use Rattle.graph.specs.Circuits.{at, IsWatched, position_of, IsRun, KeepsConstraints, IsSafe, Valuation, variable, place, value_of, state_of, inputs_of}
 use Rattle.transforms.specs.declared.error.TransformError.{TransformError}
 use Rattle.transforms.specs.declared.error.TransformError.TheVariants.{NoProperty, Circuit, Shadow, OutOfMemory, Name}
 use Rattle.transforms.specs.Cones.{IsConeOf}

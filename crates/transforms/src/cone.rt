@@ -1,7 +1,7 @@
 //! The variables on which literals rest at any time.
 
 ghost use Rattle.std.specs.Prelude.{◌≡◌, ◌≤◌, ◌↔◌, All, IfOk, IsTrue};
-ghost use Rattle.graph.specs.Valuation.{variable as variable_of, place};
+ghost use Rattle.graph.specs.Circuits.{variable as variable_of, place};
 ghost use Rattle.cones.specs.Marks.{IsMarked};
 ghost use Rattle.transforms.specs.Cones.{IsConeOf, is_over as is_over_of};
 

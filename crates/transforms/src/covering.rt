@@ -2,7 +2,7 @@
 
 ghost use Rattle.std.specs.Prelude.{◌≡◌, ◌+◌, ◌<◌, ◌≤◌, ◌⊎◌, [], length, None, IfOk, IfErr};
 ghost use Rattle.base.specs.Witness.{witness};
-ghost use Rattle.graph.specs.Properties.{HasProperty};
+ghost use Rattle.graph.specs.Circuits.{HasProperty};
 ghost use Rattle.graph.specs.WellFormed.{IsWellFormed, only_bad};
 ghost use Rattle.extension.specs.Rounds.{always};
 ghost use Rattle.transforms.specs.Covering.{IsAlwaysBad, IsBadBehind, ShowsRun, behind as behind_of, step_latches as step_latches_of, step_literal as step_literal_of};

@@ -8,10 +8,8 @@ use Rattle.graph.specs.declared.circuit.Lit.{Lit}
 use Rattle.graph.specs.declared.circuit.Property.{Property}
 use Rattle.graph.specs.declared.circuit.Property.TheVariants.{Bad, Justice, Output}
 use Rattle.graph.specs.declared.parts.Parts.{Parts}
-use Rattle.graph.specs.Valuation.{Valuation, value_of}
-use Rattle.graph.specs.Justice.{at}
-use Rattle.graph.specs.Properties.{HasProperty, IsAlone}
-use Rattle.graph.specs.WellFormed.{IsWellFormed}
+use Rattle.graph.specs.Circuits.{Valuation, value_of, at, HasProperty}
+use Rattle.graph.specs.WellFormed.{IsAlone, IsWellFormed}
 use Rattle.graph.proofs.Alone.{watched_there}
 use Rattle.stimulus.specs.Shown.{ShowsBad}
 use Rattle.stimulus.specs.declared.value.Stimulus.TheVariants.{Violated}

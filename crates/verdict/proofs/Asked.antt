@@ -6,11 +6,11 @@ use Rattle.base.specs.Witness.{witness}
 use Rattle.graph.specs.declared.circuit.Lit.{Lit}
 use Rattle.graph.specs.declared.circuit.Property.{Property}
 use Rattle.graph.specs.declared.parts.Parts.{Parts}
-use Rattle.graph.specs.Properties.{HasProperty}
+use Rattle.graph.specs.Circuits.{HasProperty, IsUpheld}
 use Rattle.graph.specs.WellFormed.{IsWellFormed}
 use Rattle.stimulus.specs.declared.value.Stimulus.{Stimulus}
 use Rattle.certificate.specs.declared.certificate.Certificate.{Certificate}
-use Rattle.checker.specs.Accepted.{IsUpheld, circuit_of}
+use Rattle.checker.specs.Accepted.{circuit_of}
 use Rattle.checker.specs.declared.invariant.ClauseFault.TheVariants as fault
 use Rattle.checker.proofs.Accepted.{accepted_law, first_fault_refuses}
 use Rattle.certify.specs.Causes.{HasCause as IsUncertified}

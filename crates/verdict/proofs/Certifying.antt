@@ -4,7 +4,7 @@ use Rattle.base.specs.Budget.{Steps}
 use Rattle.graph.specs.declared.circuit.Lit.{Lit}
 use Rattle.graph.specs.declared.circuit.Property.{Property}
 use Rattle.graph.specs.declared.parts.Parts.{Parts}
-use Rattle.graph.specs.Properties.{HasProperty}
+use Rattle.graph.specs.Circuits.{HasProperty}
 use Rattle.graph.specs.WellFormed.{IsWellFormed}
 use Rattle.cnf.specs.Invariants.{IsInductive}
 use Rattle.checker.specs.Accepted.{IsGood, bad_of, circuit_of}

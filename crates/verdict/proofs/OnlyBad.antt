@@ -4,8 +4,7 @@ use Rattle.graph.specs.declared.circuit.Lit.{Lit}
 use Rattle.graph.specs.declared.circuit.Property.{Property}
 use Rattle.graph.specs.declared.circuit.Property.TheVariants.{Bad}
 use Rattle.graph.specs.declared.parts.Parts.{Parts}
-use Rattle.graph.specs.Properties.{IsWatched}
-use Rattle.graph.specs.Valuation.{Valuation, value_of}
+use Rattle.graph.specs.Circuits.{IsWatched, Valuation, value_of}
 use Rattle.graph.proofs.Alone.{watched_one, agrees_without, steps_without, run_with, run_without}
 use Rattle.graph.specs.WellFormed.{only_bad}
 use Rattle.stimulus.specs.Shown.{Begins, IsReplay, ShowsBad, last_of}

@@ -3,7 +3,7 @@ use Rattle.std.specs.Prelude.{◌≡◌, Result, Ok, Err}
 use Rattle.base.specs.Witness.{witness}
 use Rattle.graph.specs.declared.circuit.Property.{Property}
 use Rattle.graph.specs.declared.parts.Parts.{Parts}
-use Rattle.graph.specs.Properties.{position_of, HasProperty}
+use Rattle.graph.specs.Circuits.{position_of, HasProperty}
 use Rattle.engine.specs.declared.finding.Reason.TheVariants.{Budget, NoEvidence}
 use Rattle.solver.specs.Full.{full}
 use Rattle.certify.specs.declared.certified.Certified.{Certified}

@@ -4,13 +4,14 @@ use Rattle.base.specs.Budget.{Steps}
 use Rattle.graph.specs.declared.circuit.Property.{Property}
 use Rattle.graph.specs.declared.circuit.Property.TheVariants.{Bad, Justice}
 use Rattle.graph.specs.declared.parts.Parts.{Parts}
-use Rattle.graph.specs.Properties.{IsAlone}
+use Rattle.graph.specs.WellFormed.{IsAlone}
 use Rattle.stimulus.specs.declared.value.Stimulus.{Stimulus}
 use Rattle.stimulus.specs.declared.value.Stimulus.TheVariants as stimulus
 use Rattle.stimulus.specs.Shown.{Shows, ShowsBad, ShowsLasso}
 use Rattle.stimulus.specs.Texts.{property_of}
 use Rattle.live_safe.specs.Shadow.{shadow_of}
-use Rattle.checker.specs.Accepted.{IsAcceptedCertificate, IsShowable, IsUpheld}
+use Rattle.checker.specs.Accepted.{IsAcceptedCertificate, IsShowable}
+use Rattle.graph.specs.Circuits.{IsUpheld}
 use Rattle.engine.specs.Bounds.{IsClear}
 use Rattle.engine.specs.declared.finding.Reason.{Reason}
 use Rattle.engine.specs.declared.finding.Reason.TheVariants.{Budget, Depth, NoEvidence}

@@ -7,7 +7,7 @@ ghost use Rattle.cnf.specs.Invariants.{IsInductive};
 ghost use Rattle.base.specs.Budget.{Spends};
 ghost use Rattle.stimulus.specs.Shown.{Shows};
 ghost use Rattle.stimulus.specs.Texts.{property_of};
-ghost use Rattle.graph.specs.Properties.{HasProperty};
+ghost use Rattle.graph.specs.Circuits.{HasProperty};
 ghost use Rattle.engine.specs.Findings.{IsForBad, IsSo};
 ghost use Rattle.base.specs.Witness.{witness};
 ghost use Rattle.certify.specs.Causes.{HasCause as HasCertifyCause};

@@ -1,6 +1,7 @@
 //! Why nothing is answered.
 
 ghost use Rattle.std.specs.Prelude.{◌≡◌};
+ghost use Rattle.base.specs.Witness.{witness};
 ghost use Rattle.verdict.specs.Numbers.{number_of, of_engine, place_of};
 
 use base::Refused;
@@ -33,6 +34,16 @@ impl From<EngineError> for DecideError {
             EngineError::Limit(full) => DecideError::IdsTaken(full),
             EngineError::OutOfMemory(refused) => DecideError::OutOfMemory(refused),
         }
+    }
+}
+
+impl From<Refused> for DecideError {
+    ghost use Rattle.verdict.specs.declared.decide_error.DecideError.TheVariants.{OutOfMemory};
+
+    ghost from_gives = { λ _ e. e ≡ OutOfMemory witness };
+
+    fn from(refused: Refused) -> DecideError {
+        DecideError::OutOfMemory(refused)
     }
 }
 

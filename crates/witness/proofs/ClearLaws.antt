@@ -3,7 +3,7 @@ use Rattle.std.proofs.Common.{◌≡◌, ℕ, zero, suc, ◌<◌, ◌≤◌, ◌
 use Rattle.graph.specs.declared.circuit.Lit.{Lit}
 use Rattle.graph.specs.declared.circuit.Latch.{Latch}
 use Rattle.graph.specs.declared.parts.Parts.{Parts}
-use Rattle.graph.specs.Valuation.{Valuation, place, variable, value_of, state_of, inputs_of, Agrees}
+use Rattle.graph.specs.Circuits.{Valuation, place, variable, value_of, state_of, inputs_of, Agrees}
 use Rattle.graph.specs.WellFormed.{IsWellFormed}
 use Rattle.graph.proofs.Evaluation.{All-left, All-unmap, inputs_even, latches_even}
 use Rattle.graph.proofs.Gates.{value_of-even}

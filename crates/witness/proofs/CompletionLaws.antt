@@ -1,21 +1,49 @@
 -- Completed rows, row by row.
-use Rattle.std.proofs.Common.{◌≡◌, ℕ, zero, suc, sym, subst, ◌+◌, ◌<◌, Bool, List, [], ◌∷◌, ◌++◌, length, take, get_or, Option, None, ap, ◌∙◌, arith, length-take, length-append}
-use Rattle.std.proofs.lemmas.List.{take_more}
-use Rattle.witness.specs.Completions.{Keeps, Completes, CompleteFirst}
+use Rattle.std.proofs.Common.{◌≡◌, ℕ, zero, suc, ◌+◌, ◌<◌, Bool, List, [], ◌∷◌, ◌++◌, length, map, take, get_or, Option, None, Some, refl, sym, subst, ap, ◌∙◌, arith}
+use Rattle.std.specs.Prelude.{slice_get}
+use Rattle.std.proofs.lemmas.List.{take_more, length-take-le}
+use Rattle.graph.specs.declared.circuit.Latch.{Latch}
+use Rattle.witness.specs.Completions.{Keeps, Completes, CompleteFirst, completion, reset_at, reset_or, value_or}
 
--- one value more
-pub completes_more : (row : List (Option Bool)) (values : List Bool) (given : Option Bool) (value : Bool) → Completes row values → Keeps given value → Completes (row ++ given ∷ []) (values ++ value ∷ [])
+-- a value in place of one that may be given keeps it
+keeps_given : (other : Bool) (given : Option Bool) → Keeps given (value_or other given)
+keeps_given other None = tt
+keeps_given other (Some value) = refl
+
+pub completion_completes : (latches : List Latch) (other : Bool) (row : List (Option Bool)) → Completes row (completion latches other row)
+completion_completes latches other [] = tt
+completion_completes [] other (given ∷ row) = (keeps_given other given, completion_completes [] other row)
+completion_completes (l ∷ latches) other (given ∷ row) = (keeps_given (reset_or other l) given, completion_completes latches other row)
+
+pub completions_complete : (other : Bool) (rows : List (List (Option Bool))) → CompleteFirst rows (map (completion [] other) rows)
+completions_complete other [] = tt
+completions_complete other (row ∷ rows) = (completion_completes [] other row, completions_complete other rows)
+
+-- one value more that keeps what is given
+pub completes_more : (row : List (Option Bool)) (values : List Bool) (given : Option Bool) (value : Bool) → Completes row values → Keeps given value →
+    Completes (row ++ given ∷ []) (values ++ value ∷ [])
 completes_more [] [] given value h k = (k, tt)
 completes_more [] (v ∷ values) given value h k = absurd h
 completes_more (g ∷ row) [] given value h k = absurd h
 completes_more (g ∷ row) (v ∷ values) given value h k = (h.0, completes_more row values given value h.1 k)
 
--- one line more, behind as many as there are rows
-pub complete_more : (rows : List (List (Option Bool))) (lines : List (List Bool)) (row : List (Option Bool)) (line : List Bool) → length rows ≡ length lines → CompleteFirst rows lines → Completes row line → CompleteFirst (rows ++ row ∷ []) (lines ++ line ∷ [])
-complete_more [] [] row line e h k = (k, tt)
-complete_more [] (l ∷ lines) row line e h k = absurd h
-complete_more (r ∷ rows) [] row line e h k = absurd cc
-complete_more (r ∷ rows) (l ∷ lines) row line e h k = (h.0, complete_more rows lines row line (omega (arith, e)) h.1 k)
+-- one value more
+completion_more : (latches : List Latch) (other : Bool) (row : List (Option Bool)) (given : Option Bool) (k : ℕ) → length row ≡ k →
+    completion latches other (row ++ given ∷ []) ≡ completion latches other row ++ value_or (reset_at other (slice_get latches k)) given ∷ []
+completion_more [] other [] given k e = refl
+completion_more (l ∷ latches) other [] given zero e = refl
+completion_more (l ∷ latches) other [] given (suc k) e = absurd cc
+completion_more [] other (g ∷ row) given zero e = absurd cc
+completion_more (l ∷ latches) other (g ∷ row) given zero e = absurd cc
+completion_more [] other (g ∷ row) given (suc k) e = ap (λ (vs : List Bool). value_or other g ∷ vs) (completion_more [] other row given k (omega (arith, e)))
+completion_more (l ∷ latches) other (g ∷ row) given (suc k) e = ap (λ (vs : List Bool). value_or (reset_or other l) g ∷ vs) (completion_more latches other row given k (omega (arith, e)))
+
+-- the values so far, and the next
+pub completion_next : (latches : List Latch) (other : Bool) (row : List (Option Bool)) (values : List Bool) (k : ℕ) (value : Bool) → k < length row → values ≡ completion latches other (take k row) →
+    value ≡ value_or (reset_at other (slice_get latches k)) (get_or row k None) → values ++ value ∷ [] ≡ completion latches other (take (k + 1) row)
+completion_next latches other row values k value k_in so_far is =
+    let long : length (take k row) ≡ k = length-take-le k row (omega (arith, k_in)) in
+    rw (so_far, is, take_more row k None k_in) (sym (completion_more latches other (take k row) (get_or row k None) k long))
 
 -- the first lines
 pub complete_cut : (rows : List (List (Option Bool))) (lines : List (List Bool)) (n : ℕ) → CompleteFirst rows lines → CompleteFirst rows (take n lines)
@@ -24,17 +52,3 @@ complete_cut rows [] (suc n) h = tt
 complete_cut [] (l ∷ lines) n h = absurd h
 complete_cut (r ∷ rows) (l ∷ lines) zero h = tt
 complete_cut (r ∷ rows) (l ∷ lines) (suc n) h = (h.0, complete_cut rows lines n h.1)
-
--- the values so far, and the next
-pub completes_next : (row : List (Option Bool)) (values : List Bool) (i : ℕ) (value : Bool) → i < length row → Completes (take i row) values → Keeps (get_or row i None) value → Completes (take (i + 1) row) (values ++ value ∷ [])
-completes_next row values i value i_in h k = subst (λ (r : List (Option Bool)). Completes r (values ++ value ∷ [])) (sym (take_more row i None i_in)) (completes_more (take i row) values (get_or row i None) value h k)
-
-length_take_is : (rows : List (List (Option Bool))) (lines : List (List Bool)) (i : ℕ) → i < length rows → length lines ≡ i → length (take i rows) ≡ length lines
-length_take_is rows lines i i_in e = grind (arith, length-take)
-
--- the lines so far, and the next
-pub complete_next : (rows : List (List (Option Bool))) (lines : List (List Bool)) (i : ℕ) (row : List (Option Bool)) (line : List Bool) → i < length rows → row ≡ get_or rows i row → length lines ≡ i → CompleteFirst (take i rows) lines → Completes row line →
-    (length (lines ++ line ∷ []) ≡ i + 1) × CompleteFirst (take (i + 1) rows) (lines ++ line ∷ [])
-complete_next rows lines i row line i_in is e h k =
-    let one = take_more rows i row i_in in
-    (grind (arith, length-append, e), subst (λ (r : List (List (Option Bool))). CompleteFirst r (lines ++ line ∷ [])) (sym (one ∙ ap (λ (x : List (Option Bool)). take i rows ++ x ∷ []) (sym is))) (complete_more (take i rows) lines row line (length_take_is rows lines i i_in e) h k))

@@ -9,9 +9,7 @@ use Rattle.graph.specs.WellFormed.{IsWellFormed}
 use Rattle.graph.proofs.Tabled.{holds_of_used}
 use Rattle.std.proofs.lemmas.Option.{get_or_from_slice_get, slice_get_within}
 use Rattle.graph.specs.declared.parts.Parts.{Parts}
-use Rattle.graph.specs.Properties.{IsWatched}
-use Rattle.graph.specs.Valuation.{Valuation, value_of, variable}
-use Rattle.graph.specs.Runs.{next_state, KeepsConstraints}
+use Rattle.graph.specs.Circuits.{IsWatched, Valuation, value_of, variable, next_state, KeepsConstraints}
 use Rattle.cones.specs.Marks.{IsKnown, ExistenceLaw}
 use Rattle.simulate.specs.Starts.{Starts}
 use Rattle.stimulus.specs.declared.value.Stimulus.TheVariants.{Violated}

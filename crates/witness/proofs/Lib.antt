@@ -4,3 +4,4 @@ pub mod ClearLaws
 pub mod NextLaws
 pub mod WalkLaws
 pub mod EnoughLaws
+pub mod DeniedLaws

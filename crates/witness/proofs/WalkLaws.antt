@@ -4,7 +4,7 @@ use Rattle.std.specs.Prelude.{reverse}
 use Rattle.std.proofs.lemmas.List.{drop_more, reverse-append}
 use Rattle.graph.specs.declared.circuit.Lit.{Lit}
 use Rattle.graph.specs.declared.parts.Parts.{Parts}
-use Rattle.graph.specs.Runs.{next_state}
+use Rattle.graph.specs.Circuits.{next_state}
 use Rattle.witness.specs.Completions.{Completes}
 use Rattle.witness.specs.Cleared.{CompleteAll, IsTimeEnough, AreEnough}
 

@@ -4,8 +4,7 @@ use Rattle.graph.specs.declared.circuit.Lit.{Lit}
 use Rattle.graph.specs.declared.circuit.Property.{Property}
 use Rattle.graph.specs.declared.circuit.Property.TheVariants.{Bad, Justice, Output}
 use Rattle.graph.specs.declared.parts.Parts.{Parts}
-use Rattle.graph.specs.Valuation.{Valuation, value_of, variable, place}
-use Rattle.graph.specs.Runs.{next_state}
+use Rattle.graph.specs.Circuits.{Valuation, value_of, variable, place, next_state}
 use Rattle.simulate.specs.Starts.{Starts}
 use Rattle.stimulus.specs.declared.value.Stimulus.{Stimulus}
 use Rattle.stimulus.specs.declared.value.Stimulus.TheVariants.{Holds, Violated, Unknown}

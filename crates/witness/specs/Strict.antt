@@ -1,13 +1,16 @@
 -- The strict stimulus of a loose text.
-use Rattle.std.specs.Prelude.{◌≡◌, ◌⊎◌, Bool, List, [], ◌∷◌, Option, None, Some, All, Contains}
+use Rattle.std.specs.Prelude.{◌≡◌, ◌⊎◌, Bool, true, false, List, [], ◌∷◌, length, map, replicate, Option, None, Some, All, Contains}
 use Rattle.graph.specs.declared.circuit.Property.{Property}
 use Rattle.graph.specs.declared.parts.Parts.{Parts}
-use Rattle.graph.specs.Properties.{HasProperty}
+use Rattle.graph.specs.Circuits.{HasProperty}
 use Rattle.stimulus.specs.declared.value.Stimulus.{Stimulus}
 use Rattle.stimulus.specs.declared.value.Stimulus.TheVariants.{Holds, Violated, Unknown}
 use Rattle.stimulus.specs.Texts.{property_of}
 use Rattle.stimulus.specs.Shown.{Shows}
-use Rattle.witness.specs.Completions.{CompleteFirst}
+use Rattle.witness.specs.Completions.{CompleteFirst, completion}
+use Rattle.witness.specs.declared.loose.Loose.{Loose}
+use Rattle.witness.specs.declared.witness_error.WitnessError.{WitnessError}
+use Rattle.witness.specs.declared.witness_error.WitnessError.TheVariants.{NoViolation, Property as NoProperty, Character, Truncated, LineLength, NotShown, OutOfMemory}
 
 -- the stimulus has each value that the rows give, up to its last time: the first row is its first state, or all rows are inputs
 abbrev pub HasValues : List (List (Option Bool)) → Stimulus → Type 0
@@ -31,3 +34,35 @@ abbrev pub AreAsked : Parts → Option Property → List Property → List Prope
 AreAsked m (Some p) named asked = asked ≡ p ∷ []
 AreAsked m None [] asked = AreAll m asked
 AreAsked m None (p ∷ ps) asked = asked ≡ p ∷ ps
+
+-- the stimulus of all rows, with this value in place of each that doesn't matter, but in the first state a latch's reset
+abbrev pub choice : Parts → Property → List (Option Bool) → List (List (Option Bool)) → Bool → Stimulus
+choice m p state rows other = Violated p (completion m.latches other state) (map (completion [] other) rows)
+
+-- neither with 0 nor with 1 in place of what doesn't matter the violation is shown
+abbrev pub ShowsNeither : Parts → Property → List (Option Bool) → List (List (Option Bool)) → Type 0
+ShowsNeither m p state rows = (Shows m (choice m p state rows false) → ⊥) × (Shows m (choice m p state rows true) → ⊥)
+
+-- not with the first row as the first state
+abbrev pub IsDeniedWithState : Parts → Property → List (List (Option Bool)) → Type 0
+IsDeniedWithState m p [] = Unit {0}
+IsDeniedWithState m p (state ∷ rows) = ShowsNeither m p state rows
+
+-- not with all rows as inputs, and no value of the first state
+abbrev pub IsDeniedByInputs : Parts → Property → List (List (Option Bool)) → Type 0
+IsDeniedByInputs m p rows = ShowsNeither m p (replicate (length m.latches) None) rows
+
+-- no choice of what doesn't matter shows the property's violation, by any reading of the rows
+pub record IsDenied (m : Parts) (loose : Loose) (p : Property) : Type 0 where
+  pub with_state : loose.has_state ≡ true → IsDeniedWithState m p loose.rows
+  pub inputs_alone : (loose.has_state ≡ false) ⊎ (loose.has_inputs_alone ≡ true) → IsDeniedByInputs m p loose.rows
+
+-- why there is no strict stimulus: no choice shows the violation of any property that is asked for, or out of memory
+abbrev pub IsRefused : Parts → Loose → List Property → WitnessError → Type 0
+IsRefused m loose asked (NoViolation place) = ⊥
+IsRefused m loose asked (NoProperty place) = ⊥
+IsRefused m loose asked (Character place) = ⊥
+IsRefused m loose asked (Truncated place) = ⊥
+IsRefused m loose asked (LineLength place) = ⊥
+IsRefused m loose asked (NotShown e) = All (IsDenied m loose) asked
+IsRefused m loose asked (OutOfMemory refused) = Unit {0}

@@ -1,12 +1,11 @@
 //! What a violation rests on.
 
 ghost use Rattle.std.specs.Prelude.{◌≡◌, ◌+◌, [], false, IfOk, IfSome, IsTrue, All, None, Some, length, map, replicate, slice_index_or};
-ghost use Rattle.graph.specs.Valuation.{variable};
+ghost use Rattle.graph.specs.Circuits.{variable, IsWatched};
 ghost use Rattle.cones.specs.Marks.{IsKnown};
 ghost use Rattle.cones.specs.Reach.{IsGateTable};
 ghost use Rattle.witness.specs.Completions.{Completes};
 ghost use Rattle.witness.specs.Cleared.{AreEnough, CompleteAll, IsClearedOf, IsEnough, goals_for};
-ghost use Rattle.graph.specs.Properties.{IsWatched};
 ghost use Rattle.stimulus.specs.Causes.{IsPlayable};
 ghost use Rattle.stimulus.specs.declared.value.Stimulus.TheVariants.{Violated};
 ghost use Rattle.stimulus.specs.Shown.{Shows};

@@ -1,7 +1,7 @@
 //! Where a violation is: what follows it is cut off.
 
 ghost use Rattle.std.specs.Prelude.{◌≡◌, ◌≤◌, All, length, slice_get, IfSome};
-ghost use Rattle.graph.specs.Valuation.{variable};
+ghost use Rattle.graph.specs.Circuits.{variable};
 ghost use Rattle.stimulus.specs.Causes.{IsPlayable};
 
 use crate::lasso::first_lasso;

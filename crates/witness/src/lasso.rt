@@ -1,8 +1,7 @@
 //! Where a lasso first closes.
 
 ghost use Rattle.std.specs.Prelude.{◌≡◌, ◌≤◌, ◌<◌, All, length, IsSome, IfOk};
-ghost use Rattle.graph.specs.Justice.{wanted_of};
-ghost use Rattle.graph.specs.Valuation.{variable};
+ghost use Rattle.graph.specs.Circuits.{wanted_of, variable};
 ghost use Rattle.stimulus.specs.Causes.{IsPlayable};
 
 use base::{Refused, copied, extend, filled_like, insert};

@@ -1,12 +1,13 @@
 //! The strict stimulus of a loose text.
 
-ghost use Rattle.std.specs.Prelude.{◌≡◌, ◌∷◌, [], List, Bool, Option, Some, IfOk, take};
+ghost use Rattle.std.specs.Prelude.{◌≡◌, ◌≢◌, ◌∷◌, [], List, Bool, Option, Some, IfOk, IfErr, take};
+ghost use Rattle.base.specs.Witness.{witness};
 ghost use Rattle.graph.specs.declared.circuit.Property.{Property as AProperty};
 ghost use Rattle.stimulus.specs.Shown.{Shows};
 ghost use Rattle.stimulus.specs.Texts.{property_of};
 ghost use Rattle.stimulus.specs.declared.value.Stimulus.TheVariants.{Violated};
 ghost use Rattle.witness.specs.Completions.{CompleteFirst};
-ghost use Rattle.witness.specs.Strict.{AreAsked, HasValues, IsStrict};
+ghost use Rattle.witness.specs.Strict.{AreAsked, HasValues, IsStrict, IsDenied, IsDeniedByInputs, IsDeniedWithState, IsRefused, ShowsNeither, choice};
 
 use crate::completion::{completed, completed_rows};
 use crate::cutting::times_to_violation;
@@ -37,6 +38,7 @@ fn judged(
 ) -> Result<Stimulus, JudgeError>
     ensures is { IfOk result (λ s. s ≡ Violated property initial inputs) }
     ensures shows { IfOk result (Shows circuit.now) }
+    ensures denied { IfErr result (λ e. e ≢ JudgeError.OutOfMemory witness → Shows circuit.now (Violated property initial inputs) → ⊥) }
 {
     let stimulus = Stimulus::Violated {
         property,
@@ -64,8 +66,9 @@ fn up_to_violation(
     }
 }
 
-/// The stimulus with this first state and inputs, with that value in place of what doesn't matter, where it shows the violation.
-fn try_values(
+/// The stimulus with this first state and inputs, with that value in place of what doesn't matter, up to the first violation, where
+/// that shows it.
+fn try_cut(
     alloc: Global,
     circuit: &Model,
     property: Property,
@@ -84,9 +87,46 @@ fn try_values(
     judged(alloc, circuit, property, initial, inputs)
 }
 
-/// Whether another try may be made after this refusal.
-fn goes_on(error: JudgeError) -> bool {
-    !matches!(error, JudgeError::OutOfMemory(_))
+/// The same with all inputs, where they show the violation.
+fn try_whole(
+    alloc: Global,
+    circuit: &Model,
+    property: Property,
+    state: &[Option<bool>],
+    rows: &[Seq<Option<bool>>],
+    other: bool,
+) -> Result<Stimulus, JudgeError>
+    ensures shows { IfOk result (Shows circuit.now) }
+    ensures property { IfOk result (λ s. property_of s ≡ property) }
+    ensures values { IfOk result (HasValues (state.now ∷ rows.now)) }
+    ensures inputs { IfOk result (HasValues rows.now) }
+    ensures denied { IfErr result (λ e. e ≢ JudgeError.OutOfMemory witness → Shows circuit.now (choice circuit.now property state.now rows.now other) → ⊥) }
+{
+    let initial = completed(alloc, state, circuit.latches(), other)?;
+    let inputs = completed_rows(alloc, rows, other)?;
+    judged(alloc, circuit, property, initial, inputs)
+}
+
+/// The same up to the first violation, or else with all inputs.
+fn try_values(
+    alloc: Global,
+    circuit: &Model,
+    property: Property,
+    state: &[Option<bool>],
+    rows: &[Seq<Option<bool>>],
+    other: bool,
+) -> Result<Stimulus, JudgeError>
+    ensures shows { IfOk result (Shows circuit.now) }
+    ensures property { IfOk result (λ s. property_of s ≡ property) }
+    ensures values { IfOk result (HasValues (state.now ∷ rows.now)) }
+    ensures inputs { IfOk result (HasValues rows.now) }
+    ensures denied { IfErr result (λ e. e ≢ JudgeError.OutOfMemory witness → Shows circuit.now (choice circuit.now property state.now rows.now other) → ⊥) }
+{
+    match try_cut(alloc, circuit, property, state, rows, other) {
+        Ok(stimulus) => Ok(stimulus),
+        Err(JudgeError::OutOfMemory(refused)) => Err(JudgeError::from(refused)),
+        Err(_) => try_whole(alloc, circuit, property, state, rows, other),
+    }
 }
 
 /// The same with 0 in place of what doesn't matter, or else with 1.
@@ -101,10 +141,12 @@ fn try_both(
     ensures property { IfOk result (λ s. property_of s ≡ property) }
     ensures values { IfOk result (HasValues (state.now ∷ rows.now)) }
     ensures inputs { IfOk result (HasValues rows.now) }
+    ensures denied { IfErr result (λ e. e ≢ JudgeError.OutOfMemory witness → ShowsNeither circuit.now property state.now rows.now) }
 {
     match try_values(alloc, circuit, property, state, rows, false) {
-        Err(error) if goes_on(error) => try_values(alloc, circuit, property, state, rows, true),
-        tried => tried,
+        Ok(stimulus) => Ok(stimulus),
+        Err(JudgeError::OutOfMemory(refused)) => Err(JudgeError::from(refused)),
+        Err(_) => try_values(alloc, circuit, property, state, rows, true),
     }
 }
 
@@ -118,6 +160,7 @@ fn try_with_state(
     ensures shows { IfOk result (Shows circuit.now) }
     ensures property { IfOk result (λ s. property_of s ≡ property) }
     ensures values { IfOk result (HasValues rows.now) }
+    ensures denied { IfErr result (λ e. e ≢ JudgeError.OutOfMemory witness → IsDeniedWithState circuit.now property rows.now) }
 {
     match rows {
         [state, inputs @ ..] => try_both(alloc, circuit, property, state.as_slice(), inputs),
@@ -135,6 +178,7 @@ fn try_inputs_alone(
     ensures shows { IfOk result (Shows circuit.now) }
     ensures property { IfOk result (λ s. property_of s ≡ property) }
     ensures values { IfOk result (HasValues rows.now) }
+    ensures denied { IfErr result (λ e. e ≢ JudgeError.OutOfMemory witness → IsDeniedByInputs circuit.now property rows.now) }
 {
     let state: Vec<Option<bool>> = filled_like(alloc, None, circuit.latches())?;
     try_both(alloc, circuit, property, &state, rows)
@@ -150,31 +194,33 @@ fn try_property(
     ensures shows { IfOk result (Shows circuit.now) }
     ensures property { IfOk result (λ s. property_of s ≡ property) }
     ensures values { IfOk result (HasValues loose.now.rows) }
+    ensures denied { IfErr result (λ e. e ≢ JudgeError.OutOfMemory witness → IsDenied circuit.now loose.now property) }
 {
     let rows = loose.rows.as_slice();
     if !loose.has_state {
         return try_inputs_alone(alloc, circuit, property, rows);
     }
     match try_with_state(alloc, circuit, property, rows) {
-        Err(error) if loose.has_inputs_alone && goes_on(error) => {
-            try_inputs_alone(alloc, circuit, property, rows)
-        }
-        tried => tried,
+        Ok(stimulus) => Ok(stimulus),
+        Err(JudgeError::OutOfMemory(refused)) => Err(JudgeError::from(refused)),
+        Err(error) if !loose.has_inputs_alone => Err(error),
+        Err(_) => try_inputs_alone(alloc, circuit, property, rows),
     }
 }
 
 /// The strict stimulus of a loose text: it shows the violation of one of the properties, the first of which this is found, and
 /// it has each value that the text gives, up to the violation. What doesn't matter is first taken as 0 and then as 1, in the first state as the
 /// latch's reset; with the first row as the first state, where that may be, and then with all rows as inputs. What follows the first violation is
-/// cut off. Each try costs two replays and their judging, and of a justice property a map of the states; the last refusal is reported
-/// where none shows a violation.
+/// cut off. Each try costs two replays and their judging, and of a justice property a map of the states; one that is refused is judged
+/// once more with all lines, and the last refusal is reported: then none of these choices shows a violation.
 pub fn strict(
     alloc: Global,
     circuit: &Model,
     loose: &Loose,
     asked: &[Property],
 ) -> Result<Stimulus, WitnessError>
-    ensures { IfOk result (IsStrict circuit.now loose.now.rows asked.now) }
+    ensures strict { IfOk result (IsStrict circuit.now loose.now.rows asked.now) }
+    ensures refused { IfErr result (IsRefused circuit.now loose.now asked.now) }
 {
     let mut last = JudgeError::NoProperty(0);
     for property in asked {

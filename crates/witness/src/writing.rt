@@ -1,7 +1,7 @@
 //! The text of what is left of a stimulus.
 
 ghost use Rattle.std.specs.Prelude.{◌≡◌, ◌++◌, IfOk, OnOk, decimal, flat_map};
-ghost use Rattle.graph.specs.Properties.{property_text};
+ghost use Rattle.graph.specs.Circuits.{property_text};
 ghost use Rattle.stimulus.specs.Texts.{property_line};
 ghost use Rattle.witness.specs.Texts.{character_of, cleared_text, row_text};
 

@@ -2,7 +2,7 @@ use Rattle.std.proofs.Common.{◌∷◌, [], ◌++◌, subst}
 use Rattle.std.specs.Prelude.{decimal, flat_map}
 use Rattle.base.specs.Devices.{Puts}
 use Rattle.base.proofs.Putting.{puts_of, puts_then}
-use Rattle.scan.specs.Counts.{spaced}
+use Rattle.scan.specs.Lists.{spaced}
 use Rattle.aag.specs.Writing.{trimmed}
 use Rattle.aag.proofs.PieceLaws.{first_fails, four_counts, header_is, other_counts}
 use Rattle.aag.proofs.writing.put_header.Goals as goal

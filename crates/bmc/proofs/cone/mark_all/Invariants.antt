@@ -1,5 +1,5 @@
 use Rattle.std.proofs.Common.{map, take}
-use Rattle.graph.specs.Valuation.{variable}
+use Rattle.graph.specs.Circuits.{variable}
 use Rattle.cones.specs.Reach.{Grows}
 use Rattle.bmc.proofs.cone.mark_all.Given as goal
 

@@ -1,6 +1,6 @@
 use Rattle.std.proofs.Common.{◌≡◌, ◌+◌, ◌++◌, ◌∷◌, [], sym, ◌∙◌, ap, subst}
 use Rattle.std.proofs.lemmas.Bool.{false≢true}
-use Rattle.graph.specs.Valuation.{variable}
+use Rattle.graph.specs.Circuits.{variable}
 use Rattle.cones.specs.Marks.{IsMarked}
 use Rattle.bmc.specs.Cones.{ArePositions, is_marked_latch, latch_at}
 use Rattle.bmc.proofs.Coned.{positions_more, positions_same}

@@ -1,6 +1,6 @@
 use Rattle.std.proofs.Common.{rules, ◌≡◌, ◌+◌, ◌<◌, length, get_or, pos, ◌∙◌, ap, subst, arith, length-set, SFits, w32}
 use Rattle.graph.specs.declared.circuit.Lit.{Lit}
-use Rattle.graph.specs.Valuation.{variable}
+use Rattle.graph.specs.Circuits.{variable}
 use Rattle.bmc.specs.Unrollings.{IsTable, input_of}
 use Rattle.bmc.proofs.Added.{read_as}
 use Rattle.bmc.proofs.Tabled.{input_range, literals_set, positive_literal, table_input}

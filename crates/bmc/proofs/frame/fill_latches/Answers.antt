@@ -1,6 +1,6 @@
 use Rattle.std.proofs.Common.{rules, ◌≡◌, ◌<◌, length, get_or, pos, negsuc, ◌∙◌, ap, subst, arith, length-set, SFits, w32}
 use Rattle.std.proofs.lemmas.List.{get_or_default}
-use Rattle.graph.specs.Valuation.{variable}
+use Rattle.graph.specs.Circuits.{variable}
 use Rattle.bmc.specs.Cones.{no_latch}
 use Rattle.bmc.specs.Unrollings.{IsTable, latch_of, literal_at}
 use Rattle.bmc.proofs.Added.{read_as}

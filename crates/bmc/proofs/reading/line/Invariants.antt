@@ -1,5 +1,5 @@
 use Rattle.std.proofs.Common.{◌≡◌, ◌+◌, ◌<◌, ℕ, length, get_or}
-use Rattle.graph.specs.Valuation.{place}
+use Rattle.graph.specs.Circuits.{place}
 use Rattle.solver.specs.Answers.{values}
 use Rattle.bmc.proofs.reading.line.Given as goal
 

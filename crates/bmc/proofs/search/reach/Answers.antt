@@ -1,6 +1,6 @@
 use Rattle.std.proofs.Common.{rules, ◌≡◌, ◌+◌, ◌<◌, ◌≤◌, ◌∷◌, [], ℕ, ℤ, All, length, sym, ◌∙◌, ap, subst, arith, SFits, w32}
 use Rattle.std.proofs.lemmas.List.Elements.{All-cons, All-nil}
-use Rattle.graph.specs.Valuation.{variable}
+use Rattle.graph.specs.Circuits.{variable}
 use Rattle.lrat.specs.Literals.{IsLiteral}
 use Rattle.cnf.specs.Formulas.{bad_literal}
 use Rattle.bmc.specs.Encodings.{told}

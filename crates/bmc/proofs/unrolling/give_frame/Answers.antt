@@ -1,7 +1,7 @@
 use Rattle.std.proofs.Common.{◌≡◌, ◌+◌, ◌<◌, ◌≤◌, ℕ, List, ℤ, Bool, All, map, unsigned_abs, length, arith}
 use Rattle.std.proofs.lemmas.List.Elements.{All-weaker}
 use Rattle.graph.specs.declared.circuit.Lit.{Lit}
-use Rattle.graph.specs.Valuation.{variable}
+use Rattle.graph.specs.Circuits.{variable}
 use Rattle.lrat.specs.Literals.{IsLiteral}
 use Rattle.lrat.specs.Shared.{unit_clauses}
 use Rattle.cones.specs.Marks.{IsMarked}

@@ -2,7 +2,7 @@ use Rattle.std.proofs.Common.{◌++◌, length}
 use Rattle.std.specs.Prelude.{codes, flat_map}
 use Rattle.std.specs.Io.KnownBytes.{Appends}
 use Rattle.base.specs.Devices.{PutsBeginning}
-use Rattle.graph.specs.Properties.{property_text}
+use Rattle.graph.specs.Circuits.{property_text}
 use Rattle.lrat.specs.Texts.{Puts}
 use Rattle.lrat.proofs.PutLaws.{puts_then}
 use Rattle.certificate.specs.Texts.{first_line, clause_line, number_line}

@@ -1,6 +1,6 @@
 use Rattle.std.proofs.Common.{◌≡◌, ◌∷◌, [], ◌++◌, ◌∙◌}
 use Rattle.std.specs.Prelude.{codes, decimal}
-use Rattle.graph.specs.Properties.{position_of}
+use Rattle.graph.specs.Circuits.{position_of}
 use Rattle.base.specs.Devices.{PutsBeginning}
 use Rattle.std.specs.Io.KnownBytes.{Appends}
 use Rattle.lrat.specs.Texts.{Puts}

@@ -1,6 +1,6 @@
 use Rattle.std.proofs.Common.{rules, ◌≡◌, get_or, IfOk, ap, subst, sym}
 use Rattle.graph.specs.declared.circuit.Property.{Property}
-use Rattle.graph.specs.Properties.{HasProperty}
+use Rattle.graph.specs.Circuits.{HasProperty}
 use Rattle.checker.specs.Accepted.{circuit_of}
 use Rattle.checker.proofs.Accepted.{showable_here}
 use Rattle.checker.proofs.Watched.{bad_is, bad_used, output_is, output_used}

@@ -1,7 +1,8 @@
 use Rattle.std.proofs.Common.{◌≢◌}
 use Rattle.base.specs.Witness.{witness}
 use Rattle.lrat.proofs.Fit.{if_err}
-use Rattle.checker.specs.Accepted.{IsAcceptedCertificate, IsUpheld}
+use Rattle.checker.specs.Accepted.{IsAcceptedCertificate}
+use Rattle.graph.specs.Circuits.{IsUpheld}
 use Rattle.checker.specs.Causes.{HasCause}
 use Rattle.checker.specs.declared.check_error.CheckError.TheVariants.{OutOfMemory}
 use Rattle.checker.proofs.Accepted.{accepted_law, cause_refuses, if_on_ok}

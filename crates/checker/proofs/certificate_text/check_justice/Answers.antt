@@ -1,5 +1,5 @@
 use Rattle.std.proofs.Common.{rules, ◌++◌, ◌<◌, length, refl}
-use Rattle.graph.specs.Properties.{HasProperty}
+use Rattle.graph.specs.Circuits.{HasProperty}
 use Rattle.live_safe.specs.Shadow.{shadow_of}
 use Rattle.graph.specs.declared.circuit.Property.TheVariants.{Justice}
 use Rattle.checker.specs.declared.check_error.CheckError.TheVariants.{Limit, NoProperty}

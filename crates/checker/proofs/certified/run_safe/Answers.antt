@@ -16,7 +16,7 @@ returns-clause-yes g c text later left =
             ok_then _ _ c.tell.result
                 (λ said told holds.
                 let it = told_yes Safe (Accepts xs ys) (IsRefusal xs ys) c.safe_property-answer.result said _ _ says told holds in
-                (it.0, it.1, accepted_safe xs ys it.0 it.1, it.2))
+                (it.0, it.1, accepted_safe c.accepted_law.ensures xs ys it.0 it.1, it.2))
                 c.tell.ensures.tells,
           ),
     )
@@ -46,7 +46,7 @@ returns-clause-exact g c text later left =
             ys,
             second,
             λ p accepted. ok_then _ _ c.tell.result
-                (λ said told. told_exact Safe (Accepts xs ys) (IsRefusal xs ys) c.safe_property-answer.result said _ _ says told (refusal_not xs ys p accepted))
+                (λ said told. told_exact Safe (Accepts xs ys) (IsRefusal xs ys) c.safe_property-answer.result said _ _ says told (refusal_not c.refused_law.ensures xs ys p accepted))
                 c.tell.ensures.tells,
           ),
     )

@@ -17,7 +17,7 @@ returns-clause-yes g c text later left =
             ok_then _ _ c.tell.result
                 (λ said told holds.
                 let it = about_yes Safe (Accepts xs ys) (IsRefusalFor c.args.property xs ys) c.args.property c.about-answer.result said _ _ (about_says (Accepts xs ys) (IsRefusal xs ys) (IsRefusalFor c.args.property xs ys) c.args.property c.safe_property.result c.about-answer.result says c.about-answer.ensures.says (λ n is. inl is) (λ q of ne. inr (q, of, ne, refl))) told holds in
-                (it.0, accepted_safe xs ys c.args.property it.0, it.1))
+                (it.0, accepted_safe c.accepted_law.ensures xs ys c.args.property it.0, it.1))
                 c.tell.ensures.tells,
           ),
     )
@@ -47,7 +47,7 @@ returns-clause-exact g c text later left =
             ys,
             second,
             λ accepted. ok_then _ _ c.tell.result
-                (λ said told. told_exact Safe (λ q. (q ≡ c.args.property) × Accepts xs ys q) (IsRefusalFor c.args.property xs ys) c.about-answer.result said _ _ (about_says (Accepts xs ys) (IsRefusal xs ys) (IsRefusalFor c.args.property xs ys) c.args.property c.safe_property.result c.about-answer.result says c.about-answer.ensures.says (λ n is. inl is) (λ q of ne. inr (q, of, ne, refl))) told (for_not xs ys c.args.property accepted))
+                (λ said told. told_exact Safe (λ q. (q ≡ c.args.property) × Accepts xs ys q) (IsRefusalFor c.args.property xs ys) c.about-answer.result said _ _ (about_says (Accepts xs ys) (IsRefusal xs ys) (IsRefusalFor c.args.property xs ys) c.args.property c.safe_property.result c.about-answer.result says c.about-answer.ensures.says (λ n is. inl is) (λ q of ne. inr (q, of, ne, refl))) told (for_not c.refused_law.ensures xs ys c.args.property accepted))
                 c.tell.ensures.tells,
           ),
     )

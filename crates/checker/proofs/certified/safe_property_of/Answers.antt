@@ -1,6 +1,6 @@
 use Rattle.std.proofs.Common.{None, Some, subst}
 use Rattle.aiger.proofs.LayoutLaws.{match_gives}
-use Rattle.checker.specs.Streamed.{IsFound}
+use Rattle.checker.specs.AnyVersion.{IsFoundOf}
 use Rattle.checker.specs.Verdicts.{Accepts, IsRefusal}
 use Rattle.checker.specs.Stops.{IsStop, stop_of_reader}
 use Rattle.checker.proofs.SourceLaws.{found_none, found_some, reader_stops}
@@ -22,7 +22,7 @@ returns-in-None-clause-says g c xs first text later left =
       ys,
       before,
       found_none xs ys c.args.file.now cert c.in_ok-outcome.outcome.property first spells same
-          (subst (λ m. IsFound m cert None) c.model.ensures (subst (λ o. IsFound c.model.result.now cert o) c.in-None.is found)),
+          (subst (λ m. IsFoundOf m cert None) c.model.ensures (subst (λ o. IsFoundOf c.model.result.now cert o) c.in-None.is found)),
     )
 
 pub returns-in-Some-clause-says : goal.returns-in-Some-clause-says
@@ -32,5 +32,5 @@ returns-in-Some-clause-says g c xs first text later left =
       ys,
       before,
       found_some xs ys c.args.file.now cert c.in-Some.number first spells
-          (subst (λ m. IsFound m cert (Some c.in-Some.number)) c.model.ensures (subst (λ o. IsFound c.model.result.now cert o) c.in-Some.is found)),
+          (subst (λ m. IsFoundOf m cert (Some c.in-Some.number)) c.model.ensures (subst (λ o. IsFoundOf c.model.result.now cert o) c.in-Some.is found)),
     )

@@ -1,7 +1,7 @@
 use Rattle.std.proofs.Common.{rules, ◌≡◌, ◌+◌, ◌≤◌, Contains, length, take, drop, get_or, map, subst, sym, arith}
 use Rattle.std.proofs.lemmas.List.Elements.{All-set}
 use Rattle.graph.specs.declared.circuit.Lit.{Lit}
-use Rattle.graph.specs.Valuation.{variable}
+use Rattle.graph.specs.Circuits.{variable}
 use Rattle.lrat.proofs.Exact.{parts_at}
 use Rattle.checker.specs.Causes.{IsLatch, IsAmong}
 use Rattle.checker.proofs.Good.{good_more, seen_next, is_latch, is_no_latch, latch_in_range}

@@ -1,5 +1,5 @@
 use Rattle.std.proofs.Common.{◌≡◌, ◌≤◌, All, length, map, take}
-use Rattle.graph.specs.Valuation.{variable}
+use Rattle.graph.specs.Circuits.{variable}
 use Rattle.checker.specs.Accepted.{IsGood}
 use Rattle.checker.proofs.Good.{IsSeen}
 use Rattle.checker.proofs.invariant.clause_fault.Given as goal

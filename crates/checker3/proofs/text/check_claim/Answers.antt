@@ -1,5 +1,5 @@
 use Rattle.std.proofs.Common.{rules, ◌≡◌, ◌^◌, ◌≤◌, Some, length, ap, sym}
-use Rattle.graph.specs.Properties.{HasProperty}
+use Rattle.graph.specs.Circuits.{HasProperty}
 use Rattle.extension.specs.Accepted.{circuit_of}
 use Rattle.certificate3.specs.Reading.{evidence_at}
 use Rattle.certificate3.proofs.ChainLaws.{finds_to, stops_all, weakens}

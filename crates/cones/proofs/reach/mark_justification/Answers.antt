@@ -1,5 +1,5 @@
 use Rattle.std.proofs.Common.{◌∷◌, []}
-use Rattle.graph.specs.Valuation.{variable}
+use Rattle.graph.specs.Circuits.{variable}
 use Rattle.cones.specs.Reach.{IsFrom}
 use Rattle.cones.proofs.Growing.{from_second}
 use Rattle.cones.proofs.reach.mark_justification.Goals as goal

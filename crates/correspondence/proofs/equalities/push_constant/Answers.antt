@@ -15,8 +15,8 @@ high-requires c =
     let small = c.well_formed-2.ensures.limits.max_var in
     rw c.latches.ensures (omega (arith, range, small))
 
-pub returns : goal.returns
-returns c =
+pub returns-clause-all : goal.returns-clause-all
+returns-clause-all c =
     let m = c.args.circuit.now in
     let blank : Latch = record { lit = record { 0 = 0 }; next = record { 0 = 0 }; reset = record { 0 = 0 } } in
     let old : List (List Lit) = c.args.clauses.now in

@@ -2,7 +2,7 @@ use Rattle.std.proofs.Common.{rules, ◌≡◌, ◌≢◌, ◌∙◌, ◌<◌, L
 use Rattle.std.proofs.lemmas.List.Elements.{All-push, Contains-get_or}
 use Rattle.graph.specs.declared.circuit.Lit.{Lit}
 use Rattle.graph.specs.declared.circuit.Latch.{Latch}
-use Rattle.graph.specs.Valuation.{variable}
+use Rattle.graph.specs.Circuits.{variable}
 use Rattle.graph.proofs.Evaluation.{latches_in_range}
 use Rattle.correspondence.specs.Equal.{high_of, low_of, IsEquality}
 use Rattle.correspondence.proofs.Sound.{implication_is}
@@ -24,8 +24,8 @@ low-requires c =
     let small = c.well_formed-2.ensures.limits.max_var in
     rw c.latches-2.ensures (omega (arith, range, small))
 
-pub returns : goal.returns
-returns c =
+pub returns-clause-all : goal.returns-clause-all
+returns-clause-all c =
     let m = c.args.circuit.now in
     let blank : Latch = record { lit = record { 0 = 0 }; next = record { 0 = 0 }; reset = record { 0 = 0 } } in
     let old : List (List Lit) = c.args.clauses.now in

@@ -1,5 +1,5 @@
 use Rattle.std.proofs.Common.{length, inl, inr, refl, ◌∙◌, ap}
-use Rattle.graph.specs.Valuation.{variable}
+use Rattle.graph.specs.Circuits.{variable}
 use Rattle.cuts.specs.Cuts.{cut_at}
 use Rattle.cuts.specs.Joining.{IsSide, trivial}
 use Rattle.cuts.proofs.Chosen.{IsTableFor, inside_joined, inside_some}

@@ -1,6 +1,6 @@
 use Rattle.std.proofs.Common.{◌≡◌, ◌/◌, ◌<◌, length, get_or, sym, ◌∙◌, ap, subst, arith}
 use Rattle.std.proofs.lemmas.List.{length-set}
-use Rattle.graph.specs.Valuation.{variable}
+use Rattle.graph.specs.Circuits.{variable}
 use Rattle.graph.specs.WellFormed.{gate_in}
 use Rattle.graph.proofs.Evaluation.{lefts_in_range}
 use Rattle.cuts.specs.Cuts.{left_in, no_gate}

@@ -1,5 +1,5 @@
 use Rattle.std.proofs.Common.{◌≡◌, ◌∙◌, sym, subst, arith}
-use Rattle.graph.specs.Justice.{wanted_of}
+use Rattle.graph.specs.Circuits.{wanted_of}
 use Rattle.graph.specs.WellFormed.{IsWellFormed}
 use Rattle.live_safe.proofs.Counts.{wanted_small}
 use Rattle.extension.proofs.RoundsFormed.{rounds_formed}

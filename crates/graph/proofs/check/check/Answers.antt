@@ -1,7 +1,7 @@
 use Rattle.std.proofs.Common.{◌++◌, ◌∙◌, [], map, refl, ap}
 use Rattle.std.specs.List.{range_with_len}
 use Rattle.std.proofs.lemmas.List.Elements.{All-nil}
-use Rattle.graph.specs.Valuation.{variable, defined}
+use Rattle.graph.specs.Circuits.{variable, defined}
 use Rattle.graph.specs.WellFormed.{used}
 use Rattle.graph.specs.Uses.{IsFine}
 use Rattle.graph.specs.Faults.{HasDefined}

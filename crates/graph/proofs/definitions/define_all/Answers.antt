@@ -1,5 +1,5 @@
 use Rattle.std.proofs.Common.{◌<◌, length, map}
-use Rattle.graph.specs.Valuation.{variable}
+use Rattle.graph.specs.Circuits.{variable}
 use Rattle.graph.proofs.Evaluation.{All-left, All-right, All-unmap}
 use Rattle.graph.proofs.Tabled.{StaysCounted-join}
 use Rattle.graph.proofs.definitions.define_all.Goals as goal

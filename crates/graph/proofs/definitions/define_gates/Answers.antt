@@ -1,4 +1,4 @@
-use Rattle.graph.specs.Valuation.{variable}
+use Rattle.graph.specs.Circuits.{variable}
 use Rattle.graph.proofs.Tabled.{StaysCounted-more}
 use Rattle.graph.proofs.definitions.define_gates.Goals as goal
 

@@ -1,5 +1,5 @@
 use Rattle.std.proofs.Common.{map, take}
-use Rattle.graph.specs.Valuation.{variable}
+use Rattle.graph.specs.Circuits.{variable}
 use Rattle.graph.specs.Tables.{StaysCounted}
 use Rattle.graph.proofs.definitions.define_gates.Given as goal
 

@@ -1,4 +1,4 @@
-use Rattle.graph.specs.Valuation.{variable}
+use Rattle.graph.specs.Circuits.{variable}
 use Rattle.graph.proofs.Tabled.{StaysMarked-more}
 use Rattle.graph.proofs.definitions.mention.Goals as goal
 

@@ -1,6 +1,6 @@
 use Rattle.std.proofs.Common.{◌≡◌, ◌<◌, List, Bool, length, All, arith}
 use Rattle.graph.specs.declared.parts.Parts.{Parts}
-use Rattle.graph.specs.Valuation.{variable}
+use Rattle.graph.specs.Circuits.{variable}
 use Rattle.graph.specs.WellFormed.{used}
 use Rattle.graph.proofs.Tabled.{HoldsOfUsed, holds_of_used, StaysMarked-and}
 use Rattle.graph.proofs.definitions.mention_all.Goals as goal

@@ -1,5 +1,5 @@
 use Rattle.std.proofs.Common.{◌<◌, length}
-use Rattle.graph.specs.Valuation.{variable}
+use Rattle.graph.specs.Circuits.{variable}
 use Rattle.graph.proofs.Tabled.{All-piece, StaysMarked-more_justice}
 use Rattle.graph.proofs.definitions.mention_justice.Goals as goal
 

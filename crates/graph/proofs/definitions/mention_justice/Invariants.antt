@@ -1,6 +1,5 @@
 use Rattle.std.proofs.Common.{map, take}
-use Rattle.graph.specs.Valuation.{variable}
-use Rattle.graph.specs.WellFormed.{justice_literals}
+use Rattle.graph.specs.Circuits.{variable, justice_literals}
 use Rattle.graph.specs.Tables.{StaysMarked}
 use Rattle.graph.proofs.definitions.mention_justice.Given as goal
 

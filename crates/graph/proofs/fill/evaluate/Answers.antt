@@ -1,5 +1,5 @@
 use Rattle.std.proofs.Common.{◌+◌, ◌≤◌, ◌*◌, arith, map, ◌++◌, sym, ◌∙◌}
-use Rattle.graph.specs.Valuation.{variable}
+use Rattle.graph.specs.Circuits.{variable}
 use Rattle.graph.proofs.Gates.{left}
 use Rattle.graph.proofs.Evaluation.{held, once-left, once-right, alike_same, Filled, Filled-agrees, Filled-state, Filled-inputs, latches_in_range, lefts_in_range, lefts_even, rights0, rights1}
 use Rattle.graph.proofs.fill.evaluate.Goals as goal

@@ -1,6 +1,6 @@
 use Rattle.std.proofs.Common.{arith, refl, map, sym, ◌∙◌}
 use Rattle.std.proofs.lemmas.List.{get_or-map, length-map}
-use Rattle.graph.specs.Valuation.{variable}
+use Rattle.graph.specs.Circuits.{variable}
 use Rattle.graph.proofs.Filled.{Written-more, Written-all, Written-at}
 use Rattle.graph.proofs.fill.fill_latches.Goals as goal
 

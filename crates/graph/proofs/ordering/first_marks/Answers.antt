@@ -1,5 +1,5 @@
 use Rattle.std.proofs.Common.{ℕ, ◌+◌, ◌≡◌, ◌≤◌, length, get_or, arith, length-set, ◌∙◌}
-use Rattle.graph.specs.Valuation.{variable}
+use Rattle.graph.specs.Circuits.{variable}
 use Rattle.graph.specs.declared.ordering.Mark.TheVariants.{Waiting}
 use Rattle.graph.proofs.Cycles.{blank, left_at}
 use Rattle.graph.proofs.Ended.{first_more, first_search}

@@ -1,5 +1,5 @@
 use Rattle.std.proofs.Common.{ℕ, ◌+◌, ◌≡◌, ◌≤◌, length, get_or, arith, length-set, ◌∙◌}
-use Rattle.graph.specs.Valuation.{variable}
+use Rattle.graph.specs.Circuits.{variable}
 use Rattle.graph.proofs.Cycles.{blank, left_at}
 use Rattle.graph.proofs.Ended.{places_more}
 use Rattle.graph.proofs.ordering.places_of.Goals as goal

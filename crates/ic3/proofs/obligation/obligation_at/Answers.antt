@@ -1,7 +1,7 @@
 use Rattle.std.proofs.Common.{◌≡◌, ◌∙◌, [], ◌∷◌, List, get_or, true, ap, sym, subst, All}
 use Rattle.std.proofs.lemmas.List.Elements.{All-cons, All-nil}
 use Rattle.graph.specs.declared.circuit.Lit.{Lit}
-use Rattle.graph.specs.Valuation.{variable, value_of}
+use Rattle.graph.specs.Circuits.{variable, value_of}
 use Rattle.graph.proofs.Tabled.{holds_of_used}
 use Rattle.cnf.specs.Formulas.{bad_literal}
 use Rattle.cones.specs.Marks.{IsKnown}

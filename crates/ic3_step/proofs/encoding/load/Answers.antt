@@ -1,6 +1,6 @@
 use Rattle.std.proofs.Common.{◌≡◌, ◌∙◌, map, Contains, ◌+◌, ◌++◌, ◌∷◌, ap, sym, subst, ℤ, List, All, arith, refl}
 use Rattle.graph.specs.declared.circuit.Lit.{Lit}
-use Rattle.graph.specs.Valuation.{variable}
+use Rattle.graph.specs.Circuits.{variable}
 use Rattle.lrat.specs.Shared.{unit_clauses}
 use Rattle.cnf.specs.Clauses.{literal, truth_clause}
 use Rattle.cones.specs.Marks.{IsMarked}

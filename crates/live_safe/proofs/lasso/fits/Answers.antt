@@ -1,5 +1,5 @@
 use Rattle.std.proofs.Common.{arith, rules, ◌≡◌, ◌+◌, ◌*◌, ◌<◌, length}
-use Rattle.graph.specs.Justice.{wanted_of}
+use Rattle.graph.specs.Circuits.{wanted_of}
 use Rattle.live_safe.proofs.Counts.{fits_where, fits_not}
 use Rattle.live_safe.proofs.lasso.fits.Goals.{then-initial-latches-via-then-initial-latches, then-initial-latches-via-else-initial-latches+then-is_empty}
 use Rattle.live_safe.proofs.lasso.fits.Goals as goal

@@ -1,5 +1,5 @@
 use Rattle.std.proofs.Common.{◌≡◌, ◌∙◌, sym, subst}
-use Rattle.graph.specs.Justice.{wanted_of}
+use Rattle.graph.specs.Circuits.{wanted_of}
 use Rattle.graph.specs.WellFormed.{IsWellFormed}
 use Rattle.live_safe.proofs.Counts.{latches_small, wanted_small}
 use Rattle.live_safe.proofs.Shape.{shadow_well_formed}

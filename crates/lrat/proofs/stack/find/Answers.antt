@@ -1,7 +1,5 @@
-use Rattle.std.proofs.Common.{◌∙◌, ap, sym, cond, Some, None}
-use Rattle.lrat.specs.Slots.{blank}
-use Rattle.std.proofs.Common.{get_or, List, ◌≡◌, true, false}
-use Rattle.lrat.specs.Slots.{Slot}
+use Rattle.std.proofs.Common.{◌∙◌, ap, sym, cond, Some, None, get_or, List, ◌≡◌, true, false}
+use Rattle.lrat.specs.Slots.{blank, Slot}
 use Rattle.lrat.proofs.Rising.{live_here, live_nowhere}
 use Rattle.lrat.proofs.stack.find.Goals as goal
 

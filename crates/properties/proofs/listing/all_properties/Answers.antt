@@ -2,7 +2,7 @@ use Rattle.std.proofs.Common.{◌≡◌, All, AllPairs, Contains, ◌≤◌, len
 use Rattle.std.proofs.Math.Path.{subst}
 use Rattle.graph.specs.declared.circuit.Property.{Property as AProperty}
 use Rattle.graph.specs.declared.parts.Parts.{Parts}
-use Rattle.graph.specs.Properties.{HasProperty}
+use Rattle.graph.specs.Circuits.{HasProperty}
 use Rattle.properties.specs.Order.{ComesBefore}
 use Rattle.properties.proofs.Listed.{AreTaken, listed, all_listed, only_listed, listed_in_order, listed_by_kind}
 use Rattle.properties.proofs.listing.all_properties.Goals as goal

@@ -1,5 +1,5 @@
 use Rattle.std.proofs.Common.{◌≡◌, ◌++◌, Bool, List, Some, subst, sym}
-use Rattle.graph.specs.Properties.{HasProperty}
+use Rattle.graph.specs.Circuits.{HasProperty}
 use Rattle.graph.specs.declared.parts.Parts.{Parts}
 use Rattle.scan.specs.Lists.{items_at}
 use Rattle.stimulus.specs.Reading.{line_at}

@@ -1,5 +1,5 @@
 use Rattle.std.proofs.Common.{◌≡◌, ◌∙◌, sym, subst}
-use Rattle.graph.specs.Valuation.{Valuation, value_of}
+use Rattle.graph.specs.Circuits.{Valuation, value_of}
 use Rattle.stimulus.proofs.LassoLaws.{if_some_at}
 use Rattle.replay.specs.Found.{ArePlayed}
 use Rattle.replay.proofs.Trials.{at_end_missing, at_end_not_set, at_end_set}

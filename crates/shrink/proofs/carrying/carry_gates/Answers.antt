@@ -1,6 +1,6 @@
 use Rattle.std.proofs.Common.{◌≡◌, ◌∙◌, ◌+◌, ◌*◌, ◌≤◌, ℕ, List, length, get_or, ap, subst, arith}
 use Rattle.graph.specs.declared.circuit.Gate.{Gate}
-use Rattle.graph.specs.Valuation.{variable}
+use Rattle.graph.specs.Circuits.{variable}
 use Rattle.graph.specs.WellFormed.{gate_in}
 use Rattle.graph.specs.declared.circuit.Lit.{Lit}
 use Rattle.graph.proofs.Evaluation.{rights0, rights1, lefts_in_range}

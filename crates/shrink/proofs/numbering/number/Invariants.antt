@@ -1,5 +1,5 @@
 use Rattle.std.proofs.Common.{◌≡◌, ◌+◌, ◌*◌, ◌<◌, ◌⊎◌, ℕ, Contains, length, map, take, get_or}
-use Rattle.graph.specs.Valuation.{variable}
+use Rattle.graph.specs.Circuits.{variable}
 use Rattle.graph.specs.declared.circuit.Lit.{Lit}
 use Rattle.shrink.specs.Hashed.{image_of}
 use Rattle.shrink.proofs.numbering.number.Given as goal

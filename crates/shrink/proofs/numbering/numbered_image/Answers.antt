@@ -1,7 +1,7 @@
 use Rattle.std.proofs.Common.{rules, ◌≡◌, ◌∙◌, ◌+◌, ◌*◌, ◌<◌, ◌≤◌, ℕ, List, All, length, drop, get_or, map, Contains, inl, inr, sym, ap, arith}
 use Rattle.std.proofs.lemmas.List.{get_or-map, get_or-replicate, length-map}
 use Rattle.graph.specs.declared.circuit.Lit.{Lit}
-use Rattle.graph.specs.Valuation.{variable}
+use Rattle.graph.specs.Circuits.{variable}
 use Rattle.graph.proofs.Tabled.{take_whole}
 use Rattle.shrink.specs.Hashed.{image_of}
 use Rattle.shrink.proofs.numbering.numbered_image.Goals as goal

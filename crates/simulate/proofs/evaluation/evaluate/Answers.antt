@@ -1,7 +1,7 @@
 use Rattle.std.proofs.Common.{◌≡◌, ◌+◌, ◌<◌, ◌≤◌, ◌*◌, ◌%◌, inl, inr, Bool, List, length, arith, map, ◌++◌, sym, ◌∙◌}
 use Rattle.std.proofs.lemmas.List.{length-map}
 use Rattle.simulate.specs.Lanes.{value_in, row_of}
-use Rattle.graph.specs.Valuation.{variable, Fires}
+use Rattle.graph.specs.Circuits.{variable, Fires}
 use Rattle.graph.proofs.Gates.{left}
 use Rattle.graph.proofs.Evaluation.{held, once-left, once-right, alike_same, latches_in_range, lefts_in_range, lefts_even, rights0, rights1}
 use Rattle.simulate.proofs.Refilled.{Refilled, Refilled-agrees, Refilled-state, Refilled-inputs}

@@ -1,6 +1,6 @@
 use Rattle.std.proofs.Common.{arith, map, sym, ◌∙◌}
 use Rattle.std.proofs.lemmas.List.{get_or-map, length-map}
-use Rattle.graph.specs.Valuation.{variable}
+use Rattle.graph.specs.Circuits.{variable}
 use Rattle.graph.proofs.Filled.{Written-all, Written-at}
 use Rattle.simulate.specs.Lanes.{row_of}
 use Rattle.simulate.proofs.WideLaws.{written_in}

@@ -1,5 +1,5 @@
 use Rattle.std.proofs.Common.{ℕ, map}
-use Rattle.graph.specs.Valuation.{variable}
+use Rattle.graph.specs.Circuits.{variable}
 use Rattle.graph.proofs.Filled.{Written}
 use Rattle.simulate.specs.Lanes.{row_of}
 use Rattle.simulate.proofs.evaluation.fill_inputs.Given as goal

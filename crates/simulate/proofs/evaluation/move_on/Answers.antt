@@ -1,6 +1,6 @@
 use Rattle.std.proofs.Common.{ap, ◌∙◌, arith}
 use Rattle.std.proofs.lemmas.List.{get_or_default}
-use Rattle.graph.specs.Valuation.{value_of}
+use Rattle.graph.specs.Circuits.{value_of}
 use Rattle.simulate.specs.Lanes.{row_of}
 use Rattle.simulate.proofs.Taking.{Taken-all}
 use Rattle.simulate.proofs.WideLaws.{taken_in}

@@ -1,5 +1,5 @@
 use Rattle.std.proofs.Common.{ℕ, ◌<◌}
-use Rattle.graph.specs.Valuation.{value_of}
+use Rattle.graph.specs.Circuits.{value_of}
 use Rattle.simulate.specs.Lanes.{row_of}
 use Rattle.simulate.proofs.Taking.{Taken}
 use Rattle.simulate.proofs.evaluation.move_on.Given as goal

@@ -1,5 +1,5 @@
 use Rattle.std.proofs.Common.{arith}
-use Rattle.graph.specs.Valuation.{value_of}
+use Rattle.graph.specs.Circuits.{value_of}
 use Rattle.simulate.proofs.Taking.{Taken-all}
 use Rattle.simulate.proofs.replay.take_over.Goals as goal
 

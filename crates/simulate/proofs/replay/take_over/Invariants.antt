@@ -1,4 +1,4 @@
-use Rattle.graph.specs.Valuation.{value_of}
+use Rattle.graph.specs.Circuits.{value_of}
 use Rattle.simulate.proofs.Taking.{Taken}
 use Rattle.simulate.proofs.replay.take_over.Given as goal
 

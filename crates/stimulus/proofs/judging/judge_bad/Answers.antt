@@ -1,5 +1,5 @@
 use Rattle.std.proofs.Common.{◌≡◌, sym, ◌∙◌, inl}
-use Rattle.graph.specs.Valuation.{Valuation, value_of}
+use Rattle.graph.specs.Circuits.{Valuation, value_of}
 use Rattle.stimulus.specs.Shown.{last_of}
 use Rattle.stimulus.proofs.LassoLaws.{if_some_at}
 use Rattle.stimulus.proofs.judging.judge_bad.Goals as goal

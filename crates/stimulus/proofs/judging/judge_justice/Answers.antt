@@ -1,7 +1,7 @@
 use Rattle.std.proofs.Common.{◌≡◌, refl, sym, ap, ◌∙◌, inr, subst, List, Bool}
 use Rattle.graph.specs.declared.circuit.Lit.{Lit}
 use Rattle.graph.specs.declared.parts.Parts.{Parts}
-use Rattle.graph.specs.Justice.{wanted_of}
+use Rattle.graph.specs.Circuits.{wanted_of}
 use Rattle.stimulus.specs.Shown.{ClosesLasso, closing_state}
 use Rattle.stimulus.proofs.CourseLaws.{course_of}
 use Rattle.stimulus.proofs.Ranges.{wanted_in_range}

@@ -1,6 +1,6 @@
 use Rattle.std.proofs.Common.{subst}
 use Rattle.graph.specs.declared.parts.Parts.{Parts}
-use Rattle.graph.specs.Properties.{HasProperty}
+use Rattle.graph.specs.Circuits.{HasProperty}
 use Rattle.stimulus.proofs.Watching.{watched_in_range, bad_watched, output_watched}
 use Rattle.stimulus.proofs.judging.judge_violated.Goals as goal
 

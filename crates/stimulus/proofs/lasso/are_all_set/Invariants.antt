@@ -1,5 +1,5 @@
 use Rattle.std.proofs.Common.{◌≡◌, ℕ, ◌<◌, true}
-use Rattle.graph.specs.Valuation.{place}
+use Rattle.graph.specs.Circuits.{place}
 use Rattle.stimulus.proofs.lasso.are_all_set.Given as goal
 
 abbrev pub invariant-loop-mark : goal.invariant-loop-mark

@@ -2,7 +2,7 @@ use Rattle.std.proofs.Common.{◌≡◌, ℕ, ◌-◌, ◌<◌, Bool, false, tru
 use Rattle.std.proofs.Math.Seq.{take-append_seam}
 use Rattle.std.proofs.lemmas.List.{length-replicate, take_all}
 use Rattle.graph.specs.declared.parts.Parts.{Parts}
-use Rattle.graph.specs.Valuation.{place}
+use Rattle.graph.specs.Circuits.{place}
 use Rattle.stimulus.specs.Courses.{Course, Marks}
 use Rattle.stimulus.proofs.LassoLaws.{lasso_found, lasso_marks, met_state}
 use Rattle.stimulus.proofs.lasso.has_lasso.Goals as goal

@@ -1,5 +1,5 @@
 use Rattle.std.proofs.Common.{◌≡◌, Some, length}
-use Rattle.graph.specs.Valuation.{Valuation}
+use Rattle.graph.specs.Circuits.{Valuation}
 use Rattle.stimulus.proofs.LassoLaws.{Marked}
 use Rattle.stimulus.proofs.lasso.mark.Given as goal
 

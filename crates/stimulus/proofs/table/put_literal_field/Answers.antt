@@ -3,7 +3,7 @@ use Rattle.std.proofs.lemmas.Bool.{eqb-false}
 use Rattle.std.specs.Prelude.{codes, flat_map}
 use Rattle.base.specs.Devices.{Puts}
 use Rattle.base.proofs.Putting.{puts_then}
-use Rattle.graph.specs.Valuation.{value_of}
+use Rattle.graph.specs.Circuits.{value_of}
 use Rattle.stimulus.specs.Texts.{value_text}
 use Rattle.stimulus.proofs.RowLaws.{literal_field}
 use Rattle.stimulus.proofs.WriteLaws.{first_fails}

@@ -4,7 +4,7 @@ use Rattle.std.specs.Io.KnownBytes.{Appends}
 use Rattle.std.proofs.lemmas.List.{take_all}
 use Rattle.base.specs.Devices.{PutsBeginning}
 use Rattle.base.proofs.Putting.{begins_at, puts_err, puts_next}
-use Rattle.graph.specs.Valuation.{Valuation, value_of}
+use Rattle.graph.specs.Circuits.{Valuation, value_of}
 use Rattle.stimulus.specs.Texts.{value_text}
 use Rattle.stimulus.proofs.LassoLaws.{if_some_at}
 use Rattle.stimulus.proofs.table.put_literals.Goals as goal

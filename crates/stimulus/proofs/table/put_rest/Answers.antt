@@ -3,7 +3,7 @@ use Rattle.std.specs.Prelude.{codes}
 use Rattle.std.specs.Io.KnownBytes.{Appends}
 use Rattle.base.specs.Devices.{PutsBeginning}
 use Rattle.base.proofs.Putting.{puts_of, puts_then}
-use Rattle.graph.specs.Valuation.{inputs_of, value_of}
+use Rattle.graph.specs.Circuits.{inputs_of, value_of}
 use Rattle.stimulus.specs.Tables.{field_text}
 use Rattle.stimulus.proofs.WriteLaws.{first_fails}
 use Rattle.stimulus.proofs.table.put_rest.Goals as goal

@@ -1,5 +1,5 @@
 use Rattle.std.proofs.Common.{◌≡◌, ◌++◌, Some, take}
-use Rattle.graph.specs.Valuation.{Valuation}
+use Rattle.graph.specs.Circuits.{Valuation}
 use Rattle.trace.specs.Columns.{known_at}
 use Rattle.trace.proofs.columns.push_values.Given as goal
 

@@ -1,7 +1,7 @@
 use Rattle.std.proofs.Common.{◌≡◌, ℕ, ◌<◌, Bool, false, true, List, ◌++◌, length, take, drop, replicate, sym, ap, ◌∙◌, subst}
 use Rattle.std.proofs.Math.Seq.{take-append_seam}
 use Rattle.std.proofs.lemmas.List.{length-replicate}
-use Rattle.graph.specs.Valuation.{place}
+use Rattle.graph.specs.Circuits.{place}
 use Rattle.stimulus.specs.Courses.{Marks}
 use Rattle.trace.proofs.LoopLaws.{lasso_first, lasso_none, rest_marks}
 use Rattle.trace.proofs.loops.first_lasso.Goals as goal

@@ -1,7 +1,7 @@
 use Rattle.std.proofs.Common.{◌≡◌, ◌<◌, length, get_or, sym, ap, ◌∙◌, arith}
 use Rattle.std.proofs.lemmas.List.{get_or_default}
 use Rattle.graph.specs.declared.circuit.Lit.{Lit}
-use Rattle.graph.specs.Valuation.{Valuation, value_of}
+use Rattle.graph.specs.Circuits.{Valuation, value_of}
 use Rattle.stimulus.proofs.LassoLaws.{if_some_at, marked_all, marked_kept, marked_set}
 use Rattle.trace.proofs.loops.mark.Goals.{then-value, else-value}
 use Rattle.trace.proofs.loops.mark.Goals as goal

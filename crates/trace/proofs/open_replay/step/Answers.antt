@@ -1,5 +1,5 @@
 use Rattle.std.proofs.Common.{arith, sym, subst}
-use Rattle.graph.specs.Runs.{next_state}
+use Rattle.graph.specs.Circuits.{next_state}
 use Rattle.witness.specs.Completions.{Completes}
 use Rattle.simulate.proofs.Taking.{nexts_in_range}
 use Rattle.trace.proofs.OpenReplayLaws.{completes_next}

@@ -2,7 +2,7 @@ use Rattle.std.proofs.Common.{◌≡◌, ◌≤◌, ◌+◌, ◌*◌, ◌%◌, �
 use Rattle.std.proofs.lemmas.Simd.{map-map}
 use Rattle.std.proofs.lemmas.List.Elements.{Contains-append_left, Contains-append_right}
 use Rattle.graph.specs.declared.circuit.Latch.{Latch}
-use Rattle.graph.specs.Valuation.{variable}
+use Rattle.graph.specs.Circuits.{variable}
 use Rattle.graph.proofs.Gates.{left}
 use Rattle.graph.proofs.Evaluation.{Contains-map, held, once-across, once-left, inputs_even, lefts_even, lefts_in_range, once-right, rights0, rights1}
 use Rattle.trace.proofs.BitLaws.{inputs_in_range, latch_literals_in_range}

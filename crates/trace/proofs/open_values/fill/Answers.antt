@@ -1,6 +1,6 @@
 use Rattle.std.proofs.Common.{◌∙◌, arith, length-set, map, refl, sym, None}
 use Rattle.std.proofs.lemmas.List.{get_or-map, length-map}
-use Rattle.graph.specs.Valuation.{variable}
+use Rattle.graph.specs.Circuits.{variable}
 use Rattle.trace.proofs.OpenFillLaws.{open_written_at, open_written_kept, open_written_more, open_written_none}
 use Rattle.trace.proofs.OpenLaws.{stand_given}
 use Rattle.trace.proofs.open_values.fill.Goals as goal

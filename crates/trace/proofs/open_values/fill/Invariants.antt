@@ -1,5 +1,5 @@
 use Rattle.std.proofs.Common.{◌≡◌, length, map}
-use Rattle.graph.specs.Valuation.{Valuation, variable}
+use Rattle.graph.specs.Circuits.{Valuation, variable}
 use Rattle.trace.specs.OpenValues.{AreGiven, Stand}
 use Rattle.trace.proofs.OpenFillLaws.{OpenWritten}
 use Rattle.trace.proofs.open_values.fill.Given as goal

@@ -1,5 +1,5 @@
 use Rattle.std.proofs.Common.{◌≡◌, ◌⊎◌, ℕ, All, Contains, length, map}
-use Rattle.graph.specs.Valuation.{Fires, Valuation}
+use Rattle.graph.specs.Circuits.{Fires, Valuation}
 use Rattle.trace.specs.OpenValues.{Stand, open_place}
 use Rattle.graph.proofs.Gates.{left}
 use Rattle.trace.proofs.OpenOrderLaws.{OpenEvaluated}

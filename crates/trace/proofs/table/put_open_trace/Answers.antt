@@ -4,8 +4,7 @@ use Rattle.base.specs.Devices.{PutsBeginning}
 use Rattle.stimulus.proofs.RowLaws.{err_at}
 use Rattle.trace.specs.Columns.{rows_of}
 use Rattle.trace.specs.OpenTraces.{HasOpenTraceCause}
-use Rattle.trace.specs.Traces.{Signals}
-use Rattle.trace.specs.Traces.{trace_text}
+use Rattle.trace.specs.Traces.{Signals, trace_text}
 use Rattle.trace.proofs.OpenTraceLaws.{open_trace_cause, open_trace_cut}
 use Rattle.trace.proofs.TraceLaws.{if_err, on_ok}
 use Rattle.trace.proofs.table.put_open_trace.Goals as goal

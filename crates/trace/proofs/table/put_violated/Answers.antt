@@ -3,10 +3,8 @@ use Rattle.std.specs.Io.KnownBytes.{Appends}
 use Rattle.base.specs.Devices.{PutsBeginning}
 use Rattle.stimulus.proofs.RowLaws.{err_at}
 use Rattle.trace.specs.Columns.{rows_of}
-use Rattle.trace.specs.Traces.{Signals}
-use Rattle.trace.specs.Traces.{HasTraceCauseIn, trace_text}
-use Rattle.trace.proofs.TraceLaws.{if_err, on_ok}
-use Rattle.trace.proofs.TraceLaws.{trace_cause, trace_cut}
+use Rattle.trace.specs.Traces.{Signals, HasTraceCauseIn, trace_text}
+use Rattle.trace.proofs.TraceLaws.{if_err, on_ok, trace_cause, trace_cut}
 use Rattle.trace.proofs.table.put_violated.Goals as goal
 
 pub returns-in_err-shown-clause-refused : goal.returns-in_err-shown-clause-refused

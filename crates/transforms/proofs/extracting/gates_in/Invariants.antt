@@ -1,5 +1,5 @@
 use Rattle.std.proofs.Common.{◌≡◌, filter, take}
-use Rattle.graph.specs.Valuation.{variable, place}
+use Rattle.graph.specs.Circuits.{variable, place}
 use Rattle.transforms.proofs.extracting.gates_in.Given as goal
 
 abbrev pub invariant-choosing : goal.invariant-choosing

@@ -2,7 +2,7 @@ use Rattle.std.proofs.Common.{◌≡◌, ◌-◌, ◌<◌, ◌+◌, List, Bool, 
 use Rattle.std.proofs.lemmas.List.{length-map}
 use Rattle.graph.specs.declared.circuit.Lit.{Lit}
 use Rattle.graph.specs.declared.circuit.Latch.{Latch}
-use Rattle.graph.specs.Valuation.{variable}
+use Rattle.graph.specs.Circuits.{variable}
 use Rattle.cones.specs.Marks.{IsKnown}
 use Rattle.stimulus.proofs.LassoLaws.{if_some_at}
 use Rattle.witness.specs.Completions.{Completes}

@@ -1,5 +1,5 @@
 use Rattle.std.proofs.Common.{◌≤◌}
-use Rattle.graph.specs.Valuation.{variable}
+use Rattle.graph.specs.Circuits.{variable}
 use Rattle.graph.specs.declared.circuit.Lit.{Lit}
 use Rattle.stimulus.proofs.Ranges.{bad_in_range, outputs_in_range}
 use Rattle.witness.proofs.WatchedLaws.{found_has}

@@ -1,6 +1,6 @@
 use Rattle.std.proofs.Common.{◌<◌, List, length, All, sym, subst}
 use Rattle.graph.specs.declared.circuit.Lit.{Lit}
-use Rattle.graph.specs.Valuation.{variable}
+use Rattle.graph.specs.Circuits.{variable}
 use Rattle.graph.proofs.Evaluation.{latches_in_range}
 use Rattle.witness.proofs.ClearLaws.{small_latches, small_inputs}
 use Rattle.witness.proofs.resting.left_by.Goals as goal

@@ -1,6 +1,6 @@
 use Rattle.std.proofs.Common.{◌≡◌, true, List, All, subst}
 use Rattle.graph.specs.declared.circuit.Lit.{Lit}
-use Rattle.graph.specs.Valuation.{value_of}
+use Rattle.graph.specs.Circuits.{value_of}
 use Rattle.witness.proofs.resting.left_of_time.Goals as goal
 
 pub returns-clause-enough : goal.returns-clause-enough

@@ -1,6 +1,6 @@
 use Rattle.std.proofs.Common.{◌≡◌, ◌<◌, true, length, get_or, arith}
 use Rattle.graph.specs.declared.circuit.Latch.{Latch}
-use Rattle.graph.specs.Valuation.{Valuation, value_of, variable}
+use Rattle.graph.specs.Circuits.{Valuation, value_of, variable}
 use Rattle.witness.proofs.NextLaws.{nexts_given, nexts_none}
 use Rattle.witness.proofs.resting.nexts.Goals.{in-Some+in_ok-push, in_default}
 use Rattle.witness.proofs.resting.nexts.Goals as goal

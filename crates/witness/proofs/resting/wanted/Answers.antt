@@ -1,5 +1,5 @@
 use Rattle.std.proofs.Common.{◌≡◌, true, arith}
-use Rattle.graph.specs.Valuation.{value_of}
+use Rattle.graph.specs.Circuits.{value_of}
 use Rattle.witness.proofs.NextLaws.{three_known, three_true}
 use Rattle.witness.proofs.resting.wanted.Goals as goal
 

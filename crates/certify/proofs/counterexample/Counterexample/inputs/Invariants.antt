@@ -1,5 +1,5 @@
 use Rattle.std.proofs.Common.{◌≡◌, map, take}
-use Rattle.graph.specs.Valuation.{value_of}
+use Rattle.graph.specs.Circuits.{value_of}
 use Rattle.certify.proofs.counterexample.Counterexample.inputs.Given as goal
 
 abbrev pub invariant-loop-lit : goal.invariant-loop-lit

@@ -1,5 +1,5 @@
 use Rattle.std.proofs.Common.{◌≡◌, map, take}
-use Rattle.graph.specs.Valuation.{value_of}
+use Rattle.graph.specs.Circuits.{value_of}
 use Rattle.certify.proofs.counterexample.Counterexample.state.Given as goal
 
 abbrev pub invariant-loop-latch : goal.invariant-loop-latch

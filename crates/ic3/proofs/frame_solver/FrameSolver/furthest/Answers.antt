@@ -15,6 +15,7 @@ pushing-preserved g c =
       spends = search rules;
       sound = c.in_ok-time.ensures.sound;
       no_less = search rules;
+      next_is = search rules;
       below = search rules;
       inductive = record { clause = h.inductive.clause; initial = h.inductive.initial; onward = onward_by m es c.pushing.next c.in-Held.field-0 clause after (subst (IsRelative m es c.pushing.next clause after) c.in-Held.is c.in_ok-time.ensures.lawful) };
     }

@@ -1,4 +1,4 @@
-use Rattle.std.proofs.Common.{◌<◌, ◌≤◌, ◌≡◌}
+use Rattle.std.proofs.Common.{◌+◌, ◌<◌, ◌≤◌, ◌≡◌}
 use Rattle.base.specs.Budget.{Spends}
 use Rattle.ic3.specs.Sound.{IsSound}
 use Rattle.ic3.specs.Answers.{IsInductiveFrom}
@@ -10,6 +10,7 @@ invariant-pushing g l = record {
   spends : Spends l.initial.budget l.budget;
   sound : IsSound l.circuit l.self l.frames;
   no_less : l.level ≤ l.last;
+  next_is : l.next ≡ l.last + 1;
   below : l.last < l.frames.top;
   inductive : IsInductiveFrom l.circuit l.frames.entries l.last l.clause;
 }

@@ -1,7 +1,8 @@
+use Rattle.std.proofs.Common.{◌<◌, ℕ, get_or}
 use Rattle.base.specs.Budget.{Spends}
 use Rattle.ic3_step.specs.States.{IsPartOf}
 use Rattle.ic3.specs.Sound.{IsSound}
-use Rattle.ic3.specs.Answers.{IsInductiveFrom}
+use Rattle.ic3.specs.Answers.{IsInductiveFrom, IsTried}
 use Rattle.ic3.proofs.frame_solver.FrameSolver.generalize.Given as goal
 
 abbrev pub invariant-dropping : goal.invariant-dropping
@@ -10,4 +11,5 @@ invariant-dropping g l = record {
   sound : IsSound l.circuit l.self l.frames;
   inductive : IsInductiveFrom l.circuit l.frames.entries l.level l.kept;
   part : IsPartOf l.kept l.fn.clause;
+  tried : (k : ℕ) → k < l.latch-index → IsTried l.circuit l.kept (get_or l.latch-items k 0) l.budget;
 }

@@ -1,22 +1,12 @@
-use Rattle.std.proofs.Common.{rules, ◌≡◌, ◌<◌, ◌+◌, ℕ, Bool, arith, List, [], Option, IfSome, length, get_or, sym, subst}
-use Rattle.ic3_step.specs.States.{Holds, IsPartOf}
-use Rattle.ic3_frames.specs.declared.frames.Entry.{Entry}
-use Rattle.ic3_frames.specs.Frames.{InFrame}
+use Rattle.std.proofs.Common.{rules, ◌≤◌, ◌+◌, Bool, arith, List, Contains, subst}
+use Rattle.ic3_step.specs.States.{Holds}
+use Rattle.ic3_step.specs.declared.state.StateLit.{StateLit}
+use Rattle.ic3_frames.specs.Frames.{InFrame, Levels}
 use Rattle.ic3.proofs.Joining.{frame_from, holds_part}
+use Rattle.ic3.specs.Answers.{IsFurthest, IsLearned}
 use Rattle.ic3.proofs.Outcomes.{on_ok}
+use Rattle.ic3.proofs.Tried.{shortened_later}
 use Rattle.ic3.proofs.frame_solver.FrameSolver.learn.Goals as goal
-
-pub bounds-entries-place : goal.bounds-entries-place
-bounds-entries-place g c =
-    let es = c.args.frames.now.entries in
-    let d : Entry = record { clause = []; level = 0 } in
-    let found = subst (λ (o : Option ℕ). IfSome o (λ p. (p < length es) × ((get_or es p d).level ≡ c.args.level) × IsPartOf (get_or es p d).clause c.args.whole.now)) c.in-Some.is (c.in_ok-place.ensures.part d) in
-    subst (λ (xs : List Entry). c.in-Some.place < length xs) (sym c.entries.ensures) found.0
-
-pub offset_bounds-entries-place : goal.offset_bounds-entries-place
-offset_bounds-entries-place g c =
-    let inside = bounds-entries-place g c in
-    search rules
 
 pub returns-clause-held : goal.returns-clause-held
 returns-clause-held g c =
@@ -28,3 +18,25 @@ returns-clause-held g c =
     on_ok ((s : List Bool) → InFrame es (last + 1) s → Holds s shorter) ((s : List Bool) → InFrame es (c.args.level + 1) s → Holds s whole) c.add_to_frames.result
     (λ held s inside. holds_part s shorter whole (λ a found. c.requires.part a (c.in_ok-shorter.ensures.part a found)) (held s (frame_from es (c.args.level + 1) (last + 1) s (omega (arith, far)) inside)))
     c.add_to_frames.ensures.held
+
+pub returns-clause-learned : goal.returns-clause-learned
+returns-clause-learned g c =
+    let m = c.args.circuit.now in
+    let last = c.in_ok-last.last in
+    let shorter = c.in_ok-shorter.shorter in
+    let before = c.in_ok-needed.needed.now in
+    let after = c.furthest.new.budget in
+    let less : after.left ≤ c.generalize.new.budget.left = search rules in
+    on_ok (Contains c.add_to_frames.new.frames.entries (record { clause = shorter; level = last + 1 })) (IsLearned m c.args.frames.now c.add_to_frames.new.frames c.args.level c.args.whole.now after) c.add_to_frames.result
+    (λ joined. record {
+      clause = shorter;
+      before = before;
+      last = last;
+      joined = joined;
+      part = λ a found. c.requires.part a (c.in_ok-shorter.ensures.part a found);
+      ends = c.in_ok-needed.ensures;
+      shortened = shortened_later m before shorter c.generalize.new.budget after less c.in_ok-shorter.ensures.shortened;
+      no_less = c.in_ok-last.ensures.no_less;
+      furthest = subst (λ (f : Levels). IsFurthest m f.top shorter after last) c.in_ok-last.ensures.frames
+          (subst (λ (x : List StateLit). IsFurthest m c.furthest.new.frames.top x after last) c.as_slice-2.ensures c.in_ok-last.ensures.furthest);
+    }) c.add_to_frames.ensures.joined

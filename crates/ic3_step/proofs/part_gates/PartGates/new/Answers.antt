@@ -1,6 +1,6 @@
 use Rattle.std.proofs.Common.{◌+◌, ◌*◌, ◌<◌, ◌≤◌, ◌++◌, List, map, get_or, length, arith, All, ap, sym, subst}
 use Rattle.graph.specs.declared.circuit.Gate.{Gate}
-use Rattle.graph.specs.Valuation.{variable}
+use Rattle.graph.specs.Circuits.{variable}
 use Rattle.graph.proofs.Evaluation.{lefts_in_range, held, once-right, IsOnce}
 use Rattle.graph.proofs.Gates.{left}
 use Rattle.cnf.specs.Formulas.{IsGateIn}

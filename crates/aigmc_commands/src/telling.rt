@@ -1,0 +1,81 @@
+//! What standard error says of a search when it ends.
+
+use cli::Verdict;
+use engine::{Counter, Reason};
+use explanations::Printable;
+use graph::Property;
+use property_names::Name;
+use std::fmt;
+use stimulus::Stimulus;
+
+/// Says what the engines counted, a line for each counter but those that are 0.
+pub fn tell_counters(rt: &HostRuntime, counters: &[Counter]) {
+    for counter in counters {
+        if counter.count > 0 {
+            let _ = eprintln!(rt; "{}: {}: {}", counter.engine, counter.name, counter.count);
+        }
+    }
+}
+
+/// Why nothing is known of a property, in words.
+#[derive(Clone, Copy)]
+pub struct Why {
+    /// why the search ended
+    pub reason: Reason,
+    /// whether the time is over
+    pub is_over: bool,
+}
+
+impl fmt::Display for Why {
+    fn fmt<W: fmt::Write>(&self, f: &mut fmt::Formatter<W>) -> fmt::Result {
+        match self.reason {
+            Reason::Depth(depth) => {
+                let times = depth.saturating_add(1);
+                write!(
+                    f,
+                    "no run of at most {times} times; a greater --depth looks further"
+                )
+            }
+            Reason::Budget if self.is_over => f.write_str(
+                "the time is over; a greater --timeout looks further",
+            ),
+            Reason::Budget => f.write_str("the budget is spent; a greater --budget looks further"),
+            Reason::NoEvidence => f.write_str("no engine had evidence"),
+        }
+    }
+}
+
+/// Says what was found of the property, and why nothing is known of it.
+fn tell_found(rt: &HostRuntime, property: Property, verdict: &Verdict, is_over: bool) {
+    let name = Name(property);
+    let _ = match verdict {
+        Verdict::Safe(certificate) => {
+            let clauses = certificate.invariant.as_slice().len();
+            eprint!(rt; "{name}: holds, by an invariant of {clauses} clauses")
+        }
+        Verdict::Unsafe(Stimulus::Violated { inputs, .. }) => {
+            let times = inputs.as_slice().len();
+            eprint!(rt; "{name}: violated, by a run of {times} times")
+        }
+        Verdict::Unsafe(_) => eprint!(rt; "{name}: violated"),
+        Verdict::Unknown(reason) => {
+            let reason = *reason;
+            eprint!(rt; "{name}: {}", Why { reason, is_over })
+        }
+    };
+}
+
+/// Says what was found of the property, and why nothing is known of it, and its name where it has one.
+pub fn conclude(
+    rt: &HostRuntime,
+    property: Property,
+    verdict: &Verdict,
+    symbol: Option<&[u8]>,
+    is_over: bool,
+) {
+    tell_found(rt, property, verdict, is_over);
+    let _ = match symbol {
+        Some(symbol) => eprintln!(rt; " ({})", Printable(symbol)),
+        None => eprintln!(rt),
+    };
+}

@@ -1,0 +1,218 @@
+//! What the engines say of a property.
+
+use crate::merging::Merging;
+use crate::reporter::Reporter;
+use crate::timed::{Deadline, Timed};
+use crate::timing::Timing;
+use arguments::EngineKind;
+use base::{Refused, boxed, push};
+use bmc::Bmc;
+use cdcl::Cdcl;
+use correspondence::Corresponding;
+use engine::{Counters, Engine};
+use engine_random::Random;
+use graph::{Budget, Lit, Model, Property, Seq};
+use ic3::Ic3;
+use std::alloc::Global;
+use verdict::{DecideError, Verdict, decide};
+
+/// Bounded search and IC3 are asked first with one of so many parts of the budget.
+const FIRST_PARTS: u64 = 16;
+
+/// How many steps they may take at most then.
+const FIRST_STEPS: u64 = 200_000;
+
+/// How many steps of a budget of its own `is_shown_safe` may cost.
+const OWN_STEPS: u64 = 100_000_000;
+
+/// A property of a circuit, and how it is looked at.
+#[derive(Clone, Copy)]
+pub struct Question<'a> {
+    /// the circuit
+    pub circuit: &'a Model,
+    /// the property
+    pub property: Property,
+    /// how the search is to go
+    pub timing: Timing,
+}
+
+/// The same clauses.
+fn copied(alloc: Global, clauses: &[Seq<Lit>]) -> Result<Seq<Seq<Lit>>, Refused> {
+    let mut copied = Seq::new(alloc);
+    for clause in clauses {
+        copied.push(clause.copy(alloc)?)?;
+    }
+    Ok(copied)
+}
+
+/// What a search ended in.
+#[derive(Drop)]
+pub struct Answered {
+    /// the verdict
+    pub verdict: Verdict,
+    /// how many steps of the budget are spent
+    pub steps: u64,
+    /// what the engines counted
+    pub counters: Counters,
+}
+
+/// Adds what each engine counted.
+fn count_all(engines: &[Box<dyn Engine>], counters: &mut Counters) -> Result<(), Refused> {
+    for engine in engines {
+        engine.count(counters)?;
+    }
+    Ok(())
+}
+
+impl Question<'_> {
+    /// What register correspondence says, and bounded search behind it.
+    fn corresponded(
+        self,
+        rt: &HostRuntime,
+        depth: u8,
+        steps: u64,
+        counters: &mut Counters,
+    ) -> Result<(Verdict, u64), DecideError> {
+        let (alloc, timing) = (rt.alloc(), self.timing);
+        let mut engines: Vec<Box<dyn Engine>> = Vec::new(alloc);
+        let bounded = Bmc::new(timing.solver(alloc), u32::from(depth));
+        let bounded = bounded.with_progress(Reporter::new(rt, timing.shown));
+        let engine = Corresponding::new(timing.solver(alloc), bounded);
+        let engine = engine.with_progress(Reporter::new(rt, timing.shown));
+        let engine: Box<dyn Engine> = boxed(alloc, engine)?;
+        push(&mut engines, engine)?;
+        let mut budget = self.timing.budget(steps);
+        let verdict = decide(
+            alloc,
+            self.circuit,
+            self.property,
+            engines.as_mut_slice(),
+            &mut budget,
+        )?;
+        count_all(engines.as_slice(), counters)?;
+        Ok((verdict, budget.left()))
+    }
+
+    /// What register correspondence says, and bounded search and IC3 behind it.
+    fn merged(
+        self,
+        rt: &HostRuntime,
+        candidates: Seq<Seq<Lit>>,
+        depth: u8,
+        steps: u64,
+        counters: &mut Counters,
+    ) -> Result<(Verdict, u64), DecideError> {
+        let alloc = rt.alloc();
+        let mut engines: Vec<Box<dyn Engine>> = Vec::new(alloc);
+        let engine = Merging::new(rt, self.timing, depth, candidates);
+        let engine: Box<dyn Engine> = boxed(alloc, engine)?;
+        push(&mut engines, engine)?;
+        let mut budget = self.timing.budget(steps);
+        let verdict = decide(
+            alloc,
+            self.circuit,
+            self.property,
+            engines.as_mut_slice(),
+            &mut budget,
+        )?;
+        count_all(engines.as_slice(), counters)?;
+        Ok((verdict, budget.left()))
+    }
+
+    /// What the engines that are asked for say, but register correspondence. IC3 tries these clauses first. Answers how many
+    /// steps are left too.
+    fn searched(
+        self,
+        rt: &HostRuntime,
+        candidates: Seq<Seq<Lit>>,
+        depth: u8,
+        steps: u64,
+        counters: &mut Counters,
+    ) -> Result<(Verdict, u64), DecideError> {
+        let (alloc, timing) = (rt.alloc(), self.timing);
+        let search = timing.search;
+        let depth = u32::from(depth);
+        let mut engines: Vec<Box<dyn Engine>> = Vec::new(alloc);
+        if search.engine.has_bounded() {
+            let bounded = Bmc::new(timing.solver(alloc), depth);
+            let bounded = bounded.with_progress(Reporter::new(rt, timing.shown));
+            let engine: Box<dyn Engine> = boxed(alloc, bounded)?;
+            push(&mut engines, engine)?;
+        }
+        if search.engine.has_inductive() {
+            let inductive = Ic3::with_candidates(timing.solver(alloc), candidates);
+            let inductive = inductive.with_progress(Reporter::new(rt, timing.shown));
+            let engine: Box<dyn Engine> = boxed(alloc, inductive)?;
+            push(&mut engines, engine)?;
+        }
+        if search.engine == EngineKind::Random {
+            let random = Random::new(search.seed, depth).with_watch(timing.deadline);
+            let engine: Box<dyn Engine> = boxed(alloc, random)?;
+            push(&mut engines, engine)?;
+        }
+        let mut budget = self.timing.budget(steps);
+        let verdict = decide(
+            alloc,
+            self.circuit,
+            self.property,
+            engines.as_mut_slice(),
+            &mut budget,
+        )?;
+        count_all(engines.as_slice(), counters)?;
+        Ok((verdict, budget.left()))
+    }
+
+    /// What bounded search and IC3 say with few steps, else register correspondence and the two behind it.
+    fn staged(
+        self,
+        rt: &HostRuntime,
+        candidates: Seq<Seq<Lit>>,
+        counters: &mut Counters,
+    ) -> Result<(Verdict, u64), DecideError> {
+        let (all, depth) = (self.timing.search.budget, self.timing.search.depth);
+        let few = (all / FIRST_PARTS).min(FIRST_STEPS);
+        let first = copied(rt.alloc(), candidates.as_slice())?;
+        let (verdict, left) = self.searched(rt, first, depth, few, counters)?;
+        let rest = all.saturating_sub(few.saturating_sub(left));
+        if !matches!(verdict, Verdict::Unknown(_)) {
+            return Ok((verdict, rest));
+        }
+        self.merged(rt, candidates, depth, rest, counters)
+    }
+
+    /// Asks the engines for evidence about the property. IC3 tries these clauses first. Where it is asked for, or standard
+    /// error is a terminal, that says how far they are.
+    pub fn ask(self, rt: &HostRuntime, candidates: Seq<Seq<Lit>>) -> Result<Answered, DecideError> {
+        let search = self.timing.search;
+        let (budget, depth) = (search.budget, search.depth);
+        let mut counters = Counters::new(rt.alloc());
+        let answer = match search.engine {
+            EngineKind::All => self.staged(rt, candidates, &mut counters),
+            EngineKind::Corresponding => self.corresponded(rt, depth, budget, &mut counters),
+            _ => self.searched(rt, candidates, depth, budget, &mut counters),
+        };
+        self.timing.shown.wipe(rt);
+        let (verdict, left) = answer?;
+        Ok(Answered {
+            verdict,
+            steps: budget.saturating_sub(left),
+            counters,
+        })
+    }
+}
+
+/// Whether a certificate that IC3 finds before the deadline shows the circuit's first bad literal to be never set.
+pub fn is_shown_safe(
+    alloc: Global,
+    circuit: &Model,
+    deadline: Deadline,
+) -> Result<bool, DecideError> {
+    let mut engines: Vec<Box<dyn Engine>> = Vec::new(alloc);
+    let solver = Timed::new(Cdcl::new(alloc), deadline);
+    let engine: Box<dyn Engine> = boxed(alloc, Ic3::new(solver))?;
+    push(&mut engines, engine)?;
+    let mut budget = Budget::new(OWN_STEPS);
+    let engines = engines.as_mut_slice();
+    let verdict = decide(alloc, circuit, Property::Bad(0), engines, &mut budget)?;
+    Ok(matches!(verdict, Verdict::Safe(_)))
+}

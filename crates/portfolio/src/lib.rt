@@ -1,0 +1,21 @@
+//! Which engines are asked of a property, in which order, and how many steps and how much time each may take.
+//!
+//! - `Question` is a property of a circuit, and how the search is to go. `ask` asks the engines, and answers a verdict with what
+//!   the search cost.
+//! - `Timing` is a search with its end in time. A solver of it (`Timed`) spends the budget when the time is over.
+//! - `Merging` is register correspondence, and bounded search and IC3 behind it.
+//! - `is_shown_safe` asks IC3 of one bad literal.
+//! - `Reporter` shows on standard error how far a search is.
+#![tactic(auto)]
+
+mod asking;
+mod merging;
+mod reporter;
+mod timed;
+mod timing;
+
+pub use asking::{Answered, Question, is_shown_safe};
+pub use merging::Merging;
+pub use reporter::{Reporter, Shown};
+pub use timed::{Deadline, Timed};
+pub use timing::Timing;

@@ -1,0 +1,21 @@
+-- What a refusal denies.
+use Rattle.std.proofs.Common.{◌≡◌, ◌≢◌, ◌-◌, ◌≤◌, Bool, List, [], ◌∷◌, length, drop, take, get_or, Option, Result, Ok, Err, IfErr, subst, arith}
+use Rattle.std.proofs.lemmas.List.{take_all}
+use Rattle.base.specs.Witness.{witness}
+use Rattle.graph.specs.declared.circuit.Property.{Property}
+use Rattle.graph.specs.declared.parts.Parts.{Parts}
+use Rattle.stimulus.specs.declared.judge_error.JudgeError.{JudgeError}
+use Rattle.stimulus.specs.declared.judge_error.JudgeError.TheVariants.{OutOfMemory}
+use Rattle.witness.specs.Strict.{IsDeniedWithState, ShowsNeither}
+
+-- what follows from what a refusal says
+pub denied_so : {T : Type 0} (X Y : Type 0) (r : Result T JudgeError) → (X → Y) → IfErr r (λ e. e ≢ OutOfMemory witness → X) → IfErr r (λ e. e ≢ OutOfMemory witness → Y)
+denied_so X Y (Ok x) f h = tt
+denied_so X Y (Err e) f h = λ some. f (h some)
+
+-- the first row is the first state
+pub denied_first : (m : Parts) (p : Property) (rows : List (List (Option Bool))) (state : List (Option Bool)) → 1 ≤ length rows → state ≡ get_or rows 0 state → ShowsNeither m p state (take (length rows - 1) (drop 1 rows)) → IsDeniedWithState m p rows
+denied_first m p [] state some is h = absurd (omega (arith, some))
+denied_first m p (row ∷ rows) state some is h =
+    let whole : take (length (row ∷ rows) - 1) rows ≡ rows = take_all (length (row ∷ rows) - 1) rows (omega arith) in
+    subst (λ (s : List (Option Bool)). ShowsNeither m p s rows) is (subst (ShowsNeither m p state) whole h)
