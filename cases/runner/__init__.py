@@ -50,7 +50,8 @@ refuses the growths of the cases of cases.tsv in turn, `robustness/devices` fail
 makes; and `robustness/cut` cuts their texts at every length.
 
 The cases of `cases/scripts` are of the scripts of bin/ around the programs, those of `cases/library` of the library for
-C, which `tools/library` has to have built, and those of `cases/large` of circuits of 200,000 gates; each counts.
+C, which `tools/library` has to have built, those of `cases/large` of circuits of 200,000 gates, and those of
+`cases/witness_judge` of `tools/witness_judge`; each counts.
 
 The line before the last one has the cases that were skipped, which count neither as passed nor as failed. The last line
 is 'N passed, M failed'; the status is 0 only where nothing failed.
