@@ -85,6 +85,15 @@ excluded_by m es levels k gs guards bads core after are backs range law w time i
     ap (value_of w) (sym (first_of_bads m bads are)) ∙ false_unless (value_of w bad) (λ set.
     law.1 w time (frame_guarded es levels k gs guards (state_of m w) backs range inside) (only_one w bad core set law.0))
 
+-- the frames with a failed push more
+pub noted_sound : {S : Type 0} (m : Parts) (a : FrameSolver S) (f g : Levels) → IsSound m a f → g.entries ≡ f.entries → g.top ≡ f.top → AreFrames m (bad_literal m 0) g → IsSound m a g
+noted_sound m a f g sound entries top laws = record {
+  has = subst (λ es. HasFrames m es a) (sym entries) sound.has;
+  laws = laws;
+  top = subst (λ n. n < a.levels) (sym top) sound.top;
+  below = subst (All (λ (e : Entry). e.level < a.levels)) (sym entries) sound.below;
+}
+
 -- a frame more
 pub opened_sound : {S : Type 0} (m : Parts) (a : FrameSolver S) (f g : Levels) → IsSound m a f → g.entries ≡ f.entries → g.top ≡ f.top + 1 → f.top + 1 < a.levels → AreFrames m (bad_literal m 0) g → IsSound m a g
 opened_sound m a f g sound entries top room laws = record {

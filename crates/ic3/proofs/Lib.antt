@@ -12,3 +12,4 @@ pub mod Reduced
 pub mod Clear
 pub mod Queued
 pub mod Tried
+pub mod Passed

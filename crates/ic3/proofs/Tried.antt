@@ -11,7 +11,8 @@ use Rattle.ic3_step.specs.declared.state.Assignment.{Assignment}
 use Rattle.ic3_step.specs.States.{Denies, IsAt, IsPartOf, IsSet}
 use Rattle.ic3_step.specs.Steps.{denials_of}
 use Rattle.ic3_frames.specs.Clauses.{IsResetLit}
-use Rattle.ic3.specs.Answers.{HasLatch, IsFalseAfter, IsNeeded, IsShortened, IsTried}
+use Rattle.ic3_frames.specs.Frames.{IsFalseAfter}
+use Rattle.ic3.specs.Answers.{HasLatch, IsNeeded, IsShortened, IsTried}
 use Rattle.ic3.proofs.Literals.{filter_has}
 
 abbrev pub without_latch : List StateLit → ℕ → List StateLit

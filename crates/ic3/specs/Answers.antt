@@ -17,7 +17,7 @@ use Rattle.ic3_step.specs.States.{Denies, IsPartOf, IsAt, IsSet, IsTime}
 use Rattle.ic3_step.specs.Steps.{denials_of}
 use Rattle.ic3_frames.specs.declared.frames.Entry.{Entry}
 use Rattle.ic3_frames.specs.Clauses.{IsResetLit}
-use Rattle.ic3_frames.specs.Frames.{IsStateClause, HoldsInitially, HoldsAfter, HoldsToward, HoldsOnward, Excludes, AreFrames, Levels}
+use Rattle.ic3_frames.specs.Frames.{IsFalseAfter, IsStateClause, HoldsInitially, HoldsAfter, HoldsToward, HoldsOnward, Excludes, AreFrames, Levels}
 use Rattle.ic3.specs.declared.bad.AtBad.{AtBad}
 use Rattle.ic3.specs.declared.bad.AtBad.TheVariants.{Set, Excluded, Spent}
 use Rattle.ic3.specs.declared.blocking.Blocking.{Blocking}
@@ -58,10 +58,6 @@ IsInductiveAnswer m entries k c after Spent = after.left ≡ 0
 abbrev pub HasLatch : List StateLit → ℕ → Type 0
 HasLatch c i = Any (λ a. a.latch ≡ i) c
 
--- a step leads from a time that keeps the constraints to a state in which the clause is false
-abbrev pub IsFalseAfter : Parts → List StateLit → Type 0
-IsFalseAfter m c = (w : Valuation) × IsTime m w × Denies (next_state m w) c
-
 -- without this latch the clause is not inductive: none of its other literals is a reset, or a step leads to where all of them are unset
 abbrev pub IsNeeded : Parts → List StateLit → ℕ → Type 0
 IsNeeded m c i =
@@ -78,6 +74,10 @@ IsShortened m before after c = All (λ a. HasLatch before a.latch ⊎ (IsNeeded 
 -- the clause cannot be pushed on from this frame: there is no next one, or a step leads to where it is false, or the budget is exhausted
 abbrev pub IsFurthest : Parts → ℕ → List StateLit → Steps → ℕ → Type 0
 IsFurthest m top c after k = (top ≤ k + 1) ⊎ (IsFalseAfter m c ⊎ (after.left ≡ 0))
+
+-- the clause does not end at the level, or it cannot be propagated from there: a step leads to where it is false, or the budget is exhausted
+abbrev pub CannotPropagate : Parts → ℕ → Steps → Entry → Type 0
+CannotPropagate m level after e = e.level ≡ level → IsFalseAfter m e.clause ⊎ (after.left ≡ 0)
 
 -- the clause is empty, or it ends at the level and is part of the whole one
 abbrev pub IsBefore : List Entry → ℕ → List StateLit → List StateLit → Type 0

@@ -158,7 +158,8 @@ impl<S: PartSat> FrameSolver<S> {
         requires sound { IsSound circuit.now self.old frames.old }
         requires below { level < frames.old.top }
         requires inductive { IsInductiveFrom circuit.now frames.old.entries level clause.now }
-        ensures frames { frames.new ≡ frames.old }
+        ensures entries { frames.new.entries ≡ frames.old.entries }
+        ensures top { frames.new.top ≡ frames.old.top }
         ensures spends { Spends budget.old budget.new }
         ensures sound { OnOk result (IsSound circuit.now self.new frames.new) }
         ensures no_less { IfOk result (λ k. level ≤ k) }

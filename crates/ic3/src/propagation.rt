@@ -1,11 +1,11 @@
 //! Clauses that are propagated to the next frame.
 
-ghost use Rattle.std.specs.Prelude.{◌≡◌, ◌<◌, ◌≤◌, length, None, IfOk, IfSome, OnOk};
+ghost use Rattle.std.specs.Prelude.{◌≡◌, ◌⊎◌, ◌<◌, ◌≤◌, length, take, None, All, Contains, IfOk, IfSome, OnOk};
 ghost use Rattle.base.specs.Budget.{Spends};
 ghost use Rattle.cnf.specs.Formulas.{bad_literal};
 ghost use Rattle.engine.specs.Findings.{IsInvariant};
 ghost use Rattle.ic3_frames.specs.Frames.{AreFrames};
-ghost use Rattle.ic3.specs.Answers.{AreApart};
+ghost use Rattle.ic3.specs.Answers.{AreApart, CannotPropagate};
 ghost use Rattle.ic3.specs.Sound.{IsSound};
 
 use crate::frame_solver::FrameSolver;
@@ -33,7 +33,8 @@ pub(crate) fn repeated(circuit: &Model, frames: &Frames) -> Result<Option<Seq<Se
 
 impl<S: PartSat> FrameSolver<S> {
     /// Propagates the clause at a place to the next frame, if it ends at the level and holds after
-    /// each step from there; those that it subsumes there are dropped. It answers the place of the clause that comes next.
+    /// each step from there; those that it subsumes there are dropped. It answers the place of the clause that comes next: what is
+    /// in front of that was in front of the clause, or cannot be propagated.
     fn propagate_clause(
         &mut self,
         circuit: &Model,
@@ -48,6 +49,7 @@ impl<S: PartSat> FrameSolver<S> {
         ensures top { frames.new.top ≡ frames.old.top }
         ensures spends { Spends budget.old budget.new }
         ensures sound { OnOk result (IsSound circuit.now self.new frames.new) }
+        ensures passed { IfOk result (λ next. All (λ e. Contains (take place frames.old.entries) e ⊎ CannotPropagate circuit.now level budget.new e) (take next frames.new.entries)) }
     {
         let alloc = frames.allocator();
         let entry = &frames.entries()[place];
@@ -80,7 +82,8 @@ impl<S: PartSat> FrameSolver<S> {
     }
 
     /// Propagates the clauses that end at the level to the next frame, each that holds after each
-    /// step from there. Each clause of the frames costs a step of the budget.
+    /// step from there. Each clause of the frames costs a step of the budget. Those that still end at the level then cannot be
+    /// propagated, or the budget is exhausted.
     fn propagate_level(
         &mut self,
         circuit: &Model,
@@ -93,6 +96,7 @@ impl<S: PartSat> FrameSolver<S> {
         ensures top { frames.new.top ≡ frames.old.top }
         ensures spends { Spends budget.old budget.new }
         ensures sound { OnOk result (IsSound circuit.now self.new frames.new) }
+        ensures propagated { OnOk result (All (CannotPropagate circuit.now level budget.new) frames.new.entries) }
     {
         let mut place = 0;
         'propagating: while place < frames.entries().len() {

@@ -12,7 +12,7 @@ use Rattle.ic3_step.specs.declared.state.StateLit.{StateLit}
 use Rattle.ic3_step.specs.States.{latch_at, IsSet, Holds}
 use Rattle.ic3_step.proofs.Latched.{no_latch}
 use Rattle.ic3_frames.specs.declared.frames.Entry.{Entry}
-use Rattle.ic3_frames.specs.Frames.{IsStateClause, InFrame, HoldsInitially, AreFrames}
+use Rattle.ic3_frames.specs.Frames.{IsStateClause, InFrame, HoldsInitially, IsFalseAfter, AreFrames}
 use Rattle.ic3_frames.specs.Resets.{IsInitialState}
 use Rattle.ic3_frames.specs.Clauses.{IsResetLit, IsResetEntry, reset_entry}
 use Rattle.ic3_frames.proofs.Laws.{levels}
@@ -93,10 +93,11 @@ first_initial m es each s in_frame i d i_in =
 pub level_zero : (m : Parts) (es : List Entry) → All (IsResetEntry m.latches) es → All (λ e. e.level ≡ 0) es
 level_zero m es all k d k_in = ap (λ (e : Entry). e.level) ((all k d k_in).2)
 
-pub first_laws : (m : Parts) (bad : Lit) (es : List Entry) → All (IsResetEntry m.latches) es → AreFrames m bad (levels es 0)
-first_laws m bad es all = record {
+pub first_laws : (m : Parts) (bad : Lit) (es : List Entry) (failed : List (List StateLit)) → failed ≡ [] → All (IsResetEntry m.latches) es → AreFrames m bad (levels es 0 failed)
+first_laws m bad es failed none all = record {
   clauses = λ k d k_in. let one = all k d k_in in subst (λ (e : Entry). IsStateClause m e.clause) (sym one.2) (single m one.0 one.1);
   initial = λ k d k_in. let one = all k d k_in in subst (λ (e : Entry). HoldsInitially m e.clause) (sym one.2) (single_holds m one.0 one.1);
   reached = λ k d k_in j is. absurd (let zero = level_zero m es all k d k_in in omega (arith, zero, is));
   excluded = λ k k_in. absurd (omega arith);
+  failed = subst (All (IsFalseAfter m)) (sym none) (All-nil (IsFalseAfter m));
 }

@@ -10,7 +10,7 @@ use Rattle.graph.specs.Circuits.{state_of}
 use Rattle.ic3_step.specs.declared.state.StateLit.{StateLit}
 use Rattle.ic3_step.specs.States.{Holds, IsPartOf}
 use Rattle.ic3_frames.specs.declared.frames.Entry.{Entry}
-use Rattle.ic3_frames.specs.Frames.{IsStateClause, InFrame, HoldsInitially, HoldsAfter, HoldsOnward, Excludes, AreFrames, AreWithin, Levels, IsSubsumed, IsNotSubsumed, IsExcepted, IsAdded}
+use Rattle.ic3_frames.specs.Frames.{IsStateClause, InFrame, HoldsInitially, HoldsAfter, HoldsOnward, Excludes, IsFalseAfter, AreFrames, AreWithin, Levels, IsSubsumed, IsNotSubsumed, IsExcepted, IsAdded}
 use Rattle.ic3_frames.proofs.Sifting.{one_place}
 
 pub same_or_not : (a b : ℕ) → (a ≡ b) ⊎ (a ≢ b)
@@ -19,8 +19,8 @@ same_or_not a b = elim (cases_lt a b) [
   | inr above ↦ elim (cases_lt b a) [ inl over ↦ inr (λ e. omega arith) | inr below ↦ inl (omega arith) ]
 ]
 
-abbrev pub levels : List Entry → ℕ → Levels
-levels es top = record { entries = es; top = top }
+abbrev pub levels : List Entry → ℕ → List (List StateLit) → Levels
+levels es top failed = record { entries = es; top = top; failed = failed }
 
 -- smaller frames keep the laws of the clauses that are in both, and exclude what was excluded
 after_within : (m : Parts) (es fs : List Entry) (k : ℕ) (c : List StateLit) → AreWithin es fs → HoldsAfter m fs k c → HoldsAfter m es k c
@@ -53,9 +53,9 @@ All-added P es fs e added all p k d k_in = elim (added.only (get_or fs k d) (Con
 ]
 
 -- a clause that is onward from frame k joins frame k + 1 and those before it
-pub added : (m : Parts) (bad : Lit) (es fs : List Entry) (top k : ℕ) (e : Entry) → IsAdded es fs e → AreFrames m bad (levels es top) → e.level ≡ k + 1 → IsStateClause m e.clause →
-    HoldsInitially m e.clause → HoldsOnward m es k e.clause → AreFrames m bad (levels fs top)
-added m bad es fs top k e is_added frames is clause first onward =
+pub added : (m : Parts) (bad : Lit) (es fs : List Entry) (top : ℕ) (failed : List (List StateLit)) (k : ℕ) (e : Entry) → IsAdded es fs e → AreFrames m bad (levels es top failed) → e.level ≡ k + 1 → IsStateClause m e.clause →
+    HoldsInitially m e.clause → HoldsOnward m es k e.clause → AreFrames m bad (levels fs top failed)
+added m bad es fs top failed k e is_added frames is clause first onward =
     let within : AreWithin fs es = within_added es fs e is_added in
     record {
       clauses = All-added (λ (x : Entry). IsStateClause m x.clause) es fs e is_added frames.clauses clause;
@@ -68,17 +68,34 @@ added m bad es fs top k e is_added frames is clause first onward =
           let below : k ≤ e.level = omega (arith, is) in
           onward w is_time (within k (state_of m w) here) (All-contains (λ (x : Entry). k ≤ x.level → Holds (state_of m w) x.clause) fs e here is_added.newest below));
       excluded = λ j j_in. excludes_within m bad fs es j within (frames.excluded j j_in);
+      failed = frames.failed;
     }
 
 -- the last frame excludes the bad literal, so that the next is opened
-opened : (m : Parts) (bad : Lit) (es : List Entry) (top : ℕ) → AreFrames m bad (levels es top) → Excludes m bad es top → AreFrames m bad (levels es (top + 1))
-opened m bad es top frames out = record {
+opened : (m : Parts) (bad : Lit) (es : List Entry) (top : ℕ) (failed fewer : List (List StateLit)) → All (Contains failed) fewer → AreFrames m bad (levels es top failed) → Excludes m bad es top →
+    AreFrames m bad (levels es (top + 1) fewer)
+opened m bad es top failed fewer within frames out = record {
   clauses = frames.clauses;
   initial = frames.initial;
   reached = frames.reached;
   excluded = λ k k_in. elim (cases_lt k top) [
     | inl below ↦ frames.excluded k below
     | inr above ↦ let same : k ≡ top = omega arith in subst (Excludes m bad es) (sym same) out
+  ];
+  failed = λ k c k_in. All-contains (IsFalseAfter m) failed (get_or fewer k c) frames.failed (within k c k_in);
+}
+
+-- a clause that is false after a step could not be pushed
+noted : (m : Parts) (bad : Lit) (es : List Entry) (top : ℕ) (failed more : List (List StateLit)) (c : List StateLit) → All (λ x. Contains failed x ⊎ (x ≡ c)) more → AreFrames m bad (levels es top failed) →
+    IsFalseAfter m c → AreFrames m bad (levels es top more)
+noted m bad es top failed more c within frames after = record {
+  clauses = frames.clauses;
+  initial = frames.initial;
+  reached = frames.reached;
+  excluded = frames.excluded;
+  failed = λ k d k_in. elim (within k d k_in) [
+    | inl before ↦ All-contains (IsFalseAfter m) failed (get_or more k d) frames.failed before
+    | inr new ↦ subst (IsFalseAfter m) (sym new) after
   ];
 }
 
@@ -124,22 +141,26 @@ raised_added es fs i p e c level i_in same above clause_is level_is only each le
     raised_among es fs i p e i_in same above only (subst (Each e.clause) level_is (subst (λ cl. Each cl level) clause_is each)) (subst (Lean e.clause) level_is (subst (λ cl. Lean cl level) clause_is lean)) p_in at
 
 -- the same, of frames before and after
-same_frames : (m : Parts) (bad : Lit) (es : List Entry) (top : ℕ) (g : Levels) → g.entries ≡ es → g.top ≡ top → AreFrames m bad (levels es top) → AreFrames m bad g
-same_frames m bad es top g are is h = subst (λ n. AreFrames m bad (levels g.entries n)) (sym is) (subst (λ xs. AreFrames m bad (levels xs top)) (sym are) h)
+same_frames : (m : Parts) (bad : Lit) (es : List Entry) (top : ℕ) (failed : List (List StateLit)) (g : Levels) → g.entries ≡ es → g.top ≡ top → g.failed ≡ failed → AreFrames m bad (levels es top failed) → AreFrames m bad g
+same_frames m bad es top failed g are is same h =
+    subst (λ cs. AreFrames m bad (levels g.entries g.top cs)) (sym same) (subst (λ n. AreFrames m bad (levels g.entries n failed)) (sym is) (subst (λ xs. AreFrames m bad (levels xs top failed)) (sym are) h))
 
-pub added_to : (m : Parts) (bad : Lit) (f g : Levels) (k : ℕ) (e : Entry) → IsAdded f.entries g.entries e → g.top ≡ f.top → AreFrames m bad f → e.level ≡ k + 1 →
+pub added_to : (m : Parts) (bad : Lit) (f g : Levels) (k : ℕ) (e : Entry) → IsAdded f.entries g.entries e → g.top ≡ f.top → g.failed ≡ f.failed → AreFrames m bad f → e.level ≡ k + 1 →
     IsStateClause m e.clause → HoldsInitially m e.clause → HoldsOnward m f.entries k e.clause → AreFrames m bad g
-added_to m bad f g k e is_added top frames is clause first onward =
-    same_frames m bad g.entries f.top g refl top (added m bad f.entries g.entries f.top k e is_added frames is clause first onward)
+added_to m bad f g k e is_added top same frames is clause first onward =
+    same_frames m bad g.entries f.top f.failed g refl top same (added m bad f.entries g.entries f.top f.failed k e is_added frames is clause first onward)
 
-pub opened_to : (m : Parts) (bad : Lit) (f g : Levels) → g.entries ≡ f.entries → g.top ≡ f.top + 1 → AreFrames m bad f → Excludes m bad f.entries f.top → AreFrames m bad g
-opened_to m bad f g are top frames out = same_frames m bad f.entries (f.top + 1) g are top (opened m bad f.entries f.top frames out)
+pub opened_to : (m : Parts) (bad : Lit) (f g : Levels) → g.entries ≡ f.entries → g.top ≡ f.top + 1 → All (Contains f.failed) g.failed → AreFrames m bad f → Excludes m bad f.entries f.top → AreFrames m bad g
+opened_to m bad f g are top within frames out = same_frames m bad f.entries (f.top + 1) g.failed g are top refl (opened m bad f.entries f.top f.failed g.failed within frames out)
+
+pub noted_to : (m : Parts) (bad : Lit) (f g : Levels) (c : List StateLit) → g.entries ≡ f.entries → g.top ≡ f.top → All (λ x. Contains f.failed x ⊎ (x ≡ c)) g.failed → AreFrames m bad f → IsFalseAfter m c → AreFrames m bad g
+noted_to m bad f g c are top within frames after = same_frames m bad f.entries f.top g.failed g are top refl (noted m bad f.entries f.top f.failed g.failed c within frames after)
 
 -- a clause that still holds after the frame at its level joins the next frame
-pub raised_to : (m : Parts) (bad : Lit) (f g : Levels) (k i : ℕ) (d : Entry) → i < length f.entries → IsAdded f.entries g.entries (next_level f.entries i d) → g.top ≡ f.top →
+pub raised_to : (m : Parts) (bad : Lit) (f g : Levels) (k i : ℕ) (d : Entry) → i < length f.entries → IsAdded f.entries g.entries (next_level f.entries i d) → g.top ≡ f.top → g.failed ≡ f.failed →
     AreFrames m bad f → (get_or f.entries i d).level ≡ k → HoldsAfter m f.entries k (get_or f.entries i d).clause → AreFrames m bad g
-raised_to m bad f g k i d i_in is_added top frames at after =
-    added_to m bad f g k (next_level f.entries i d) is_added top frames (ap (λ n. n + 1) at) (frames.clauses i d i_in) (frames.initial i d i_in) (λ w is_time in_frame _. after w is_time in_frame)
+raised_to m bad f g k i d i_in is_added top same frames at after =
+    added_to m bad f g k (next_level f.entries i d) is_added top same frames (ap (λ n. n + 1) at) (frames.clauses i d i_in) (frames.initial i d i_in) (λ w is_time in_frame _. after w is_time in_frame)
 
 -- a frame contains the frames before
 frame_after : (es : List Entry) (j k : ℕ) (s : List Bool) → j ≤ k → InFrame es j s → InFrame es k s

@@ -6,3 +6,4 @@ pub mod Translated
 pub mod Fixed
 pub mod Marking
 pub mod Signed
+pub mod Failing

@@ -5,7 +5,7 @@ use Rattle.graph.specs.declared.circuit.Lit.{Lit}
 use Rattle.graph.specs.declared.parts.Parts.{Parts}
 use Rattle.graph.specs.Circuits.{Valuation, value_of, state_of, IsInitial, next_state}
 use Rattle.ic3_step.specs.declared.state.StateLit.{StateLit}
-use Rattle.ic3_step.specs.States.{Holds, IsTime, IsPartOf}
+use Rattle.ic3_step.specs.States.{Denies, Holds, IsTime, IsPartOf}
 use Rattle.ic3_frames.specs.declared.frames.Entry.{Entry}
 
 -- the clause's latches are in rising order
@@ -41,18 +41,24 @@ HoldsOnward m entries k c = HoldsToward m entries k c c
 abbrev pub Excludes : Parts → Lit → List Entry → ℕ → Type 0
 Excludes m bad entries k = (w : Valuation) → IsTime m w → InFrame entries k (state_of m w) → value_of w bad ≡ false
 
--- the clauses of frames 0 to top, of which the last is open
+-- a step leads from a time that keeps the constraints to a state in which the clause is false
+abbrev pub IsFalseAfter : Parts → List StateLit → Type 0
+IsFalseAfter m c = (w : Valuation) × IsTime m w × Denies (next_state m w) c
+
+-- the clauses of frames 0 to top, of which the last is open, and clauses that could not be pushed
 pub record Levels : Type 0 where
   pub entries : List Entry
   pub top : ℕ
+  pub failed : List (List StateLit)
 
 -- each clause is over the latches, holds at first, and after each step from the frame below its level; all frames but the
--- last exclude the bad literal
+-- last exclude the bad literal; a step leads to where a clause that could not be pushed is false
 pub record AreFrames (m : Parts) (bad : Lit) (f : Levels) : Type 0 where
   pub clauses : All (λ e. IsStateClause m e.clause) f.entries
   pub initial : All (λ e. HoldsInitially m e.clause) f.entries
   pub reached : All (λ e. (k : ℕ) → e.level ≡ k + 1 → HoldsAfter m f.entries k e.clause) f.entries
   pub excluded : (k : ℕ) → k < f.top → Excludes m bad f.entries k
+  pub failed : All (IsFalseAfter m) f.failed
 
 -- each state of the first frames is one of the second
 abbrev pub AreWithin : List Entry → List Entry → Type 0

@@ -3,6 +3,9 @@
 //!
 //! As long as such a state lies in the frame, the push fails again, so it need not be tried.
 
+ghost use Rattle.std.specs.Prelude.{◌≡◌, ◌⊎◌, [], All, Contains, IsTrue};
+ghost use Rattle.ic3_frames.specs.Failures.{clauses_of};
+
 use crate::frames::Entry;
 use base::{Refused, push};
 use graph::Seq;
@@ -15,6 +18,15 @@ struct FailedPush {
     clause: Seq<StateLit>,
     level: u32,
     state: Seq<bool>,
+}
+
+impl FailedPush {
+    /// Whether it is of this clause.
+    fn is_of(&self, clause: &[StateLit]) -> bool
+        ensures { IsTrue result → self.now.clause ≡ clause.now }
+    {
+        self.clause.as_slice() == clause
+    }
 }
 
 /// The last failed push of each clause. They only save queries.
@@ -42,7 +54,9 @@ fn is_excluded(entries: &[Entry], level: u32, state: &[bool]) -> bool {
 
 impl FailedPushes {
     /// No push has failed.
-    pub(crate) fn new(alloc: Global) -> FailedPushes {
+    pub(crate) fn new(alloc: Global) -> FailedPushes
+        ensures { result.items.items ≡ [] }
+    {
         FailedPushes {
             items: Vec::new(alloc),
         }
@@ -50,30 +64,33 @@ impl FailedPushes {
 
     /// The place of the clause's failed push.
     fn find(&self, clause: &[StateLit]) -> Option<usize> {
-        self.items
-            .iter()
-            .position(|failed| failed.clause.as_slice() == clause)
+        self.items.iter().position(|failed| failed.is_of(clause))
     }
 
     /// Whether the clause could not be pushed from this level, by a state that still lies in the frame. It costs the clauses
     /// of the frames and the failed pushes.
-    pub(crate) fn fails_again(&self, entries: &[Entry], level: u32, clause: &[StateLit]) -> bool {
-        let Some(place) = self.find(clause) else {
-            return false;
-        };
-        let Some(failed) = self.items.get(place) else {
-            return false;
-        };
-        failed.level == level && !is_excluded(entries, level, failed.state.as_slice())
+    pub(crate) fn fails_again(&self, entries: &[Entry], level: u32, clause: &[StateLit]) -> bool
+        ensures { IsTrue result → Contains (clauses_of self.now.items.items) clause.now }
+    {
+        'looking: for failed in self.items.as_slice() {
+            if failed.is_of(clause) {
+                return failed.level == level
+                    && !is_excluded(entries, level, failed.state.as_slice());
+            }
+        }
+        false
     }
 
     /// The clause could not be pushed from this level, by this state. Its earlier failed push is forgotten.
+    #[tactic(auto, using(crate::proofs::Failing::clauses_set, crate::proofs::Failing::clauses_push, crate::proofs::Failing::clauses_same))]
     pub(crate) fn add(
         &mut self,
         level: u32,
         clause: Seq<StateLit>,
         state: Seq<bool>,
-    ) -> Result<(), Refused> {
+    ) -> Result<(), Refused>
+        ensures { All (λ c. Contains (clauses_of self.old.items.items) c ⊎ (c ≡ clause)) (clauses_of self.new.items.items) }
+    {
         let place = self.find(clause.as_slice());
         let failed = FailedPush {
             clause,
@@ -88,7 +105,10 @@ impl FailedPushes {
     }
 
     /// Forgets all of them where they are many more than the clauses of the frames.
-    pub(crate) fn trim(&mut self, entries: &[Entry]) {
+    #[tactic(auto, using(crate::proofs::Failing::clauses_none))]
+    pub(crate) fn trim(&mut self, entries: &[Entry])
+        ensures { All (Contains (clauses_of self.old.items.items)) (clauses_of self.new.items.items) }
+    {
         if self.items.len() / 2 > entries.len() {
             self.items.clear();
         }

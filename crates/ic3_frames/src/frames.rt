@@ -1,13 +1,13 @@
 //! Frames, kept as clauses with levels.
 
-ghost use Rattle.std.specs.Prelude.{◌≡◌, ◌≢◌, ◌+◌, ◌<◌, ◌≤◌, ◌⊎◌, ℕ, Bool, true, false, List, None, length, slice_index_or, All, Contains, OnOk, OnErr, IfOk, IfSome};
+ghost use Rattle.std.specs.Prelude.{◌≡◌, ◌≢◌, ◌+◌, ◌<◌, ◌≤◌, ◌⊎◌, ℕ, Bool, true, false, List, None, length, slice_index_or, take, All, Contains, IsTrue, OnOk, OnErr, IfOk, IfSome};
 ghost use Rattle.graph.specs.declared.circuit.Lit.{Lit};
 ghost use Rattle.graph.specs.declared.parts.Parts.{Parts};
 ghost use Rattle.cnf.specs.Formulas.{bad_literal};
 ghost use Rattle.engine.specs.Findings.{IsInvariant};
 ghost use Rattle.ic3_step.specs.States.{Holds, IsPartOf};
 ghost use Rattle.ic3_frames.specs.declared.frames.Entry.{Entry};
-ghost use Rattle.ic3_frames.specs.Frames.{InFrame, AreFrames, AreWithin, Excludes, IsRising, IsStateClause, HoldsInitially, HoldsAfter, HoldsOnward, IsNotSubsumed};
+ghost use Rattle.ic3_frames.specs.Frames.{InFrame, AreFrames, AreWithin, Excludes, IsRising, IsStateClause, HoldsInitially, HoldsAfter, HoldsOnward, IsFalseAfter, IsNotSubsumed};
 ghost use Rattle.ic3_frames.specs.Resets.{IsInitialState};
 
 use crate::activities::Activities;
@@ -45,10 +45,11 @@ pub struct Frames {
 impl std::marker::Model for Frames {
     ghost use Rattle.ic3_frames.specs.Frames.{Levels};
     ghost use Rattle.ic3_frames.specs.Signatures.{AreSignatures};
+    ghost use Rattle.ic3_frames.specs.Failures.{clauses_of};
 
     ghost Value = { Levels };
 
-    ghost view = { λ f. record { entries = f.entries.items; top = f.top } };
+    ghost view = { λ f. record { entries = f.entries.items; top = f.top; failed = clauses_of f.failed_pushes.items.items } };
 
     ghost invariant = { λ f. AreSignatures f.entries.items f.signatures.items };
 }
@@ -67,13 +68,14 @@ impl Frames {
         let signatures = signatures_of(alloc, entries.as_slice())?;
         let activities = Activities::new(alloc, circuit.latches())?;
         let uses = Uses::new(alloc, circuit.latches(), entries.as_slice())?;
+        let failed_pushes = FailedPushes::new(alloc);
         Ok(Frames {
             entries,
             signatures,
             top: 0,
             activities,
             uses,
-            failed_pushes: FailedPushes::new(alloc),
+            failed_pushes,
         })
     }
 
@@ -109,8 +111,10 @@ impl Frames {
     }
 
     /// Whether the clause could not be pushed from the frame at this level, by a state that still lies in the frame, so that it
-    /// cannot be pushed now. It costs the clauses of the frames and the failed pushes. Nothing else rests on it.
-    pub fn push_fails_again(&self, level: u32, clause: &[StateLit]) -> bool {
+    /// cannot be pushed now. It costs the clauses of the frames and the failed pushes.
+    pub fn push_fails_again(&self, level: u32, clause: &[StateLit]) -> bool
+        ensures { IsTrue result → Contains self.now.failed clause.now }
+    {
         let entries = self.entries.as_slice();
         self.failed_pushes.fails_again(entries, level, clause)
     }
@@ -123,7 +127,10 @@ impl Frames {
         clause: Seq<StateLit>,
         state: Seq<bool>,
     ) -> Result<(), Refused>
-        ensures { self.new ≡ self.old }
+        ensures entries { self.new.entries ≡ self.old.entries }
+        ensures top { self.new.top ≡ self.old.top }
+        ensures failed { All (λ c. Contains self.old.failed c ⊎ (c ≡ clause)) self.new.failed }
+        ensures laws { (m : Parts) (bad : Lit) → AreFrames m bad self.old → IsFalseAfter m clause → AreFrames m bad self.new }
     {
         self.failed_pushes.add(level, clause, state)
     }
@@ -165,6 +172,7 @@ impl Frames {
     /// this one's. A refusal changes nothing.
     pub fn add(&mut self, clause: Seq<StateLit>, level: u32) -> Result<(), Refused>
         ensures top { self.new.top ≡ self.old.top }
+        ensures failed { self.new.failed ≡ self.old.failed }
         ensures newest { OnOk result (Contains self.new.entries (record { clause = clause; level = level })) }
         ensures only { OnOk result ((e : Entry) → Contains self.new.entries e → Contains self.old.entries e ⊎ (e ≡ record { clause = clause; level = level })) }
         ensures lean { OnOk result (All (λ e. IsNotSubsumed clause level e ⊎ (e ≡ record { clause = clause; level = level })) self.new.entries) }
@@ -184,14 +192,16 @@ impl Frames {
     }
 
     /// Propagates the clause at a place to the next frame, drops the other clauses that it subsumes there, and answers where it is
-    /// then, no further back. Nothing is promised of the order of the others. It takes a look at the signature of each clause, and
+    /// then, no further back. What is in front of it then was in front of it before. It takes a look at the signature of each clause, and
     /// a search only in a clause of such a level whose signature has all bits of this one's. A refusal changes nothing.
     pub fn propagate(&mut self, alloc: Global, place: usize) -> Result<usize, Refused>
         requires place { place < length self.old.entries }
         requires level { All (λ e. e.level < 4294967295) self.old.entries }
         ensures top { self.new.top ≡ self.old.top }
+        ensures failed { self.new.failed ≡ self.old.failed }
         ensures place { (d : Entry) → IfOk result (λ p. (p < length self.new.entries) × (slice_index_or self.new.entries p d ≡ record { clause = (slice_index_or self.old.entries place d).clause; level = (slice_index_or self.old.entries place d).level + 1 })) }
         ensures front { IfOk result (λ p. p ≤ place) }
+        ensures order { IfOk result (λ p. All (Contains (take place self.old.entries)) (take p self.new.entries)) }
         ensures only { (d : Entry) → OnOk result ((e : Entry) → Contains self.new.entries e → Contains self.old.entries e ⊎ (e ≡ record { clause = (slice_index_or self.old.entries place d).clause; level = (slice_index_or self.old.entries place d).level + 1 })) }
         ensures lean { (d : Entry) → OnOk result (All (λ e. IsNotSubsumed (slice_index_or self.old.entries place d).clause ((slice_index_or self.old.entries place d).level + 1) e ⊎
             (e ≡ record { clause = (slice_index_or self.old.entries place d).clause; level = (slice_index_or self.old.entries place d).level + 1 })) self.new.entries) }
@@ -220,6 +230,7 @@ impl Frames {
         requires { self.old.top < 4294967295 }
         ensures entries { self.new.entries ≡ self.old.entries }
         ensures top { self.new.top ≡ self.old.top + 1 }
+        ensures failed { All (Contains self.old.failed) self.new.failed }
         ensures laws { (m : Parts) (bad : Lit) → AreFrames m bad self.old → Excludes m bad self.old.entries self.old.top → AreFrames m bad self.new }
     {
         self.top += 1;

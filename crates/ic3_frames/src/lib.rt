@@ -6,7 +6,8 @@
 //! and its clauses are an invariant.
 //!
 //! No solver is asked here: the contracts say what a solver has to have answered before. Which latches are active or often
-//! used and which pushes failed is kept beside the clauses: it steers a search, and no contract speaks of it.
+//! used is kept beside the clauses: it steers a search, and no contract speaks of it. The clauses that could not be pushed are
+//! kept too: a step leads to where each of them is false.
 #![tactic(auto)]
 
 mod activities;

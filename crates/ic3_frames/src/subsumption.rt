@@ -1,6 +1,6 @@
 //! A clause more, and those that it subsumes.
 
-ghost use Rattle.std.specs.Prelude.{◌≡◌, ◌⊎◌, ◌<◌, ◌≤◌, ℕ, Some, length, slice_index_or, IsTrue, All, Contains, OnOk, OnErr};
+ghost use Rattle.std.specs.Prelude.{◌≡◌, ◌⊎◌, ◌<◌, ◌≤◌, ℕ, Some, length, slice_index_or, take, IsTrue, All, Contains, OnOk, OnErr};
 ghost use Rattle.std.specs.Vec.{vec_len, vec_capacity};
 ghost use Rattle.std.specs.List.{SwappedAt};
 ghost use Rattle.ic3_step.specs.States.{IsPartOf};
@@ -72,7 +72,8 @@ fn keep(entries: &mut Vec<Entry>, signatures: &mut Vec<u64>, kept: usize, i: usi
     }
 }
 
-/// Leaves the entries that the clause does not subsume, and the one at the place that is excepted, and counts the others out. It answers where the excepted one is then, no further back.
+/// Leaves the entries that the clause does not subsume, and the one at the place that is excepted, and counts the others out. It answers where the excepted one is
+/// then, no further back. What is in front of that then was in front of it before.
 pub(crate) fn remove_subsumed(
     entries: &mut Vec<Entry>,
     signatures: &mut Vec<u64>,
@@ -91,6 +92,7 @@ pub(crate) fn remove_subsumed(
     ensures place { (p : ℕ) (d : Kept) → except ≡ Some p → p < length entries.old.items →
         (result < length entries.new.items) × (slice_index_or entries.new.items result d ≡ slice_index_or entries.old.items p d) }
     ensures front { (p : ℕ) → except ≡ Some p → p < length entries.old.items → result ≤ p }
+    ensures before { (p : ℕ) → except ≡ Some p → p < length entries.old.items → All (Contains (take p entries.old.items)) (take result entries.new.items) }
     ensures len { vec_len entries.new ≤ vec_len entries.old }
     ensures capacity { vec_capacity entries.new ≡ vec_capacity entries.old }
     ensures signatures_len { vec_len signatures.new ≤ vec_len signatures.old }

@@ -5,7 +5,7 @@ use Rattle.ic3_frames.specs.declared.frames.Entry.{Entry}
 use Rattle.ic3_frames.specs.Frames.{IsSubsumed, IsNotSubsumed, IsExcepted}
 use Rattle.ic3_frames.specs.Signatures.{IsSignature}
 use Rattle.ic3_frames.proofs.Signed.{signed_swapped, signed_take}
-use Rattle.ic3_frames.proofs.Sifting.{IsStill, sifted_kept, sifted_gone, sifted_only, sifted_lean, sifted_each, at_place, not_at, still_gone, still_kept, still_here, still_taken}
+use Rattle.ic3_frames.proofs.Sifting.{IsStill, sifted_kept, sifted_gone, sifted_only, sifted_lean, sifted_each, at_place, not_at, still_gone, still_kept, still_before, still_here, still_taken}
 use Rattle.ic3_frames.proofs.subsumption.remove_subsumed.Goals as goal
 use Rattle.ic3_frames.proofs.subsumption.remove_subsumed.Goals.{then-not-stays+then-is_subsumed, else-not-stays, else-not-stays-via-then-not-stays+else-is_subsumed, else-not-stays-via-else-not-stays, then-stays, else-stays}
 
@@ -54,7 +54,7 @@ sifting-preserved c =
           let still : IsStill old next except c.if-not-stays.place (kept + 1) (i + 1) = elim w.if-stays.branch [
             | then-stays v ↦
                 let is : except ≡ Some i = at_place except i (sym c.eq-stays.ensures ∙ v.if-stays.true) in
-                rw (w.place-is, v.place-is) (still_here old now next except kept i is behind (λ e. h.rest i e (omega arith)) w.keep.ensures.entries)
+                rw (w.place-is, v.place-is) (still_here old now next except kept i is behind (λ e. h.rest i e (omega arith)) h.only w.keep.ensures.entries)
             | else-stays v ↦
                 let other : except ≡ Some i → ⊥ = not_at except i (sym c.eq-stays.ensures ∙ v.if-stays.false) in
                 rw (w.place-is, v.place-is) (still_kept old now next except c.sifting.place kept i other behind w.keep.ensures.entries c.sifting.invariant.still)
@@ -99,6 +99,10 @@ pub returns-clause-front : goal.returns-clause-front
 returns-clause-front c = λ p is p_in.
     let d : Entry = record { clause = c.args.clause.now; level = 0 } in
     (c.sifting.invariant.still p d is (omega arith)).2
+
+pub returns-clause-before : goal.returns-clause-before
+returns-clause-before c = λ p is p_in.
+    rw c.truncate.ensures.items (still_before c.args.entries.now.items c.sifting.entries.items c.args.except c.sifting.place c.sifting.kept c.sifting.i (omega arith) c.sifting.invariant.still p is p_in)
 
 pub returns-clause-signatures : goal.returns-clause-signatures
 returns-clause-signatures c =

@@ -6,7 +6,8 @@ use Rattle.ic3.proofs.frame_solver.FrameSolver.furthest.Given as goal
 
 abbrev pub invariant-pushing : goal.invariant-pushing
 invariant-pushing g l = record {
-  frames : l.frames ≡ l.initial.frames;
+  entries : l.frames.entries ≡ l.initial.frames.entries;
+  top : l.frames.top ≡ l.initial.frames.top;
   spends : Spends l.initial.budget l.budget;
   sound : IsSound l.circuit l.self l.frames;
   no_less : l.level ≤ l.last;

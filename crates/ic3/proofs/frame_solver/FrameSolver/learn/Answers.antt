@@ -1,7 +1,7 @@
-use Rattle.std.proofs.Common.{rules, ◌≤◌, ◌+◌, Bool, arith, List, Contains, subst}
+use Rattle.std.proofs.Common.{rules, ◌≤◌, ◌+◌, ℕ, Bool, arith, List, Contains, subst}
 use Rattle.ic3_step.specs.States.{Holds}
 use Rattle.ic3_step.specs.declared.state.StateLit.{StateLit}
-use Rattle.ic3_frames.specs.Frames.{InFrame, Levels}
+use Rattle.ic3_frames.specs.Frames.{InFrame}
 use Rattle.ic3.proofs.Joining.{frame_from, holds_part}
 use Rattle.ic3.specs.Answers.{IsFurthest, IsLearned}
 use Rattle.ic3.proofs.Outcomes.{on_ok}
@@ -37,6 +37,6 @@ returns-clause-learned g c =
       ends = c.in_ok-needed.ensures;
       shortened = shortened_later m before shorter c.generalize.new.budget after less c.in_ok-shorter.ensures.shortened;
       no_less = c.in_ok-last.ensures.no_less;
-      furthest = subst (λ (f : Levels). IsFurthest m f.top shorter after last) c.in_ok-last.ensures.frames
+      furthest = subst (λ (n : ℕ). IsFurthest m n shorter after last) c.in_ok-last.ensures.top
           (subst (λ (x : List StateLit). IsFurthest m c.furthest.new.frames.top x after last) c.as_slice-2.ensures c.in_ok-last.ensures.furthest);
     }) c.add_to_frames.ensures.joined

@@ -1,11 +1,15 @@
-use Rattle.std.proofs.Common.{◌≡◌, ◌+◌, ◌<◌, get_or, List, All, arith, sym, ap, subst, ◌∙◌}
+use Rattle.std.proofs.Common.{◌≡◌, ◌⊎◌, ◌+◌, ◌<◌, get_or, take, List, All, Contains, inl, inr, refl, arith, sym, ap, subst, ◌∙◌}
+use Rattle.std.proofs.lemmas.List.Elements.{All-contains}
 use Rattle.cnf.specs.Formulas.{bad_literal}
 use Rattle.ic3_frames.specs.declared.frames.Entry.{Entry}
-use Rattle.ic3_frames.specs.Frames.{IsStateClause, HoldsAfter}
-use Rattle.ic3.specs.Answers.{IsAfter}
+use Rattle.ic3_frames.specs.Frames.{IsFalseAfter, IsStateClause, HoldsAfter}
+use Rattle.ic3_step.specs.declared.state.StateLit.{StateLit}
+use Rattle.ic3.specs.Answers.{CannotPropagate, IsAfter}
 use Rattle.ic3.specs.Sound.{HasFrames, IsSound}
 use Rattle.ic3.proofs.Guarding.{item_has, has_within}
-use Rattle.ic3.proofs.Joining.{all_more, entry_holds, raised_found}
+use Rattle.ic3.proofs.Joining.{all_more, entry_holds, noted_sound, raised_found}
+use Rattle.ic3.proofs.Passed.{passed_here, passed_one}
+use Rattle.ic3.proofs.Tried.{false_after}
 use Rattle.ic3.proofs.frame_solver.FrameSolver.propagate_clause.Goals as goal
 
 pub after-requires : goal.after-requires
@@ -75,3 +79,66 @@ returns-in-Held-clause-sound g c =
       top = omega (arith, top, same, c.propagate.ensures.top);
       below = all_more (λ (x : Entry). x.level < c.count_propagated.new.self.levels) es fs next (raised.only e) (subst (λ n. All (λ (x : Entry). x.level < n) es) same sound.below) above;
     }
+
+pub returns-then-entry-level-clause-passed : goal.returns-then-entry-level-clause-passed
+returns-then-entry-level-clause-passed g c =
+    let m = c.args.circuit.now in
+    let es = c.args.frames.now.entries in
+    let place = c.args.place in
+    let k = c.args.level in
+    let e = c.index-entries-place.result in
+    let item : e ≡ get_or es place e = c.index-entries-place.is ∙ ap (λ (xs : List Entry). get_or xs place e) c.entries.ensures in
+    passed_here (CannotPropagate m k c.args.budget.now) es place e c.requires.place (λ at. absurd (c.if-entry-level.true (ap (λ (x : Entry). x.level) item ∙ at)))
+
+pub returns-then-push_fails_again-clause-passed : goal.returns-then-push_fails_again-clause-passed
+returns-then-push_fails_again-clause-passed g c =
+    let m = c.args.circuit.now in
+    let es = c.args.frames.now.entries in
+    let place = c.args.place in
+    let k = c.args.level in
+    let e = c.index-entries-place.result in
+    let item : e ≡ get_or es place e = c.index-entries-place.is ∙ ap (λ (xs : List Entry). get_or xs place e) c.entries.ensures in
+    let clause_is : (get_or es place e).clause ≡ c.as_slice-clause.result.now = ap (λ (x : Entry). x.clause) (sym item) ∙ sym c.as_slice-clause.ensures in
+    let never : IsFalseAfter m c.as_slice-clause.result.now = All-contains (IsFalseAfter m) c.args.frames.now.failed c.as_slice-clause.result.now c.requires.sound.laws.failed (c.if-push_fails_again.ensures refl) in
+    passed_here (CannotPropagate m k c.args.budget.now) es place e c.requires.place (λ at. inl (subst (IsFalseAfter m) (sym clause_is) never))
+
+pub returns-in-Held-clause-passed : goal.returns-in-Held-clause-passed
+returns-in-Held-clause-passed g c =
+    let m = c.args.circuit.now in
+    let es = c.args.frames.now.entries in
+    let place = c.args.place in
+    let k = c.args.level in
+    let e = c.index-entries-place.result in
+    let item : e ≡ get_or es place e = c.index-entries-place.is ∙ ap (λ (xs : List Entry). get_or xs place e) c.entries.ensures in
+    let fs = c.propagate.new.self.entries in
+    let kept = c.in_ok-kept-in-Held.kept in
+    let raised = c.in_ok-kept-in-Held.ensures in
+    let next : Entry = record { clause = (get_or es place e).clause; level = (get_or es place e).level + 1 } in
+    let level_is : (get_or es place e).level ≡ k = ap (λ (x : Entry). x.level) (sym item) ∙ c.if-entry-level.false in
+    let above : (get_or fs kept e).level ≡ (get_or es place e).level + 1 = ap (λ (x : Entry). x.level) (raised.place e).1 in
+    passed_one (CannotPropagate m k c.after.new.budget) es fs place kept e (raised.place e).0 raised.order (λ at. absurd (omega (arith, at, above, level_is)))
+
+pub returns-in-Broken-clause-passed : goal.returns-in-Broken-clause-passed
+returns-in-Broken-clause-passed g c =
+    let m = c.args.circuit.now in
+    let es = c.args.frames.now.entries in
+    let place = c.args.place in
+    let k = c.args.level in
+    let e = c.index-entries-place.result in
+    let item : e ≡ get_or es place e = c.index-entries-place.is ∙ ap (λ (xs : List Entry). get_or xs place e) c.entries.ensures in
+    let clause_is : (get_or es place e).clause ≡ c.as_slice-clause.result.now = ap (λ (x : Entry). x.clause) (sym item) ∙ sym c.as_slice-clause.ensures in
+    let clause = c.as_slice-clause.result.now in
+    let law = subst (IsAfter m es k clause c.after.new.budget) c.in-Broken.is c.in_ok-after.ensures.lawful in
+    let never : IsFalseAfter m clause = false_after m clause c.in-Broken.time law in
+    subst (λ fs. All (λ x. Contains (take place es) x ⊎ CannotPropagate m k c.after.new.budget x) (take (place + 1) fs)) (sym c.add_failed_push.ensures.entries)
+    (passed_here (CannotPropagate m k c.after.new.budget) es place e c.requires.place (λ at. inl (subst (IsFalseAfter m) (sym clause_is) never)))
+
+pub returns-in-Broken-clause-sound : goal.returns-in-Broken-clause-sound
+returns-in-Broken-clause-sound g c =
+    let m = c.args.circuit.now in
+    let clause = c.as_slice-clause.result.now in
+    let law = subst (IsAfter m c.args.frames.now.entries c.args.level clause c.after.new.budget) c.in-Broken.is c.in_ok-after.ensures.lawful in
+    let never : IsFalseAfter m c.in_ok-pushed-in-Broken.pushed = subst (IsFalseAfter m) (sym c.in_ok-pushed-in-Broken.ensures) (false_after m clause c.in-Broken.time law) in
+    let sound = c.in_ok-after.ensures.sound in
+    let noted = c.add_failed_push.ensures in
+    noted_sound m c.after.new.self c.args.frames.now c.add_failed_push.new.self sound noted.entries noted.top (noted.laws m (bad_literal m 0) sound.laws never)

@@ -1,5 +1,6 @@
-use Rattle.std.proofs.Common.{◌≡◌}
+use Rattle.std.proofs.Common.{◌≡◌, All, take}
 use Rattle.base.specs.Budget.{Spends}
+use Rattle.ic3.specs.Answers.{CannotPropagate}
 use Rattle.ic3.specs.Sound.{IsSound}
 use Rattle.ic3.proofs.frame_solver.FrameSolver.propagate_level.Given as goal
 
@@ -8,6 +9,7 @@ invariant-propagating g l = record {
   spends : Spends l.initial.budget l.budget;
   top : l.frames.top ≡ l.initial.frames.top;
   sound : IsSound l.circuit l.self l.frames;
+  passed : All (CannotPropagate l.circuit l.level l.budget) (take l.place l.frames.entries);
 }
 
 abbrev pub decreases-propagating : goal.decreases-propagating

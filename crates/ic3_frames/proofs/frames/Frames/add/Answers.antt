@@ -22,7 +22,7 @@ returns-clause-within c =
 pub returns-clause-laws : goal.returns-clause-laws
 returns-clause-laws c = λ m bad k frames is clause first onward.
     let newest : Entry = record { clause = c.args.clause; level = c.args.level } in
-    on_ok_weaker c.insert.result (λ h. added_to m bad c.args.self.now _ k newest h (ap (λ f. f.top) c.self.view_is) frames is clause first onward)
+    on_ok_weaker c.insert.result (λ h. added_to m bad c.args.self.now _ k newest h (ap (λ f. f.top) c.self.view_is) (ap (λ f. f.failed) c.self.view_is) frames is clause first onward)
     (subst (λ es. OnOk c.insert.result (IsAdded es c.insert.new.entries.items newest)) (ap (λ f. f.entries) c.self.view_is) c.insert.ensures.added)
 
 pub returns-clause-lean : goal.returns-clause-lean

@@ -1,4 +1,5 @@
-use Rattle.std.proofs.Common.{All, Contains, subst}
+use Rattle.std.proofs.Common.{All, Contains, ap, subst}
+use Rattle.ic3_frames.specs.Failures.{clauses_of}
 use Rattle.ic3_step.specs.declared.state.StateLit.{StateLit}
 use Rattle.ic3_frames.specs.Clauses.{IsResetLit, IsResetEntry, reset_entry}
 use Rattle.ic3_frames.proofs.Begun.{level_zero, first_laws, first_initial}
@@ -10,7 +11,7 @@ returns-clause-level c =
 
 pub returns-clause-laws : goal.returns-clause-laws
 returns-clause-laws c = λ bad.
-    first_laws c.args.circuit.now bad c.in_ok-entries.entries.items (subst (λ ls. All (IsResetEntry ls) c.in_ok-entries.entries.items) c.latches.ensures c.in_ok-entries.ensures.only)
+    first_laws c.args.circuit.now bad c.in_ok-entries.entries.items (clauses_of c.new-failed_pushes.result.items.items) (ap clauses_of c.new-failed_pushes.ensures) (subst (λ ls. All (IsResetEntry ls) c.in_ok-entries.entries.items) c.latches.ensures c.in_ok-entries.ensures.only)
 
 pub returns-clause-initial : goal.returns-clause-initial
 returns-clause-initial c =

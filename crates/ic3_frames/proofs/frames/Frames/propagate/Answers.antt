@@ -1,5 +1,5 @@
-use Rattle.std.proofs.Common.{◌≡◌, ◌+◌, ◌<◌, arith, refl, List, length, get_or, ap, subst, sym, ◌∙◌}
-use Rattle.std.proofs.lemmas.List.{get_or_default, get_or-set_same, length-set}
+use Rattle.std.proofs.Common.{◌≡◌, ◌+◌, ◌<◌, arith, refl, List, length, get_or, take, All, Contains, ap, subst, sym, ◌∙◌}
+use Rattle.std.proofs.lemmas.List.{get_or_default, get_or-set_same, length-set, take-set}
 use Rattle.ic3_step.specs.declared.state.StateLit.{StateLit}
 use Rattle.ic3_frames.proofs.Laws.{next_level, raised_to, raised_added, within_added}
 use Rattle.ic3_frames.proofs.Signed.{signed_raised}
@@ -54,7 +54,7 @@ pub returns-clause-within : goal.returns-clause-within
 returns-clause-within c = within_added c.args.self.now.entries c.remove_subsumed.new.entries.items (next_level c.args.self.now.entries c.args.place c.index.result.now) (is_added c c.index.result.now)
 
 pub returns-clause-laws : goal.returns-clause-laws
-returns-clause-laws c = λ m bad k d frames at after. raised_to m bad c.args.self.now _ k c.args.place d c.requires.place (is_added c d) (ap (λ f. f.top) c.self.view_is) frames at after
+returns-clause-laws c = λ m bad k d frames at after. raised_to m bad c.args.self.now _ k c.args.place d c.requires.place (is_added c d) (ap (λ f. f.top) c.self.view_is) (ap (λ f. f.failed) c.self.view_is) frames at after
 
 pub returns-clause-only : goal.returns-clause-only
 returns-clause-only c = λ d. (is_added c d).only
@@ -70,6 +70,18 @@ returns-clause-front c =
     let x : Entry = c.index_mut.result.now in
     let e : Entry = record { clause = x.clause; level = x.level + 1 } in
     c.remove_subsumed.ensures.front i refl (subst (λ n. i < n) (sym (length-set items i e)) i_in)
+
+pub returns-clause-order : goal.returns-clause-order
+returns-clause-order c =
+    let items = c.self.inside.entries.items in
+    let i = c.args.place in
+    let same = ap (λ f. f.entries) c.self.view_is in
+    let i_in : i < length items = subst (λ es. i < length es) (sym same) c.requires.place in
+    let x : Entry = c.index_mut.result.now in
+    let e : Entry = record { clause = x.clause; level = x.level + 1 } in
+    let front : List Entry = take c.remove_subsumed.result c.remove_subsumed.new.entries.items in
+    let before = c.remove_subsumed.ensures.before i refl (subst (λ n. i < n) (sym (length-set items i e)) i_in) in
+    subst (λ es. All (Contains (take i es)) front) same (subst (λ xs. All (Contains xs) front) (take-set items i e) before)
 
 pub returns-clause-place : goal.returns-clause-place
 returns-clause-place c = λ d.
