@@ -9,11 +9,11 @@ that no clause and no core that the solver learned was refused.
 
 Only the cases whose programs are built so far are due (`STANDING`). A stimulus that `aigmc check` prints for a
 violation is confirmed by `aigcheck run`; where it answers that the property holds, it is asked for the certificate,
-which `aigcheck safe` accepts. A case that names no engine is asked of IC3 alone too. A case of `aigmc certify` makes a
-certificate that `aigcheck safe` accepts, or nothing. A case of `aigmc all` is asked for the folder with its evidence
-too: that has a file for each verdict but an unknown, and `aigcheck all` accepts these, finds none for the others,
-counts them, and has the status that the verdicts have. Behind them, each ordered circuit of the cases is converted to
-binary and back, which must give the same text.
+which `aigcheck safe` accepts. A case that names no engine is asked of IC3 alone too. A case of `aigmc certify` or
+`aigmc recertify` makes a certificate that `aigcheck safe` accepts, or nothing. A case of `aigmc all` is asked for the
+folder with its evidence too: that has a file for each verdict but an unknown, and `aigcheck all` accepts these, finds
+none for the others, counts them, and has the status that the verdicts have. Behind them, each ordered circuit of the
+cases is converted to binary and back, which must give the same text.
 
 A line of texts.tsv is one case too: what is done, one text or two, and what is wanted. In a text `\n`, `\t` and `\\`
 are those bytes, `\x` with two digits any other, and `{3 x}` is three times the byte x.
@@ -38,16 +38,17 @@ Where Yosys and Icarus Verilog are installed, `cases/simulated` and `robustness/
 SystemVerilog designs with simulation: two cases, which are skipped elsewhere and named as skipped. So is the case of
 ABC's invariants (`cases/findings abc`) where ABC is not installed.
 
-Fifteen cases more: `cases/documents` looks for what the documents name; `cases/quoted` runs the commands that they
+Sixteen cases more: `cases/documents` looks for what the documents name; `cases/quoted` runs the commands that they
 quote; `cases/words` looks for old words in the crates that search; `cases/ticks` compares where a step of a budget is
 taken, and where a list is filled by a number, with its lists; `cases/waveform` reads waveforms back; `cases/findings`
-hands other tools' findings to `aigmc certify` and `aigmc witness`; the sources make the witnesses of refused memory and
-of used-up ids in one file each; a chain of 1,000,000 gates that is given last first is converted, and a cycle of as
-many is refused, under a stack of 64 KiB; evidence that never ends, or that is long and says little at once, is judged
-in 64 MiB of memory; `explain` of both programs says of each number what docs/faults.tsv says; `robustness/refused`
-refuses the growths of the cases of cases.tsv in turn, `robustness/devices` fails their calls of the system, and
-`robustness/again` refuses the growths of tests that make a call again then, all by libraries that a C compiler `cc`
-makes; and `robustness/cut` cuts their texts at every length.
+hands other tools' findings to `aigmc certify` and `aigmc witness`; `cases/recertified` judges certificates of version 3
+of random circuits; the sources make the witnesses of refused memory and of used-up ids in one file each; a chain of
+1,000,000 gates that is given last first is converted, and a cycle of as many is refused, under a stack of 64 KiB;
+evidence that never ends, or that is long and says little at once, is judged in 64 MiB of memory; `explain` of both
+programs says of each number what docs/faults.tsv says; `robustness/refused` refuses the growths of the cases of
+cases.tsv in turn, `robustness/devices` fails their calls of the system, and `robustness/again` refuses the growths of
+tests that make a call again then, all by libraries that a C compiler `cc` makes; and `robustness/cut` cuts their texts
+at every length.
 
 The cases of `cases/scripts` are of the scripts of bin/ around the programs, those of `cases/library` of the library for
 C, which `tools/library` has to have built, those of `cases/large` of circuits of 200,000 gates, and those of

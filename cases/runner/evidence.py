@@ -1,8 +1,9 @@
 """Whether `aigcheck` accepts the evidence that `aigmc` makes in a case."""
 
+import pathlib
 from collections import Counter
 
-from runner.programs import answered, words_of
+from runner.programs import FOLDER, answered, words_of
 
 
 def unbacked(case, status, printed, scratch):
@@ -34,14 +35,25 @@ def uncertified(case, printed, scratch):
     return [] if said == wanted else [f"the certificate is not accepted: {said!r}"]
 
 
+def head_of(path):
+    """The first line of a certificate, and the property of its second one."""
+    version, claim, *_ = path.read_text(encoding="ascii").splitlines()
+    return version, claim.partition(" ")[0]
+
+
 def unaccepted(case, status, scratch):
     """What is wrong with the certificate that was made of clauses, or with what was made beside a refusal."""
     words = words_of(case["command"], scratch)
-    circuit, name, path = words[2], words[4], words[8]
     if status != 0:
         left = sorted(it.name for it in scratch.iterdir())
         return [f"{' '.join(left)} was made"] if left else []
-    _, said = answered(words_of(f"aigcheck safe {circuit} {path}", scratch))
+    is_again = words[1] == "recertify"
+    path = next(pathlib.Path(word) for word in words if word.startswith(str(scratch)))
+    version, _ = head_of(path)
+    if (is_again or "--extension" in words) != (version == "aigcert 3"):
+        return [f"the certificate begins with {version}"]
+    name = head_of(FOLDER / words[3])[1] if is_again else words[words.index("-p") + 1]
+    _, said = answered(words_of(f"aigcheck safe {words[2]} {path}", scratch))
     return [] if said == f"yes safe {name}\n".encode() else [f"the certificate is not accepted: {said!r}"]
 
 

@@ -15,6 +15,7 @@ from runner.tools import (
     of_abc,
     of_sources,
     quoted,
+    recertified,
     simulated,
     waveforms,
 )
@@ -28,7 +29,7 @@ def further_cases():
     found |= {"explain": explanations(), "evidence that never ends": endless()}
     found |= {"documents": documents(), "words": of_sources("words"), "steps of a budget": of_sources("ticks")}
     found |= {"quoted commands": quoted(), "waveforms": waveforms(), "other tools' findings": findings()}
-    found |= {"ABC's invariants": of_abc()}
+    found |= {"ABC's invariants": of_abc(), "certificates of version 3": recertified()}
     found |= {f"robustness/{tool}": hostile(tool) for tool in HOSTILE}
     found |= {"cases/simulated": simulated("cases/simulated")}
     found |= {"robustness/verilog": simulated("robustness/verilog", "20")}

@@ -66,6 +66,11 @@ def findings(*words):
     return faults_of(*told("cases/findings", *words))
 
 
+def recertified():
+    """What `cases/recertified` finds wrong with certificates of version 3."""
+    return faults_of(*told("cases/recertified"))
+
+
 def of_abc():
     """What `cases/findings` finds wrong with ABC's invariants, or nothing at all (None) where ABC is not installed."""
     faults = findings("abc")

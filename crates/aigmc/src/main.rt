@@ -45,7 +45,11 @@
 //! certificate): `certify::certify` proves each case of them, and believes nothing. `--budget` is how many steps the proofs may
 //! cost. Where the clauses are no inductive invariant that excludes the property's literal, or the budget is exhausted,
 //! nothing is written, standard error says so, and the status is 1 or 2. With `--strengthen` IC3 looks for an invariant where the
-//! clauses are none, and begins with those of them that it can use.
+//! clauses are none, and begins with those of them that it can use. With `--extension EXT` the clauses are over any literals of
+//! the circuit EXT, which begins with FILE's inputs, latches and gates, and the certificate is of version 3.
+//!
+//! `aigmc recertify FILE CERT OUT` makes a certificate of version 3 of the clauses of the certificate CERT, of any version
+//! (`certify3::certify`), and says what `certify` says where there is none.
 //!
 //! `aigmc to-safety FILE -p jN OUT` writes the shadow circuit of a justice property to OUT, in the layouts of
 //! `convert`. OUT is not FILE.
@@ -72,7 +76,7 @@ mod detail;
 mod explaining;
 
 use aigmc_circuits::{Pair, extract, make_fitting, make_shadow, make_witness, trace};
-use aigmc_commands::{begin, certify_clauses, check, check_all, check_miter, cover};
+use aigmc_commands::{begin, certify_clauses, check, check_all, check_miter, cover, recertify};
 use aigmc_files::{DONE, FAULT, Stop, circuit, finished, print_table, stimulus_of, tell};
 use arguments::{AskedLayout, Request, Search, Wrong, parse};
 use base::push;
@@ -132,6 +136,7 @@ fn done(rt: &HostRuntime, request: Request<'_>) -> Result<u8, Stop> {
         } => trace(rt, file, stimulus, all, waveform),
         Request::Explain { number } => explain(rt, number),
         Request::Certify(asked) => certify_clauses(rt, asked),
+        Request::Recertify(asked) => recertify(rt, asked),
         Request::ToSafety(asked) => make_shadow(rt, asked),
         Request::Extract(asked) => extract(rt, asked),
         Request::Witness(asked) => make_witness(rt, asked),

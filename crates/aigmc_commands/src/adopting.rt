@@ -1,10 +1,13 @@
 //! The command `certify`: what other engines found becomes evidence.
 
 use crate::counterexample::tell_counterexample;
+use crate::extending::claimed_over;
 use crate::telling::conclude;
+use crate::third::kept;
 use crate::timing::{ask, begin};
 use aigmc_files::{
-    DONE, Role, Stop, about, asked_for, circuit, is_taken, keep, property_in, read_of, read_text,
+    DONE, Role, Stop, about, asked_for, circuit, circuit_of, is_taken, keep, property_in, read_of,
+    read_text,
 };
 use arguments::{Claim, EngineKind, Search};
 use certify::{Certified, certify};
@@ -160,6 +163,37 @@ fn certified_clauses(
     about(Role::Circuit, certified(rt, asked, property, file, clauses))
 }
 
+/// Makes a certificate of version 3 of the clauses in the file that is named, over the circuit in the file of the
+/// extension's name.
+fn certified_over(
+    rt: &HostRuntime,
+    asked: Claim<'_>,
+    property: Property,
+    file: &AigerFile,
+    extension: &str,
+) -> Result<u8, Stop> {
+    if let Property::Justice(_) = property {
+        return Err(Stop::BadArgument);
+    }
+    if asked.strengthen || is_standard(extension) {
+        return Err(Stop::BadArgument);
+    }
+    if is_taken(rt, extension, asked.certificate) {
+        return Err(Stop::Taken);
+    }
+    let extended = circuit_of(rt, extension, Role::Other)?;
+    let clauses = clauses_of(rt, asked.invariant, &extended, property)?;
+    let claimed = claimed_over(rt, file.model(), extended.model(), property, clauses)?;
+    kept(
+        rt,
+        asked.certificate,
+        file.model(),
+        extended.model(),
+        claimed,
+        asked.budget,
+    )
+}
+
 /// Makes a certificate of the clauses in a file, in the file of that name.
 pub fn certify_clauses(rt: &HostRuntime, asked: Claim<'_>) -> Result<u8, Stop> {
     let word = asked_for(asked.property)?;
@@ -172,5 +206,8 @@ pub fn certify_clauses(rt: &HostRuntime, asked: Claim<'_>) -> Result<u8, Stop> {
     }
     let file = circuit(rt, asked.file)?;
     let property = property_in(rt, asked.file, &file, word, asked.verbose)?;
-    certified_clauses(rt, asked, property, &file)
+    match asked.extension {
+        Some(extension) => certified_over(rt, asked, property, &file, extension),
+        None => certified_clauses(rt, asked, property, &file),
+    }
 }

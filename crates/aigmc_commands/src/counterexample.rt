@@ -2,7 +2,7 @@
 
 use aigmc_files::Stop;
 use certify::{Case, Counterexample};
-use graph::{Model, Property};
+use graph::{Model, Property, Seq};
 use live_safe::to_safety;
 use std::fmt;
 
@@ -19,7 +19,18 @@ impl fmt::Display for Bits<'_> {
     }
 }
 
-/// Says by which inputs, where the circuit has some.
+/// The values that satisfy a case.
+#[derive(Drop)]
+pub struct Values {
+    /// those of the latches
+    pub state: Seq<bool>,
+    /// those of the inputs
+    pub inputs: Seq<bool>,
+    /// those of the latches after a step
+    pub next: Seq<bool>,
+}
+
+/// Says by which inputs, where there are some.
 fn tell_inputs(rt: &HostRuntime, inputs: &[bool]) {
     if !inputs.is_empty() {
         let _ = eprint!(rt; " with the inputs {}", Bits(inputs));
@@ -27,31 +38,38 @@ fn tell_inputs(rt: &HostRuntime, inputs: &[bool]) {
     let _ = eprintln!(rt);
 }
 
-/// Says which case the values satisfy, and by which state of the clauses' circuit.
-fn tell_values(rt: &HostRuntime, circuit: &Model, found: &Counterexample) -> Result<(), Stop> {
-    // all memory is taken before the first word
-    let state = found.state(rt.alloc(), circuit)?;
-    let inputs = found.inputs(rt.alloc(), circuit)?;
-    let next = found.next_state(rt.alloc(), circuit)?;
-    let (state, next) = (Bits(state.as_slice()), Bits(next.as_slice()));
+/// Says which case the values satisfy.
+pub fn tell_case(rt: &HostRuntime, case: Case, values: &Values) {
+    let (state, next) = (Bits(values.state.as_slice()), Bits(values.next.as_slice()));
     let _ = eprintln!(rt;
         "aigmc: the clauses are no inductive invariant that excludes the property's literal"
     );
-    match found.case {
+    let _ = match case {
         Case::Initial(clause) => {
-            let _ = eprintln!(rt; "  initial: clause {clause} is false in the state {state}");
+            eprint!(rt; "  initial: clause {clause} is false in the state {state}")
         }
-        Case::Step(clause) => {
-            let _ = eprint!(rt;
-                "  step: clause {clause} is false after the step from {state} to {next}"
-            );
-            tell_inputs(rt, inputs.as_slice());
-        }
-        Case::Bad => {
-            let _ = eprint!(rt; "  bad: the property's literal is 1 in the state {state}");
-            tell_inputs(rt, inputs.as_slice());
-        }
-    }
+        Case::Step(clause) => eprint!(rt;
+            "  step: clause {clause} is false after the step from {state} to {next}"
+        ),
+        Case::Bad => eprint!(rt; "  bad: the property's literal is 1 in the state {state}"),
+    };
+    tell_inputs(rt, values.inputs.as_slice());
+}
+
+/// Says which case the values satisfy, and by which state of the clauses' circuit.
+fn tell_values(rt: &HostRuntime, circuit: &Model, found: &Counterexample) -> Result<(), Stop> {
+    let inputs = match found.case {
+        // the clauses are over latches alone
+        Case::Initial(_) => Seq::new(rt.alloc()),
+        Case::Step(_) | Case::Bad => found.inputs(rt.alloc(), circuit)?,
+    };
+    // all memory is taken before the first word
+    let values = Values {
+        state: found.state(rt.alloc(), circuit)?,
+        inputs,
+        next: found.next_state(rt.alloc(), circuit)?,
+    };
+    tell_case(rt, found.case, &values);
     Ok(())
 }
 

@@ -2,6 +2,7 @@
 
 use base::Refused;
 use certify::CertifyError;
+use certify3::CertifyError as ThirdError;
 use cli::CliError;
 use explanations::word_of;
 use graph::{Property, ReadError};
@@ -127,6 +128,15 @@ impl From<WitnessError> for Stop {
 
 impl From<CertifyError> for Stop {
     fn from(e: CertifyError) -> Stop {
+        Stop::Fault {
+            number: e.number(),
+            place: e.place(),
+        }
+    }
+}
+
+impl From<ThirdError> for Stop {
+    fn from(e: ThirdError) -> Stop {
         Stop::Fault {
             number: e.number(),
             place: e.place(),

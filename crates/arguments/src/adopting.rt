@@ -12,6 +12,8 @@ pub struct Claim<'a> {
     pub property: &'a str,
     /// the file of the clauses
     pub invariant: &'a str,
+    /// the circuit that adds latches and gates, where one is named: a certificate of version 3 is made
+    pub extension: Option<&'a str>,
     /// the file to make of the certificate
     pub certificate: &'a str,
     /// how many steps the proofs may cost, and a search behind them
@@ -21,6 +23,21 @@ pub struct Claim<'a> {
     /// how many seconds that search may take, where that is said
     pub timeout: Option<u64>,
     /// whether standard error says how far that search is, and why a file is refused
+    pub verbose: bool,
+}
+
+/// A certificate, and the file to make of one of version 3.
+#[derive(Clone, Copy)]
+pub struct Recertification<'a> {
+    /// the circuit's file
+    pub file: &'a str,
+    /// the certificate's file
+    pub certificate: &'a str,
+    /// the file to make
+    pub out: &'a str,
+    /// how many steps the proofs may cost
+    pub budget: u64,
+    /// whether a fault says more than its line
     pub verbose: bool,
 }
 
@@ -66,10 +83,22 @@ pub fn asked_certify<'a>(words: &ArgMatches<'a>) -> Claim<'a> {
         file: word(words, "FILE"),
         property: word(words, "property"),
         invariant: word(words, "invariant"),
+        extension: words.get_str("extension"),
         certificate: word(words, "cert"),
         budget: words.get_one::<u64>("budget").unwrap_or(STEPS),
         strengthen: words.get_flag("strengthen"),
         timeout: words.get_one::<u64>("timeout"),
+        verbose: words.get_flag("verbose"),
+    }
+}
+
+/// What `recertify` asks for.
+pub fn asked_recertify<'a>(words: &ArgMatches<'a>) -> Recertification<'a> {
+    Recertification {
+        file: word(words, "FILE"),
+        certificate: word(words, "CERT"),
+        out: word(words, "OUT"),
+        budget: words.get_one::<u64>("budget").unwrap_or(STEPS),
         verbose: words.get_flag("verbose"),
     }
 }

@@ -17,7 +17,7 @@ struct Row {
 static VERSION: &str = "0.1.0 (rattle-kit-13f)";
 
 static STATUSES: &str =
-    "Status: 0 done, 1 a violation (check, all), a difference (equal), no run (cover), no invariant (certify) or none shown (witness), 2 nothing is known (check, all, equal, cover, certify), 3 failed.
+    "Status: 0 done, 1 a violation (check, all), a difference (equal), no run (cover), no invariant (certify, recertify) or none shown (witness), 2 nothing is known (check, all, equal, cover, certify, recertify), 3 failed.
 A file called - is the standard input or output. Each command has a help of its own: aigmc check --help.";
 
 /// The file to make of a circuit.
@@ -167,7 +167,8 @@ Examples:
 Examples:
   aigmc certify design.aig -p b0 --invariant b0.clauses --cert b0.cert
   aigmc certify design.aig -p b0 --invariant design_inv.pla --cert b0.cert
-  aigmc certify design.aig -p b0 --invariant old.cert --cert b0.cert",
+  aigmc certify design.aig -p b0 --invariant old.cert --cert b0.cert
+  aigmc certify design.aag -p b0 --extension more.aag --invariant b0.clauses --cert b0.cert",
         words: &[
             FILE,
             PROPERTY,
@@ -176,6 +177,12 @@ Examples:
                 help: "The clauses: a line for each, a certificate, or what ABC's pdr -d writes",
                 required: true,
                 value: "INV",
+                ..OPTION
+            },
+            Argument {
+                name: "extension",
+                help: "The circuit with further latches and gates, over whose literals the clauses are",
+                value: "EXT",
                 ..OPTION
             },
             Argument {
@@ -314,7 +321,31 @@ Examples:
 ];
 
 /// The commands behind them. They stand in a table of their own, since a proof about a table takes all of it.
-static MORE_ROWS: [Row; 5] = [
+static MORE_ROWS: [Row; 6] = [
+    Row {
+        name: "recertify",
+        about: "Makes a certificate of version 3 of the clauses of a certificate",
+        behind: "Status: 0 a certificate was made, 1 the clauses are no inductive invariant that excludes the property's literal, 2 the budget is exhausted, 3 failed.
+Examples:
+  aigmc recertify design.aig b0.cert b0.small",
+        words: &[
+            FILE,
+            Argument {
+                name: "CERT",
+                help: "The certificate, of any version",
+                ..FILE
+            },
+            Argument {
+                help: "The file to make of the certificate",
+                ..OUT
+            },
+            Argument {
+                help: "How many steps the proofs may cost",
+                ..BUDGET
+            },
+            REASONS,
+        ],
+    },
     Row {
         name: "extract",
         about: "Writes the circuit of a bad literal, or of an output as one, for other engines",

@@ -1,6 +1,9 @@
 //! What the words of a command line ask for.
 
-use crate::adopting::{Claim, Extraction, Shadow, asked_certify, asked_extract, asked_to_safety};
+use crate::adopting::{
+    Claim, Extraction, Recertification, Shadow, asked_certify, asked_extract, asked_recertify,
+    asked_to_safety,
+};
 use crate::grammar::command;
 use crate::layouts::{AskedLayout, asked_layout};
 use crate::witnessing::{Counterexample, asked_witness};
@@ -134,6 +137,8 @@ pub enum Request<'a> {
     },
     /// Make a certificate of clauses.
     Certify(Claim<'a>),
+    /// Make a certificate of version 3 of another one.
+    Recertify(Recertification<'a>),
     /// Write the shadow circuit of a justice property.
     ToSafety(Shadow<'a>),
     /// Write the circuit of a property alone.
@@ -302,6 +307,7 @@ fn asked_of<'a>(name: &str, words: &ArgMatches<'a>) -> Option<Request<'a>> {
         "equal" => Some(asked_equal(words)),
         "cover" => Some(asked_cover(words)),
         "certify" => Some(Request::Certify(asked_certify(words))),
+        "recertify" => Some(Request::Recertify(asked_recertify(words))),
         "to-safety" => Some(Request::ToSafety(asked_to_safety(words))),
         "extract" => Some(Request::Extract(asked_extract(words))),
         "witness" => Some(Request::Witness(asked_witness(words))),

@@ -1,0 +1,134 @@
+-- What it says that no further case is proved.
+use Rattle.std.proofs.Common.{◌≡◌, ◌≢◌, ◌+◌, ◌*◌, ◌<◌, ℕ, ℤ, List, [], map, length, Result, Ok, Err, IfOk, IfErr, refl, sym, subst, ap, arith}
+use Rattle.base.specs.Budget.{Steps}
+use Rattle.graph.specs.declared.circuit.Lit.{Lit}
+use Rattle.graph.specs.declared.circuit.Latch.{Latch}
+use Rattle.graph.specs.declared.circuit.Gate.{Gate}
+use Rattle.graph.specs.declared.parts.Parts.{Parts}
+use Rattle.lrat.specs.declared.formula.Formula.{Formula}
+use Rattle.cnf.specs.Clauses.{denial}
+use Rattle.cnf.specs.Formulas.{bad_formula, clause_at}
+use Rattle.cnf.specs.Invariants.{AreContradictory}
+use Rattle.cnf.specs.declared.time_frame.TimeFrame.{TimeFrame}
+use Rattle.cdcl_log.specs.Logged.{with_units}
+use Rattle.solver.specs.Answers.{values}
+use Rattle.solver.specs.declared.sat_error.SatError.{SatError}
+use Rattle.solver.specs.declared.sat_error.SatError.TheVariants as solver
+use Rattle.extension.specs.Accepted.{bad_of, begin_formula, circuit_of, pair_formula}
+use Rattle.extension.specs.Extended.{extended}
+use Rattle.extension.specs.Inductive.{IsInductiveOver}
+use Rattle.certificate3.specs.declared.claim.Claim.{Claim}
+use Rattle.certify3.specs.Counterexamples.{formula_of, IsCase, IsCounterexample, Satisfies}
+use Rattle.certify3.specs.Halts.{IsFoundAt, IsHalt, IsHaltAt, IsHaltOf, case_of, of_solver}
+use Rattle.certify3.specs.Outcomes.{IsCertified, of_halt}
+use Rattle.certify3.specs.Subjects.{IsSubject}
+use Rattle.certify3.specs.declared.subject.Subject.{Subject}
+use Rattle.certify3.specs.declared.certified.Certified.{Certified}
+use Rattle.certify3.specs.declared.certified.Certified.TheVariants as outcome
+use Rattle.certify3.specs.declared.certify_error.CertifyError.{CertifyError}
+use Rattle.certify3.specs.declared.counterexample.Case.{Case}
+use Rattle.certify3.specs.declared.counterexample.Case.TheVariants as case
+use Rattle.certify3.specs.declared.counterexample.Counterexample.{Counterexample}
+use Rattle.certify3.specs.declared.halt.Halt.{Halt}
+use Rattle.certify3.specs.declared.halt.Halt.TheVariants.{NotInvariant, Spent, IdsTaken, OutOfMemory}
+use Rattle.certify3.specs.declared.showing.Kind.{Kind}
+use Rattle.certify3.specs.declared.showing.Kind.TheVariants.{First, Step}
+
+-- a refusal can stop anything
+pub solver_halt : (f : Formula) (x : Case) (after : Steps) (e : SatError) → IsHaltOf f x after (of_solver e)
+solver_halt f x after (solver.Limit used_up) = tt
+solver_halt f x after (solver.OutOfMemory refused) = tt
+
+pub solver_halt_at : (f : Formula) (kind : Kind) (time : TimeFrame) (cs : List (List Lit)) (after : Steps) (e : SatError) → IsHaltAt f kind time cs after (of_solver e)
+solver_halt_at f kind time cs after (solver.Limit used_up) = tt
+solver_halt_at f kind time cs after (solver.OutOfMemory refused) = tt
+
+pub solver_halt_all : (m : Parts) (inv : List (List Lit)) (a : Lit) (after : Steps) (e : SatError) → IsHalt m inv a after (of_solver e)
+solver_halt_all m inv a after (solver.Limit used_up) = tt
+solver_halt_all m inv a after (solver.OutOfMemory refused) = tt
+
+-- what stopped a clause's case stopped one of the clauses' at the time
+pub halt_at : (f : Formula) (kind : Kind) (time : TimeFrame) (cs : List (List Lit)) (k : ℕ) (us : List ℤ) (x : Case) (after : Steps) (h : Halt) → k < length cs → us ≡ map (denial time.max_var time.offset) (clause_at cs k) → x ≡ case_of kind k →
+    IsHaltOf (with_units f us) x after h → IsHaltAt f kind time cs after h
+halt_at f kind time cs k us x after (NotInvariant c) lt is named found = record {
+  clause = k;
+  stands = lt;
+  case = subst (λ y. c.case ≡ y) named found.0;
+  satisfied = subst (λ vs. Satisfies c.values.items (with_units f vs)) is found.1;
+}
+halt_at f kind time cs k us x after Spent lt is named none = none
+halt_at f kind time cs k us x after (IdsTaken used_up) lt is named any = tt
+halt_at f kind time cs k us x after (OutOfMemory refused) lt is named any = tt
+
+-- of all clauses at a first time
+pub first_halt : (m : Parts) (inv : List (List Lit)) (a : Lit) (f : Formula) (time : TimeFrame) (after : Steps) (h : Halt) → f ≡ begin_formula m → time.max_var ≡ m.max_var → time.offset ≡ 0 →
+    IsHaltAt f First time inv after h → IsHalt m inv a after h
+first_halt m inv a f time after (NotInvariant c) is n o found = record {
+  case = subst (IsCase inv) (sym found.case) found.stands;
+  satisfied =
+      subst (λ x. Satisfies c.values.items (formula_of m inv a x)) (sym found.case)
+      (subst (λ q. Satisfies c.values.items (with_units (begin_formula m) (map (denial m.max_var q) (clause_at inv found.clause)))) o
+      (subst (λ p. Satisfies c.values.items (with_units (begin_formula m) (map (denial p time.offset) (clause_at inv found.clause)))) n
+      (subst (λ (g : Formula). Satisfies c.values.items (with_units g (map (denial time.max_var time.offset) (clause_at inv found.clause)))) is found.satisfied)));
+}
+first_halt m inv a f time after Spent is n o none = none
+first_halt m inv a f time after (IdsTaken used_up) is n o any = tt
+first_halt m inv a f time after (OutOfMemory refused) is n o any = tt
+
+-- and at the time behind one at which they hold
+pub step_halt : (m : Parts) (inv : List (List Lit)) (a : Lit) (f : Formula) (time : TimeFrame) (after : Steps) (h : Halt) → f ≡ pair_formula m inv → time.max_var ≡ m.max_var → time.offset ≡ m.max_var + 1 →
+    IsHaltAt f Step time inv after h → IsHalt m inv a after h
+step_halt m inv a f time after (NotInvariant c) is n o found = record {
+  case = subst (IsCase inv) (sym found.case) found.stands;
+  satisfied =
+      subst (λ x. Satisfies c.values.items (formula_of m inv a x)) (sym found.case)
+      (subst (λ q. Satisfies c.values.items (with_units (pair_formula m inv) (map (denial m.max_var q) (clause_at inv found.clause)))) o
+      (subst (λ p. Satisfies c.values.items (with_units (pair_formula m inv) (map (denial p time.offset) (clause_at inv found.clause)))) n
+      (subst (λ (g : Formula). Satisfies c.values.items (with_units g (map (denial time.max_var time.offset) (clause_at inv found.clause)))) is found.satisfied)));
+}
+step_halt m inv a f time after Spent is n o none = none
+step_halt m inv a f time after (IdsTaken used_up) is n o any = tt
+step_halt m inv a f time after (OutOfMemory refused) is n o any = tt
+
+-- values that satisfy the last formula
+pub last_halt : (m : Parts) (inv : List (List Lit)) (a : Lit) (f : Formula) (c : Counterexample) → f ≡ bad_formula m inv a → c.case ≡ case.Last → Satisfies c.values.items f → IsCounterexample m inv a c
+last_halt m inv a f c is named found = record {
+  case = subst (IsCase inv) (sym named) tt;
+  satisfied = subst (λ x. Satisfies c.values.items (formula_of m inv a x)) (sym named) (subst (Satisfies c.values.items) is found);
+}
+
+-- nothing satisfies a case of inductive clauses
+unsatisfied : (m : Parts) (inv : List (List Lit)) (a : Lit) (x : Case) → IsInductiveOver m inv a → IsCase inv x → AreContradictory (formula_of m inv a x).clauses
+unsatisfied m inv a (case.First k) inductive is_case = inductive.begins k [] is_case
+unsatisfied m inv a (case.Step k) inductive is_case = inductive.goes_on k [] is_case
+unsatisfied m inv a case.Last inductive is_case = inductive.excludes
+
+pub not_inductive : (m : Parts) (inv : List (List Lit)) (a : Lit) (c : Counterexample) → IsCounterexample m inv a c → IsInductiveOver m inv a → ⊥
+not_inductive m inv a c found inductive = unsatisfied m inv a c.case inductive found.case (values c.values.items) found.satisfied.satisfied
+
+-- ---- what comes of it
+
+halted_for : (m : Parts) (c : Claim) (ls : List Latch) (gs : List Gate) (inv : List (List Lit)) (after : Steps) (h : Halt) → IsHalt (extended (circuit_of m c.property c.rounds) ls gs) inv (bad_of m c.property c.rounds) after h →
+    IfOk (of_halt h) (IsCertified m c ls gs inv after)
+halted_for m c ls gs inv after (NotInvariant x) halt = halt
+halted_for m c ls gs inv after Spent halt = halt
+halted_for m c ls gs inv after (IdsTaken used_up) halt = tt
+halted_for m c ls gs inv after (OutOfMemory refused) halt = tt
+
+pub halted_is : (m : Parts) (c : Claim) (ls : List Latch) (gs : List Gate) (inv : List (List Lit)) (after : Steps) (s : Subject) (h : Halt) (r : Result Certified CertifyError) → IsSubject m c ls gs s → r ≡ of_halt h →
+    IsHalt s.circuit inv s.bad after h → IfOk r (IsCertified m c ls gs inv after)
+halted_is m c ls gs inv after s h r subject is halt =
+    subst (λ (q : Result Certified CertifyError). IfOk q (IsCertified m c ls gs inv after)) (sym is)
+    (halted_for m c ls gs inv after h
+    (subst (λ (a : Lit). IsHalt (extended (circuit_of m c.property c.rounds) ls gs) inv a after h) subject.bad (subst (λ (t : Parts). IsHalt t inv s.bad after h) subject.circuit halt)))
+
+honest_of : (m : Parts) (c : Claim) (ls : List Latch) (gs : List Gate) (inv : List (List Lit)) (after : Steps) (r : Certified) (x : Counterexample) → IsCertified m c ls gs inv after r → r ≡ outcome.NotInvariant x →
+    IsInductiveOver (extended (circuit_of m c.property c.rounds) ls gs) inv (bad_of m c.property c.rounds) → ⊥
+honest_of m c ls gs inv after r x is named inductive =
+    not_inductive (extended (circuit_of m c.property c.rounds) ls gs) inv (bad_of m c.property c.rounds) x (subst (IsCertified m c ls gs inv after) named is) inductive
+
+-- what is inductive is never called no invariant
+pub honest : (m : Parts) (c : Claim) (ls : List Latch) (gs : List Gate) (inv : List (List Lit)) (after : Steps) (r : Result Certified CertifyError) → IfOk r (IsCertified m c ls gs inv after) →
+    IfOk r (λ v. (x : Counterexample) → v ≡ outcome.NotInvariant x → IsInductiveOver (extended (circuit_of m c.property c.rounds) ls gs) inv (bad_of m c.property c.rounds) → ⊥)
+honest m c ls gs inv after (Ok v) is = λ x. honest_of m c ls gs inv after v x is
+honest m c ls gs inv after (Err e) is = tt

@@ -1,0 +1,33 @@
+//! From clauses over any literals of a circuit that is extended to a certificate of version 3.
+//!
+//! `certify` asks for three proofs: that the clauses hold at a first time, that they hold at a time
+//! behind one at which they hold, and that they exclude a literal. For each a `cdcl::Refuter` loads one
+//! formula, and asks about one clause after the other: what is learned for one serves the next. The
+//! lines on which no clause rests are left out. Nothing is assumed of whoever wrote the clauses, nor of
+//! the proofs: the text is answered only where `checker3` has accepted just this text, and that the
+//! clauses are no invariant only with values that satisfy one of the cases.
+#![tactic(auto)]
+
+mod additions;
+mod certified;
+mod certify_error;
+mod certifying;
+mod counterexample;
+mod examining;
+mod formulas;
+mod halt;
+mod hinting;
+mod judging;
+mod near;
+mod numbering;
+mod proving;
+mod showing;
+mod subject;
+mod sweeping;
+mod text;
+
+pub use additions::Extension;
+pub use certified::Certified;
+pub use certify_error::CertifyError;
+pub use certifying::certify;
+pub use counterexample::{Case, Counterexample};

@@ -1,0 +1,124 @@
+//! The three proofs of clauses.
+
+ghost use Rattle.std.specs.Prelude.{◌≡◌, ◌+◌, ◌≤◌, ◌<◌, ◌^◌, All, IfErr, IfOk, length};
+ghost use Rattle.base.specs.Budget.{Spends};
+ghost use Rattle.cnf.specs.Formulas.{IsInRange};
+ghost use Rattle.extension.specs.Inductive.{IsOverAll};
+ghost use Rattle.certify3.specs.Halts.{IsHalt};
+
+use crate::counterexample::{Case, Counterexample};
+use crate::formulas::{bad_formula, begin_formula, pair_formula};
+use crate::halt::Halt;
+use crate::numbering::Numbering;
+use crate::showing::{Kind, Timed, show};
+use crate::subject::Subject;
+use base::{Budget, Lists};
+use cdcl::{Refuted, refute};
+use certificate3::Shown;
+use cnf::TimeFrame;
+use graph::{Lit, Model};
+use lrat::Proof;
+use std::alloc::Global;
+
+/// The proofs of clauses.
+#[derive(Drop)]
+pub struct Proofs {
+    /// that they hold at a first time
+    pub first: Shown,
+    /// that they hold at a time behind one at which they hold
+    pub step: Shown,
+    /// that they exclude the literal
+    pub last: Proof,
+}
+
+/// Shows that the clauses hold at a first time.
+fn prove_first(
+    alloc: Global,
+    circuit: &Model,
+    invariant: &Lists<Lit>,
+    budget: &mut Budget,
+) -> Result<Shown, Halt>
+    requires over { All (IsOverAll circuit.now) invariant.now }
+    ensures spends { Spends budget.old budget.new }
+    ensures halted { IfErr result (λ h. (a : Lit) → IsHalt circuit.now invariant.now a budget.new h) }
+{
+    circuit.well_formed();
+    let formula = begin_formula(alloc, circuit)?;
+    let timed = Timed {
+        circuit,
+        kind: Kind::First,
+        time: TimeFrame::first(circuit),
+        clauses: invariant,
+    };
+    show(alloc, &formula, timed, budget)
+}
+
+/// Shows that the clauses hold at a time behind one at which they hold.
+fn prove_step(
+    alloc: Global,
+    circuit: &Model,
+    invariant: &Lists<Lit>,
+    budget: &mut Budget,
+) -> Result<Shown, Halt>
+    requires over { All (IsOverAll circuit.now) invariant.now }
+    requires few { length invariant.now ≤ 4194303 }
+    ensures spends { Spends budget.old budget.new }
+    ensures halted { IfErr result (λ h. (a : Lit) → IsHalt circuit.now invariant.now a budget.new h) }
+{
+    circuit.well_formed();
+    let formula = pair_formula(alloc, circuit, invariant)?;
+    let timed = Timed {
+        circuit,
+        kind: Kind::Step,
+        time: TimeFrame::after(circuit, 1),
+        clauses: invariant,
+    };
+    show(alloc, &formula, timed, budget)
+}
+
+/// Shows that the clauses exclude the literal.
+fn prove_last(
+    alloc: Global,
+    circuit: &Model,
+    invariant: &Lists<Lit>,
+    bad: Lit,
+    budget: &mut Budget,
+) -> Result<Proof, Halt>
+    requires over { All (IsOverAll circuit.now) invariant.now }
+    requires few { length invariant.now ≤ 4194303 }
+    requires bad { IsInRange circuit.now.max_var bad }
+    ensures spends { Spends budget.old budget.new }
+    ensures halted { IfErr result (IsHalt circuit.now invariant.now bad budget.new) }
+{
+    let formula = bad_formula(alloc, circuit, invariant, bad)?;
+    match refute(alloc, &formula, budget)? {
+        Refuted::Proof(proof) => {
+            let numbering = Numbering::new(alloc, formula.clauses.len(), proof.lines())?;
+            Ok(numbering.renumbered(alloc, proof.lines())?)
+        }
+        Refuted::Model(values) => Err(Halt::NotInvariant(Counterexample {
+            case: Case::Last,
+            values,
+        })),
+        Refuted::Spent => Err(Halt::Spent),
+    }
+}
+
+/// The proofs of the clauses over the circuit, one after the other. One solver is held at a time.
+pub fn prove(
+    alloc: Global,
+    subject: &Subject,
+    invariant: &Lists<Lit>,
+    budget: &mut Budget,
+) -> Result<Proofs, Halt>
+    requires over { All (IsOverAll subject.now.circuit) invariant.now }
+    requires few { length invariant.now ≤ 4194303 }
+    requires bad { IsInRange subject.now.circuit.max_var subject.now.bad }
+    ensures spends { Spends budget.old budget.new }
+    ensures halted { IfErr result (IsHalt subject.now.circuit invariant.now subject.now.bad budget.new) }
+{
+    let first = prove_first(alloc, &subject.circuit, invariant, budget)?;
+    let step = prove_step(alloc, &subject.circuit, invariant, budget)?;
+    let last = prove_last(alloc, &subject.circuit, invariant, subject.bad, budget)?;
+    Ok(Proofs { first, step, last })
+}
