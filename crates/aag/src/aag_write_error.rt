@@ -3,7 +3,7 @@
 ghost use Rattle.std.specs.Prelude.{◌≡◌};
 ghost use Rattle.aag.specs.declared.aag_write_error.AagWriteError.TheVariants.{Device};
 
-use graph::Failed;
+use base::Failed;
 use thiserror::Error;
 
 /// Why the text of a file is not written whole.

@@ -4,8 +4,7 @@ ghost use Rattle.std.specs.Prelude.{◌≡◌, IfOk};
 ghost use Rattle.scan.specs.Reading.{Gives};
 ghost use Rattle.aag.specs.Symbols.{ends_symbols, comment_of};
 
-use base::Refused;
-use graph::Seq;
+use base::{Refused, Seq};
 use std::alloc::Global;
 
 /// Whether no symbol follows: the text ends here, or a `c` that no digit follows begins the comment.

@@ -6,8 +6,8 @@ ghost use Rattle.aag.specs.Justice.{sizes_at, properties_at, justice_at};
 
 use crate::lines::{GREATEST, UseLine};
 use crate::refusal::Refusal;
-use base::push;
-use graph::{Lit, Seq};
+use base::{Seq, push};
+use graph::Lit;
 use scan::{Fault, field, lines};
 use std::alloc::Global;
 

@@ -6,7 +6,7 @@ ghost use Rattle.graph.specs.Symbols.{IsName};
 ghost use Rattle.aag.specs.Symbols.{named_at};
 
 use crate::refusal::Refusal;
-use graph::Seq;
+use base::Seq;
 use memchr::memchr;
 use scan::Fault;
 use std::alloc::Global;

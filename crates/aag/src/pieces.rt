@@ -7,7 +7,8 @@ ghost use Rattle.aag.specs.Tail.{letter_of, symbol_line};
 ghost use Rattle.aag.specs.Writing.{gate_line, latch_line, literal_line, size_line};
 
 use crate::lines::{GateLine, LatchLine, LiteralLine};
-use graph::{Failed, Gate, Latch, Lit, Seq, Sink, Symbol, SymbolKind, put_all};
+use base::{Failed, Seq, Sink, put_all};
+use graph::{Gate, Latch, Lit, Symbol, SymbolKind};
 use itoa::{Buffer, Integer, write_digits};
 
 /// Puts a number and the bytes behind it.

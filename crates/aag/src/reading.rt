@@ -14,7 +14,8 @@ use crate::comments::comment;
 use crate::lines::NotDefining;
 use crate::refusal::{Refusal, told};
 use crate::symbol::symbols;
-use graph::{AigerFile, Model, Parts, ReadError, Seq, Symbols};
+use base::Seq;
+use graph::{AigerFile, Model, Parts, ReadError, Symbols};
 use scan::Fault;
 use std::alloc::Global;
 

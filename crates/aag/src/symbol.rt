@@ -9,7 +9,8 @@ ghost use Rattle.aag.specs.Whole.{Refuses, GivesOnly, Adds};
 use crate::comments::ends_symbols;
 use crate::name::name;
 use crate::refusal::Refusal;
-use graph::{Parts, Seq, Symbol, SymbolKind, Symbols};
+use base::Seq;
+use graph::{Parts, Symbol, SymbolKind, Symbols};
 use scan::{Fault, byte, number};
 use std::alloc::Global;
 

@@ -8,7 +8,8 @@ use crate::header::Header;
 use crate::justice::justice;
 use crate::lines::{GREATEST, UseLine};
 use crate::refusal::Refusal;
-use graph::{Gate, Latch, Lit, Parts, Seq};
+use base::Seq;
+use graph::{Gate, Latch, Lit, Parts};
 use scan::{Fault, lines};
 use std::alloc::Global;
 

@@ -12,7 +12,8 @@ use crate::lines::{GateLine, LatchLine, LiteralLine};
 use crate::pieces::{
     Count, JusticeLines, Piece, SizeLine, SymbolLine, put_blocks, put_each, put_number,
 };
-use graph::{AigerFile, Failed, Parts, Sink, Symbol, put_all};
+use base::{Failed, Sink, put_all};
+use graph::{AigerFile, Parts, Symbol};
 
 /// The counts up to the last that is not 0.
 fn trimmed(counts: &[usize]) -> &[usize]

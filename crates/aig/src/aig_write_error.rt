@@ -4,7 +4,8 @@ ghost use Rattle.std.specs.Prelude.{◌≡◌};
 ghost use Rattle.aig.specs.declared.aig_write_error.AigWriteError.TheVariants.{Device};
 ghost use Rattle.aig.specs.WriteRefusals.{number_of};
 
-use graph::Failed;
+use aag::AagWriteError;
+use base::Failed;
 use thiserror::Error;
 
 /// Why the text of a file is not written whole.
@@ -24,6 +25,16 @@ impl From<Failed> for AigWriteError {
 
     fn from(_e: Failed) -> AigWriteError {
         AigWriteError::Device
+    }
+}
+
+impl From<AagWriteError> for AigWriteError {
+    ghost from_gives = { λ _ e. e ≡ Device };
+
+    fn from(e: AagWriteError) -> AigWriteError {
+        match e {
+            AagWriteError::Device => AigWriteError::Device,
+        }
     }
 }
 

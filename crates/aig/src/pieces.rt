@@ -7,7 +7,8 @@ ghost use Rattle.aig.specs.Writing.{gate_text, latch_line};
 
 use crate::lines::{GateDeltas, LatchLine};
 use aag::{Piece, ShortPiece, put_number};
-use graph::{Failed, Gate, Latch, Sink, put_all};
+use base::{Failed, Sink, put_all};
+use graph::{Gate, Latch};
 
 /// Writes a byte before `end`, and answers where that is.
 #[inline(always)]

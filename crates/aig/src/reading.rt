@@ -14,7 +14,8 @@ ghost use Rattle.aig.specs.Whole.{text_at};
 use crate::circuit::circuit;
 use crate::delta::NoDelta;
 use aag::{LONGEST, Refusal, told, with_tail};
-use graph::{AigerFile, Model, Parts, ReadError, Seq, Symbols};
+use base::Seq;
+use graph::{AigerFile, Model, Parts, ReadError, Symbols};
 use scan::Fault;
 use std::alloc::Global;
 

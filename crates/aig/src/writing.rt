@@ -11,7 +11,8 @@ ghost use Rattle.aig.specs.Writing.{circuit_text, written_text};
 use crate::aig_write_error::AigWriteError;
 use crate::lines::{GateDeltas, LatchLine};
 use aag::{Piece, put_blocks, put_each, put_file, put_header, put_uses};
-use graph::{AigerFile, Failed, Parts, Sink};
+use base::{Failed, Sink};
+use graph::{AigerFile, Parts};
 
 /// Puts the header, the lines and the gates of a circuit.
 fn put_circuit<W: Sink>(out: &mut W, parts: &Parts) -> Result<(), Failed>

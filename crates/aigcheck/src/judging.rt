@@ -4,14 +4,12 @@ ghost use Rattle.std.specs.Prelude.{◌-◌, ◌<◌, ◌^◌};
 
 use crate::detail::{put_line, tell_circuit, tell_unnamed};
 use crate::no_answer::{NoAnswer, Role, opened};
+use base::{FromBytes, FromRead, ReadToEndError, Sink, Source, ToVec, ToWrite, read_to_end};
 use checker::{
     RunError, run_of_readers, run_safe, run_safe_for, run_stimulus, run_stimulus_for,
     safe_of_readers,
 };
-use graph::{
-    AigerFile, FromBytes, FromRead, Property, ReadError, ReadToEndError, Sink, Source, ToVec,
-    ToWrite, read_to_end,
-};
+use graph::{AigerFile, Property, ReadError};
 use inputs::{Input, open};
 use properties::Evidence;
 use property_names::{Asked, property_called};

@@ -1,3 +1,4 @@
 pub mod Layouts
 pub mod Loading
 pub mod Numbers
+pub mod Written

@@ -7,7 +7,8 @@ ghost use Rattle.aiger.specs.declared.load_error.LoadError.TheVariants.{Device};
 
 use crate::load_error::LoadError;
 use crate::reading::read;
-use graph::{AigerFile, ReadAllError, ReadError, Source, read_all};
+use base::{ReadAllError, Source, read_all};
+use graph::{AigerFile, ReadError};
 use std::alloc::Global;
 
 /// The most bytes that the text of a circuit may have (AIGER 1.9 sets no limit; this one is the

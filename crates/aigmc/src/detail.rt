@@ -2,8 +2,9 @@
 
 use aigmc_files::{DEVICE, Has, NO_HEADER, Role, Stop, is_terminal};
 use arguments::{Asked, Request};
+use base::{FromRead, read_to_end};
 use explanations::{is_at_byte, meaning, other_format, position_behind};
-use graph::{FromRead, Property, read_to_end};
+use graph::Property;
 use inputs::{is_standard, open};
 use std::fs;
 use std::io::Read;

@@ -26,7 +26,7 @@
 //! `--budget` is how many steps the search may cost. With `--cert OUT` the certificate of a property that
 //! holds is written to OUT before anything is printed; OUT may name neither the circuit's file nor the file
 //! that standard output goes to. With `--out DIR` evidence goes to the folder DIR, as with `all`. What is said is
-//! `cli::decide`'s. `--timeout` ends the search after so many seconds, of `all` for all properties together: what is left of
+//! `verdict::decide`'s. `--timeout` ends the search after so many seconds, of `all` for all properties together: what is left of
 //! the budget is spent then. `--quiet` leaves out a run, and `--json` prints a line of JSON for each property instead. P may
 //! be a name of the symbol table here and in all other commands, where exactly one property has it.
 //!
@@ -75,12 +75,12 @@
 mod detail;
 mod explaining;
 
+use aiger::Layout;
 use aigmc_circuits::{Pair, extract, make_fitting, make_shadow, make_witness, trace};
 use aigmc_commands::{begin, certify_clauses, check, check_all, check_miter, cover, recertify};
 use aigmc_files::{DONE, FAULT, Stop, circuit, finished, print_table, stimulus_of, tell};
 use arguments::{AskedLayout, Request, Search, Wrong, parse};
 use base::push;
-use cli::Layout;
 use detail::tell_detail;
 use explaining::explain;
 use inputs::is_standard;

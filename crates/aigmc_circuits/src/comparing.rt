@@ -1,9 +1,9 @@
 //! The miter that the command `equal` asks about: it has a run to its bad literal where two circuits differ.
 
+use aiger::Layout;
 use aigmc_files::{
     Role, Stop, at, circuit, circuit_of, expect_folder, is_taken, is_terminal, make,
 };
-use cli::Layout;
 use graph::{AigerFile, Model, Property};
 use inputs::is_standard;
 use properties::{Evidence, evidence_name};

@@ -1,20 +1,22 @@
 //! The commands `to-safety` and `extract`: circuits that are made of one.
 
+use aiger::Layout;
 use aigmc_files::{
-    DONE, Role, Stop, about, asked_for, circuit, fault_of, is_same, make, path_of, property_in,
+    CommandError, DONE, Role, Stop, about, asked_for, circuit, fault_of, is_same, make, path_of,
+    property_in,
 };
 use arguments::{Extraction, Shadow};
-use cli::{CliError, Layout, ready};
 use graph::{AigerFile, Property};
 use property_names::Asked;
+use shrink::ready;
 use std::alloc::Global;
 use transforms::{extracted, shadow_file};
 
 /// The circuit as the layout takes it: for the binary one in its numbering.
-fn fitting(alloc: Global, file: AigerFile, layout: Layout) -> Result<AigerFile, CliError> {
+fn fitting(alloc: Global, file: AigerFile, layout: Layout) -> Result<AigerFile, CommandError> {
     match layout {
         Layout::Ascii => Ok(file),
-        Layout::Binary => ready(alloc, file).map_err(CliError::from),
+        Layout::Binary => ready(alloc, file).map_err(CommandError::from),
     }
 }
 

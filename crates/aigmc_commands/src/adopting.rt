@@ -10,14 +10,15 @@ use aigmc_files::{
     read_text,
 };
 use arguments::{Claim, EngineKind, Search};
+use base::{Budget, Seq};
 use certify::{Certified, certify};
-use cli::Verdict;
-use graph::{AigerFile, Budget, Lit, Property, Seq};
+use graph::{AigerFile, Lit, Property};
 use inputs::is_standard;
 use portfolio::Question;
 use property_names::symbol_of;
 use std::alloc::Global;
 use transforms::shadow_file;
+use verdict::Verdict;
 
 /// The status of clauses that are no inductive invariant which excludes the property's literal.
 const NO_INVARIANT: u8 = 1;

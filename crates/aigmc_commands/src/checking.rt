@@ -5,17 +5,18 @@ ghost use Rattle.std.specs.Prelude.{◌≡◌, ◌≢◌, ◌<◌, ◌≤◌, �
 use crate::showing::Found;
 use crate::timing::{ask, begin, is_vacuous, now};
 use aigmc_files::{
-    DONE, Role, Stop, UNKNOWN, VIOLATED, about, asked_for, at, circuit, expect_folder, fault_of,
-    is_taken, property_in,
+    CommandError, DONE, Role, Stop, UNKNOWN, VIOLATED, about, asked_for, at, circuit,
+    expect_folder, fault_of, is_taken, property_in,
 };
 use arguments::{Kept, Search};
-use cli::{CliError, Verdict};
+use base::Seq;
 use engine::Counter;
-use graph::{AigerFile, Lit, Property, Seq};
+use graph::{AigerFile, Lit, Property};
 use portfolio::{Answered, Question, Timing};
 use properties::{Evidence, all_properties, evidence_name};
 use std::time::Instant;
 use transforms::relevant_clauses;
+use verdict::Verdict;
 
 /// How long a search was.
 #[derive(Clone, Copy)]
@@ -301,7 +302,7 @@ pub fn check_all(
         timing,
         is_vacuous: is_vacuous(rt, timing, file.model())?,
     };
-    let properties = all_properties(rt.alloc(), file.model()).map_err(CliError::from)?;
+    let properties = all_properties(rt.alloc(), file.model()).map_err(CommandError::from)?;
     let mut clauses = Seq::new(rt.alloc());
     let mut status = first_status(properties.as_slice());
     if properties.is_empty() {

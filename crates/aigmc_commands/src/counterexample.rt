@@ -1,8 +1,9 @@
 //! What satisfies a case of clauses that are no invariant, in words.
 
 use aigmc_files::Stop;
+use base::Seq;
 use certify::{Case, Counterexample};
-use graph::{Model, Property, Seq};
+use graph::{Model, Property};
 use live_safe::to_safety;
 use std::fmt;
 

@@ -4,12 +4,13 @@ use crate::telling::Why;
 use crate::timing::{ask, begin};
 use aigmc_files::{DONE, Role, Stop, UNKNOWN, about, circuit, print_stimulus};
 use arguments::Search;
-use cli::Verdict;
+use base::Seq;
 use engine::Reason;
-use graph::{Model, Property, Seq};
+use graph::{Model, Property};
 use portfolio::Question;
 use stimulus::Stimulus;
 use transforms::{bad_behind, no_bad};
+use verdict::Verdict;
 
 /// The status where no run keeps the constraints so long.
 const NO_RUN: u8 = 1;

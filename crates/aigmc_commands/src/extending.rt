@@ -3,9 +3,9 @@
 use crate::recertifying::listed;
 use crate::third::Claimed;
 use aigmc_files::{Role, Stop, about};
-use base::Refused;
+use base::{Refused, Seq};
 use certificate3::Claim;
-use graph::{Lit, Model, Property, Seq};
+use graph::{Lit, Model, Property};
 use std::alloc::Global;
 
 /// The number of latches and gates that extend nothing.

@@ -3,12 +3,12 @@
 use crate::telling::{Why, conclude, tell_counters};
 use aigmc_files::{Stop, finished, keep, keep_and_print, print_alone, status_of};
 use arguments::Search;
-use cli::Verdict;
 use engine::Counter;
 use graph::{AigerFile, Property};
 use property_names::{Line, symbol_of};
 use std::fmt;
 use std::time::{Duration, Instant};
+use verdict::Verdict;
 
 /// A verdict, and what it is of.
 #[derive(Clone, Copy)]
@@ -37,7 +37,7 @@ pub struct Found<'a> {
     pub is_vacuous: bool,
 }
 
-/// Whether the judge accepted the evidence before the verdict was given, or nothing where none was asked: `cli::decide` has each
+/// Whether the judge accepted the evidence before the verdict was given, or nothing where none was asked: `verdict::decide` has each
 /// run replayed, and no certificate that it makes.
 fn checked(verdict: &Verdict) -> &'static str {
     match verdict {

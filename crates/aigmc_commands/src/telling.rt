@@ -1,12 +1,12 @@
 //! What standard error says of a search when it ends.
 
-use cli::Verdict;
 use engine::{Counter, Reason};
 use explanations::Printable;
 use graph::Property;
 use property_names::Name;
 use std::fmt;
 use stimulus::Stimulus;
+use verdict::Verdict;
 
 /// Says what the engines counted, a line for each counter but those that are 0.
 pub fn tell_counters(rt: &HostRuntime, counters: &[Counter]) {

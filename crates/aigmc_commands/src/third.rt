@@ -2,11 +2,11 @@
 
 use crate::counterexample::{Values, tell_case};
 use aigmc_files::{DONE, Role, Stop, about, make_bytes};
-use base::{Lists, Refused, Seq};
+use base::{Budget, Lists, Refused, Seq};
 use certificate3::Claim;
 use certify::Case as EarlierCase;
 use certify3::{Case, Certified, Counterexample, Extension, certify};
-use graph::{Budget, Gate, Latch, Lit, Model};
+use graph::{Gate, Latch, Lit, Model};
 use std::alloc::Global;
 
 /// The status of clauses that are no inductive invariant which excludes the property's literal.

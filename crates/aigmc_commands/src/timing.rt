@@ -1,10 +1,10 @@
 //! How a command looks at a question.
 
 use crate::vacuity;
-use aigmc_files::{Role, Stop, about, finished, is_terminal};
+use aigmc_files::{CommandError, Role, Stop, about, finished, is_terminal};
 use arguments::Search;
-use cli::CliError;
-use graph::{Lit, Model, Seq};
+use base::Seq;
+use graph::{Lit, Model};
 use portfolio::{Answered, Deadline, Question, Shown, Timing};
 use std::time::Instant;
 
@@ -36,7 +36,7 @@ pub fn ask(
     question: Question<'_>,
     candidates: Seq<Seq<Lit>>,
 ) -> Result<Answered, Stop> {
-    let answered = question.ask(rt, candidates).map_err(CliError::from)?;
+    let answered = question.ask(rt, candidates).map_err(CommandError::from)?;
     Ok(answered)
 }
 

@@ -1,7 +1,6 @@
 //! Whether a run keeps the constraints at all.
 
-use aigmc_files::Stop;
-use cli::CliError;
+use aigmc_files::{CommandError, Stop};
 use graph::Model;
 use portfolio::{Deadline, is_shown_safe};
 use std::alloc::Global;
@@ -14,6 +13,6 @@ pub fn is_vacuous(alloc: Global, circuit: &Model, deadline: Deadline) -> Result<
         return Ok(false);
     }
     let covered = always_bad(alloc, circuit)?;
-    let is_shown = is_shown_safe(alloc, &covered, deadline).map_err(CliError::from)?;
+    let is_shown = is_shown_safe(alloc, &covered, deadline).map_err(CommandError::from)?;
     Ok(is_shown)
 }

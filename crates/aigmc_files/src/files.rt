@@ -3,18 +3,20 @@
 ghost use Rattle.std.specs.Prelude.{◌≡◌, IfOk, Ok};
 ghost use Rattle.verdict.specs.Verdicts.{status_of as wanted_status};
 
+use crate::command_error::CommandError;
 use crate::making::{Making, is_same};
 use crate::stop::{DONE, Role, Stop, about, at, finished, read_of};
-use base::{Refused, buffered};
-use cli::{CliError, Layout, Verdict, load, put_certificate, put_file, put_table, show};
-use graph::{AigerFile, FromRead, Model, Property, ReadAllError, Seq, ToWrite, read_all};
+use aiger::{Layout, load, put_file};
+use base::{FromRead, ReadAllError, Refused, Seq, ToWrite, buffered, read_all};
+use graph::{AigerFile, Model, Property};
 use inputs::{is_standard, open};
 use property_names::Name;
 use std::fs::File;
 use std::io;
 use std::io::{BufWriter, Write};
-use stimulus::Stimulus;
+use stimulus::{Stimulus, put_table};
 use trace::{put_open_trace, put_open_vcd, put_trace, put_vcd};
+use verdict::{Verdict, show};
 use witness::{Loose, WitnessError};
 
 /// The status of a violation.
@@ -46,7 +48,7 @@ pub fn read_text(rt: &HostRuntime, name: &str) -> Result<Vec<u8>, Stop> {
     match read_all(rt.alloc(), &mut FromRead::new(file), MOST) {
         Ok(text) => Ok(text),
         Err(ReadAllError::OutOfMemory(refused)) => Err(Stop::from(refused)),
-        Err(ReadAllError::Device) => Err(Stop::Refused(CliError::Device)),
+        Err(ReadAllError::Device) => Err(Stop::Refused(CommandError::Device)),
         Err(ReadAllError::TooLong) => Err(Stop::Fault {
             number: TOO_LONG,
             place: MOST as u64,
@@ -57,7 +59,7 @@ pub fn read_text(rt: &HostRuntime, name: &str) -> Result<Vec<u8>, Stop> {
 /// The circuit that the file of this name spells.
 fn read_circuit(rt: &HostRuntime, name: &str) -> Result<AigerFile, Stop> {
     let file = finished(open(rt, name))?;
-    let file = load(rt.alloc(), &mut FromRead::new(file)).map_err(CliError::Load)?;
+    let file = load(rt.alloc(), &mut FromRead::new(file)).map_err(CommandError::Load)?;
     Ok(file)
 }
 
@@ -74,7 +76,7 @@ pub fn circuit(rt: &HostRuntime, name: &str) -> Result<AigerFile, Stop> {
 /// The stimulus that the file of this name spells.
 fn read_stimulus(rt: &HostRuntime, name: &str) -> Result<Stimulus, Stop> {
     let text = read_text(rt, name)?;
-    let stimulus = stimulus::read(rt.alloc(), text.as_slice()).map_err(CliError::Stimulus)?;
+    let stimulus = stimulus::read(rt.alloc(), text.as_slice()).map_err(CommandError::Stimulus)?;
     Ok(stimulus)
 }
 
@@ -122,7 +124,7 @@ fn read_shown(rt: &HostRuntime, name: &str, circuit: &Model) -> Result<Shown, St
         Ok(stimulus) => Ok(Shown::Whole(stimulus)),
         Err(error) => match open_of(rt, circuit, text.as_slice())? {
             Some(loose) => Ok(Shown::Open(loose)),
-            None => Err(Stop::from(CliError::Stimulus(error))),
+            None => Err(Stop::from(CommandError::Stimulus(error))),
         },
     }
 }
@@ -168,8 +170,8 @@ fn write_circuit<W: Write + Drop>(
 ) -> Result<(), Stop> {
     let out = buffered(rt.alloc(), out)?;
     let mut out = ToWrite::new(out);
-    let put = put_file(file, layout, &mut out).map_err(Stop::from);
-    settled(out, put)
+    let put = put_file(file, layout, &mut out).map_err(CommandError::from);
+    settled(out, put.map_err(Stop::from))
 }
 
 /// Makes the file of this name with the circuit's text.
@@ -192,12 +194,12 @@ fn write_evidence(
     let out = buffered(rt.alloc(), out)?;
     let mut out = ToWrite::new(out);
     let put = match verdict {
-        Verdict::Safe(certificate) => put_certificate(certificate, &mut out).map_err(
-            CliError::from,
+        Verdict::Safe(certificate) => certificate::write(certificate, &mut out).map_err(
+            CommandError::from,
         ),
         _ => show(property, verdict, &mut out)
             .map(|_| ())
-            .map_err(CliError::from),
+            .map_err(CommandError::from),
     };
     settled(out, put.map_err(Stop::from))
 }
@@ -218,7 +220,7 @@ pub fn keep(
 fn write_stimulus<W: Write + Drop>(rt: &HostRuntime, out: W, shown: &Stimulus) -> Result<(), Stop> {
     let out = buffered(rt.alloc(), out)?;
     let mut out = ToWrite::new(out);
-    let put = stimulus::write(shown, &mut out).map_err(|_| CliError::Device);
+    let put = stimulus::write(shown, &mut out).map_err(|_| CommandError::Device);
     settled(out, put.map_err(Stop::from))
 }
 
@@ -245,7 +247,7 @@ pub fn make_bytes(rt: &HostRuntime, name: &str, bytes: &[u8]) -> Result<(), Stop
 pub fn print_table(rt: &HostRuntime, file: &AigerFile, stimulus: &Stimulus) -> Result<(), Stop> {
     let out = buffered(rt.alloc(), io::writer(rt))?;
     let mut out = ToWrite::new(out);
-    let put = put_table(rt.alloc(), file.model(), stimulus, &mut out).map_err(CliError::from);
+    let put = put_table(rt.alloc(), file.model(), stimulus, &mut out).map_err(CommandError::from);
     settled(out, about(Role::Stimulus, put.map_err(Stop::from)))
 }
 
@@ -265,7 +267,7 @@ pub fn print_trace(
             put_open_trace(rt.alloc(), file, initial, inputs, all, &mut out)
         }
     };
-    let put = put.map_err(CliError::from);
+    let put = put.map_err(CommandError::from);
     settled(out, about(Role::Stimulus, put.map_err(Stop::from)))
 }
 
@@ -286,7 +288,7 @@ fn write_waveform<W: Write + Drop>(
             put_open_vcd(rt.alloc(), file, initial, inputs, all, &mut out)
         }
     };
-    let put = put.map_err(CliError::from);
+    let put = put.map_err(CommandError::from);
     settled(out, about(Role::Stimulus, put.map_err(Stop::from)))
 }
 
@@ -334,7 +336,9 @@ pub fn keep_and_print(
         None => Ok(()),
     };
     let put = match kept {
-        Ok(()) => show(property, verdict, &mut out).map_err(|_| Stop::Refused(CliError::Device)),
+        Ok(()) => show(property, verdict, &mut out).map_err(|_| Stop::Refused(
+            CommandError::Device,
+        )),
         Err(stop) => Err(stop),
     };
     settled(out, put)

@@ -4,6 +4,7 @@
 //! it is about.
 #![tactic(auto)]
 
+mod command_error;
 mod files;
 mod making;
 mod missing;
@@ -11,6 +12,7 @@ mod naming;
 mod stop;
 mod terminal;
 
+pub use command_error::CommandError;
 pub use files::{
     Shown, UNKNOWN, VIOLATED, circuit, circuit_of, is_taken, keep, keep_and_print, make,
     make_bytes, make_stimulus, make_waveform, path_of, print_alone, print_stimulus, print_table,

@@ -1,7 +1,7 @@
 //! Files that are made whole or not at all.
 
+use crate::command_error::CommandError;
 use crate::stop::{Stop, finished};
-use cli::CliError;
 use std::fs;
 use std::fs::{File, OpenOptions, Permissions};
 use std::io::ErrorKind;
@@ -59,7 +59,7 @@ pub fn expect_folder(rt: &HostRuntime, name: &str) -> Result<(), Stop> {
     if finished(fs::metadata(rt, name))?.is_dir() {
         return Ok(());
     }
-    Err(Stop::Refused(CliError::Device))
+    Err(Stop::Refused(CommandError::Device))
 }
 
 impl<'a> Making<'a> {
@@ -83,7 +83,7 @@ impl<'a> Making<'a> {
                 }
             }
         }
-        Err(Stop::Refused(CliError::Device))
+        Err(Stop::Refused(CommandError::Device))
     }
 
     /// The file beside, which has the mode of the old one from now on.

@@ -1,9 +1,9 @@
 //! Why a command was not done.
 
+use crate::command_error::CommandError;
 use base::Refused;
 use certify::CertifyError;
 use certify3::CertifyError as ThirdError;
-use cli::CliError;
 use explanations::word_of;
 use graph::{Property, ReadError};
 use invariant::InvariantError;
@@ -64,8 +64,8 @@ pub enum Stop {
     /// There is no memory for the words, or for the system at a file.
     Memory,
     /// A call refused.
-    Refused(CliError),
-    /// A call beside those of `cli` refused, with this number and place.
+    Refused(CommandError),
+    /// Another call refused, with this number and place.
     Fault {
         /// the refusal's number
         number: u8,
@@ -96,15 +96,15 @@ pub enum Stop {
     },
 }
 
-impl From<CliError> for Stop {
-    fn from(e: CliError) -> Stop {
+impl From<CommandError> for Stop {
+    fn from(e: CommandError) -> Stop {
         Stop::Refused(e)
     }
 }
 
 impl From<Refused> for Stop {
     fn from(refused: Refused) -> Stop {
-        Stop::Refused(CliError::from(refused))
+        Stop::Refused(CommandError::from(refused))
     }
 }
 

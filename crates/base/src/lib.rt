@@ -15,7 +15,6 @@ mod budget;
 mod given;
 mod grow;
 mod lists;
-mod readers;
 mod refused;
 mod seq;
 mod sink;
@@ -28,7 +27,6 @@ pub use grow::{
     reserve_one, small,
 };
 pub use lists::Lists;
-pub use readers::{bytes_left, read_given};
 pub use refused::Refused;
 pub use seq::Seq;
 pub use sink::{Sink, ToVec, ToWrite};

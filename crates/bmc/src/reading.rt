@@ -7,8 +7,8 @@ ghost use Rattle.bmc.specs.Cones.{IsConeOf};
 ghost use Rattle.bmc.specs.Lines.{IsLine, AreLines};
 
 use crate::cone::Cone;
-use base::{Refused, filled};
-use graph::{Model, Seq};
+use base::{Refused, Seq, filled};
+use graph::Model;
 use std::alloc::Global;
 
 /// Whether the literal is true.

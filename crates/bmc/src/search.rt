@@ -14,10 +14,10 @@ use crate::cone::{Cone, cone_of};
 use crate::frame::literal;
 use crate::reading::{lines, state_of};
 use crate::unrolling::{Unrolling, begin};
-use base::Refused;
+use base::{Budget, Refused};
 use cnf::NextTable;
 use engine::{Counters, Engine, EngineError, Finding, Progress, Reason, Silent};
-use graph::{Budget, Model};
+use graph::Model;
 use solver::{Answer, Sat, count};
 use std::alloc::Global;
 

@@ -1,10 +1,9 @@
 -- Lines are read from the piece that comes next.
-use Rattle.std.proofs.Common.{◌≡◌, ℕ, suc, ◌+◌, ◌-◌, ◌^◌, ◌<◌, ◌≤◌, ◌%◌, Bool, true, leb, ◌&&◌, List, [], ◌∷◌, ◌++◌, length, take, drop, get_or, Option, Some, None, All, ℤ, pos, negsuc, refl, sym, ap, ◌∙◌, append_assoc, arith, unsigned_abs}
+use Rattle.std.proofs.Common.{◌≡◌, ℕ, suc, ◌+◌, ◌-◌, ◌<◌, ◌≤◌, Bool, true, ◌&&◌, List, [], ◌∷◌, ◌++◌, length, take, drop, get_or, Option, Some, None, All, ℤ, pos, negsuc, refl, sym, ap, ◌∙◌, append_assoc, arith, unsigned_abs}
 use Rattle.std.specs.Prelude.{decimal, codes, flat_map}
 use Rattle.std.specs.Fmt.{signed_decimal}
 use Rattle.std.proofs.Math.Seq.{drop-append_seam}
-use Rattle.std.proofs.lemmas.Bool.{le-leb, and_parts}
-use Rattle.std.proofs.lemmas.Fmt.{decimal_by_steps}
+use Rattle.std.proofs.lemmas.Bool.{and_parts}
 use Rattle.std.proofs.lemmas.List.Elements.{All-head, All-tail}
 use Rattle.std.proofs.lemmas.List.{length-append, length-drop, length-take-le, take-append-drop}
 use Rattle.std.proofs.lemmas.Option.{none-some, same_Some}
@@ -17,6 +16,7 @@ use Rattle.graph.specs.declared.circuit.Property.{Property as AProperty}
 use Rattle.graph.specs.declared.circuit.Property.TheVariants.{Bad, Justice, Output}
 use Rattle.graph.specs.Circuits.{position_of, property_text}
 use Rattle.pieces.specs.Pieces.{is_inner, piece_at, GoesOn}
+use Rattle.pieces.proofs.LineTexts.{IsLineText, goes_decimal, piece_of_line}
 use Rattle.pieces.proofs.PieceLaws.{goes_nil, goes_one, goes_append, piece_whole}
 use Rattle.lrat.specs.Limits.{IsId, IsHint, IsLine}
 use Rattle.lrat.specs.Literals.{IsLiteral}
@@ -34,23 +34,6 @@ use Rattle.certificate.proofs.HeadLaws.{IsFirstLine, IsPropertyLine, IsClauseLin
 use Rattle.certificate.proofs.SectionLaws.{IsItem, item_reads}
 
 -- ---- what is a line
-
--- bytes that may stand in a line before its end, and the line end
-abbrev pub IsLineText : List ℕ → Type 0
-IsLineText t = (body : List ℕ) × GoesOn body × (t ≡ body ++ 10 ∷ [])
-
-digit_inner : (d : ℕ) → d < 10 → is_inner (48 + d) ≡ true
-digit_inner d lt =
-    let low : leb 48 (48 + d) ≡ true = le-leb 48 (48 + d) (omega arith) in
-    let high : leb (48 + d) 57 ≡ true = le-leb (48 + d) 57 (omega arith) in
-    rw (low, high) refl
-
-pub goes_decimal : (n : ℕ) → n < 2 ^ 64 → GoesOn (decimal n)
-goes_decimal n lt =
-    decimal_by_steps (λ n ds. GoesOn ds)
-    (λ n lt. goes_one (48 + n) (digit_inner n lt))
-    (λ n ds ge before. goes_append ds ((48 + n % 10) ∷ []) before (goes_one (48 + n % 10) (digit_inner (n % 10) (omega arith))))
-    n lt
 
 -- a number, and then others
 goes_signed : (z : ℤ) → unsigned_abs z < 4294967296 → GoesOn (signed_decimal z)
@@ -149,10 +132,6 @@ letter_is_line : (k : SectionKind) (t : List ℕ) (u : Unit {0}) → IsLetterLin
 letter_is_line k t u s = (letter_of k ∷ [], goes_one (letter_of k) (letter_inner k), s)
 
 -- ---- a line is read from its piece
-
-piece_of_line : (body rest : List ℕ) → GoesOn body → piece_at ((body ++ 10 ∷ []) ++ rest) ≡ (body ++ 10 ∷ [], rest)
-unfolding piece_at
-piece_of_line body rest goes = ap piece_at (append_assoc body (10 ∷ []) rest) ∙ goes (10 ∷ rest)
 
 by_cases : {A : Type 0} (o : Read A) (e : Option A) (rest : List ℕ) → ((x : A) (r : List ℕ) → o ≡ Some (x, r) → (e ≡ Some x) × (r ≡ rest)) → ((x : A) → e ≡ Some x → o ≡ Some (x, rest)) → o ≡ (e >>= λ x. Some (x, rest))
 by_cases (Some (x, r)) e rest f g = let q = f x r refl in rw (q.0, q.1) refl

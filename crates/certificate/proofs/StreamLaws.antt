@@ -10,7 +10,7 @@ use Rattle.scan.specs.Words.{any, field_at}
 use Rattle.scan.specs.Lists.{many_at, until_at, items_at, value_then}
 use Rattle.scan.proofs.Loops.{with_front, regroup, many_more, many_done}
 use Rattle.pieces.specs.Pieces.{piece_at, Lies}
-use Rattle.pieces.proofs.PieceLaws.{piece_nil}
+use Rattle.pieces.proofs.PieceLaws.{nil_piece, piece_nil}
 use Rattle.lrat.specs.declared.line.Line.{Line as ALine}
 use Rattle.scan.specs.declared.fault.Fault.{Fault}
 use Rattle.scan.specs.declared.fault.Fault.TheVariants.{Memory, Text}
@@ -94,10 +94,6 @@ for_text total (Text kind.Byte left) P o f none = f none
 for_text total (Text kind.Truncated left) P o f none = f none
 
 -- ---- the end of the text
-
-nil_piece : (piece_at []).0 ≡ []
-unfolding piece_at
-nil_piece = refl
 
 -- no piece comes where no byte is left
 pub none_left : (held later ys zs : List ℕ) (n : ℕ) → n ≡ 0 → Lies held ys later zs n → held ++ ys ≡ []

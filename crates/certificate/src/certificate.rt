@@ -1,6 +1,7 @@
 //! Certificates.
 
-use graph::{Lit, Property, Seq};
+use base::Seq;
+use graph::{Lit, Property};
 use lrat::Proof;
 
 /// An invariant of a circuit, and a proof for each of its cases.

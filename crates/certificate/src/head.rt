@@ -4,7 +4,8 @@ ghost use Rattle.scan.specs.Reading.{Gives};
 ghost use Rattle.certificate.specs.Reading.{first_line_at, version_at, property_at, spaced_at, literals_at, clause_at};
 
 use crate::refusal::{IN_LINE, IN_PROPERTY, IN_VERSION, Refusal};
-use graph::{Lit, Property, Seq};
+use base::Seq;
+use graph::{Lit, Property};
 use scan::{Fault, LineKind, byte, field, lines_into, number, tag};
 use std::alloc::Global;
 

@@ -9,7 +9,8 @@ ghost use Rattle.certificate.specs.Writing.{SpelledByNone};
 use crate::cert_write_error::CertWriteError;
 use crate::certificate::Certificate;
 use crate::head::GREATEST;
-use graph::{Lit, Property, Seq};
+use base::Seq;
+use graph::{Lit, Property};
 use lrat::Proof;
 
 /// The greatest count of clauses, and of literals in a clause.

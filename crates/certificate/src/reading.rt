@@ -11,7 +11,7 @@ use crate::certificate::Certificate;
 use crate::head::{ClauseLine, GREATEST, first_line, property};
 use crate::refusal::{IN_LINE, Refusal, error};
 use crate::sections::{lemmas, sections};
-use graph::Seq;
+use base::Seq;
 use scan::{Fault, field, lines};
 use std::alloc::Global;
 

@@ -7,8 +7,7 @@ ghost use Rattle.certificate.specs.Reading.{item_at, lemmas_at, line_where, sect
 
 use crate::head::Version;
 use crate::refusal::{IN_LETTER, IN_LINE, Refusal};
-use base::{Refused, push};
-use graph::Seq;
+use base::{Refused, Seq, push};
 use lrat::{Line, LineBuffer, Proof, next_line};
 use scan::{Fault, LineKind, byte, lines};
 use std::alloc::Global;

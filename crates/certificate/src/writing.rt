@@ -12,8 +12,8 @@ ghost use Rattle.certificate.specs.declared.cert_write_error.CertWriteError.TheV
 use crate::cert_write_error::CertWriteError;
 use crate::certificate::Certificate;
 use crate::limits::{check, number, position};
-use base::{Failed, Sink, put_all};
-use graph::{Lit, Property, Seq};
+use base::{Failed, Seq, Sink, put_all};
+use graph::{Lit, Property};
 use itoa::Buffer;
 use lrat::{LratWriteError, Proof};
 

@@ -15,7 +15,8 @@ use Rattle.certificate.specs.Reading.{greatest, property_at, clause_at, certific
 use Rattle.certificate.specs.Streams.{parts_at}
 use Rattle.certificate.proofs.CertificateLaws.{certificate_reads as earlier_reads}
 use Rattle.certificate.proofs.HeadLaws.{line_of, first_line_reads as earlier_line_reads}
-use Rattle.certificate.proofs.LineLaws.{IsLineText, goes_all, of_piece}
+use Rattle.pieces.proofs.LineTexts.{IsLineText}
+use Rattle.certificate.proofs.LineLaws.{goes_all, of_piece}
 use Rattle.certificate.proofs.StreamLaws.{certificate_is}
 use Rattle.certificate3.specs.declared.first_line.Format.{Format}
 use Rattle.certificate3.specs.declared.first_line.Format.TheVariants.{Earlier, Three}

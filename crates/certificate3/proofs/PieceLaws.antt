@@ -9,7 +9,8 @@ use Rattle.graph.specs.Circuits.{position_of, property_text}
 use Rattle.pieces.specs.Pieces.{GoesOn}
 use Rattle.pieces.proofs.PieceLaws.{goes_one, goes_append}
 use Rattle.certificate.specs.Pieces.{IsOfPiece}
-use Rattle.certificate.proofs.LineLaws.{IsLineText, goes_decimal, goes_each, goes_property, of_piece, goes_all}
+use Rattle.pieces.proofs.LineTexts.{IsLineText, goes_decimal}
+use Rattle.certificate.proofs.LineLaws.{goes_each, goes_property, of_piece, goes_all}
 use Rattle.certificate3.specs.declared.claim.Claim.{Claim}
 use Rattle.certificate3.specs.declared.sizes.Sizes.{Sizes}
 use Rattle.certificate3.specs.Reading.{first_line_at, claim_at, sizes_at, latch_at, gate_at, hints_at}

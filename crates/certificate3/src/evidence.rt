@@ -1,7 +1,7 @@
 //! What shows a claim.
 
-use base::Lists;
-use graph::{Gate, Latch, Lit, Seq};
+use base::{Lists, Seq};
+use graph::{Gate, Latch, Lit};
 use lrat::Proof;
 
 /// Lines, and behind them for each clause the hints that show it.

@@ -5,8 +5,9 @@ ghost use Rattle.certificate3.specs.Reading.{claim_at, first_line_at, gate_at, h
 
 use crate::claim::{Claim, read_claim};
 use crate::sizes::Sizes;
+use base::Seq;
 use certificate::{GREATEST, IN_LINE, IN_VERSION, Refusal};
-use graph::{Gate, Latch, Lit, Seq};
+use graph::{Gate, Latch, Lit};
 use scan::{Fault, LineKind, byte, field, lines, number, tag};
 use std::alloc::Global;
 

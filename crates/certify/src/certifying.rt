@@ -18,9 +18,9 @@ use crate::certify_error::CertifyError;
 use crate::examining::examine;
 use crate::halt::Halt;
 use crate::proving::{Proofs, prove_cases};
-use base::{Budget, Refused};
+use base::{Budget, Refused, Seq};
 use certificate::Certificate;
-use graph::{Lit, Model, Property, Seq};
+use graph::{Lit, Model, Property};
 use live_safe::{LiveError, to_safety};
 use std::alloc::Global;
 

@@ -12,9 +12,8 @@ ghost use Rattle.certify.specs.Sections.{AreClosed, AreProofs, AreSectionsOver, 
 
 use crate::counterexample::{Case, Counterexample};
 use crate::halt::Halt;
-use base::Budget;
+use base::{Budget, Seq};
 use cdcl::{Closing, Refuter, Shown, section};
-use graph::Seq;
 use lrat::{Formula, Proof};
 use solver::{Part, SatError, Taken};
 use std::alloc::Global;

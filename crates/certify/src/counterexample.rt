@@ -3,8 +3,8 @@
 ghost use Rattle.std.specs.Prelude.{◌≡◌, IfOk};
 ghost use Rattle.graph.specs.Circuits.{next_state, inputs_of, state_of, value_of};
 
-use base::Refused;
-use graph::{Lit, Model, Seq};
+use base::{Refused, Seq};
+use graph::{Lit, Model};
 use std::alloc::Global;
 
 /// One of the cases of clauses that are to be an inductive invariant. The clauses count from 0.

@@ -6,9 +6,10 @@ ghost use Rattle.checker.specs.Accepted.{IsGood};
 ghost use Rattle.certify.specs.Causes.{IsFault};
 
 use crate::certify_error::CertifyError;
+use base::Seq;
 use checker::{ClauseError, check_clauses};
 use cnf::NextTable;
-use graph::{Lit, Model, Seq};
+use graph::{Lit, Model};
 use std::alloc::Global;
 
 /// The most clauses that a certificate may have.

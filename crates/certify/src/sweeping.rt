@@ -3,8 +3,9 @@
 ghost use Rattle.std.specs.Prelude.{◌≡◌, ◌+◌};
 ghost use Rattle.base.specs.Budget.{Spends};
 
+use base::{Budget, Seq};
 use cdcl::Refuter;
-use graph::{Budget, Lit, Model, Seq};
+use graph::{Lit, Model};
 use solver::SatError;
 use std::alloc::Global;
 use sweep::{STEPS, Sweep};

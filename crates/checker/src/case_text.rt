@@ -14,10 +14,10 @@ ghost use Rattle.checker.specs.Accepted.{cases, init_case, step_case};
 ghost use Rattle.checker.specs.Streamed.{AreOfCases};
 
 use crate::section_text::check_section;
-use base::Lists;
+use base::{Lists, Source};
 use certificate::{Reader, ReaderError, SectionKind, Version, skip_section, skip_sections};
 use cnf::{NextTable, bad_unit, init_units_into, step_units_into};
-use graph::{Lit, Model, Source};
+use graph::{Lit, Model};
 use lrat::{Fault, LineBuffer, Refuter};
 use std::alloc::Global;
 

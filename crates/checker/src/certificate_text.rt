@@ -29,14 +29,14 @@ use crate::check_error::CheckError;
 use crate::invariant::check_lists;
 use crate::section_text::take_lemmas;
 use crate::sections::start_refuter;
-use base::{Lists, Refused};
+use base::{Lists, Refused, Source};
 use certificate::{
     Reader, ReaderError, SectionKind, Version, read_clauses, skip_section, skip_sections,
 };
 use certificate3::{AnyFirstLine, Format};
 use checker3::check_behind;
 use cnf::{NextTable, shared_row};
-use graph::{Lit, Model, Property, Source};
+use graph::{Lit, Model, Property};
 use live_safe::{LiveError, to_safety};
 use lrat::{Fault, Refuter};
 use std::alloc::Global;

@@ -20,9 +20,10 @@ use crate::line::{Question, tell};
 use crate::run_error::RunError;
 use crate::stop::Stop;
 use aiger::load;
+use base::{Sink, Source};
 use checker3::refused_law;
 use extension::accepted_law;
-use graph::{AigerFile, Property, Sink, Source};
+use graph::{AigerFile, Property};
 use std::alloc::Global;
 
 /// The property that is shown safe of the circuit in the file, by the bytes of a source.

@@ -7,9 +7,9 @@ ghost use Rattle.checker.specs.Accepted.{IsGood};
 ghost use Rattle.checker.specs.Causes.{IsClauseFault, IsClausesFault};
 
 use crate::clause_error::ClauseError;
-use base::{Lists, filled};
+use base::{Lists, Seq, filled};
 use cnf::NextTable;
-use graph::{Lit, Model, Seq};
+use graph::{Lit, Model};
 use std::alloc::Global;
 
 /// What is wrong with a clause.

@@ -8,8 +8,8 @@ ghost use Rattle.checker.specs.declared.run_error.RunError.TheVariants.{Device};
 
 use crate::run_error::RunError;
 use crate::stop::Stop;
-use base::{Refused, extend, push};
-use graph::{Property, Sink, put_all};
+use base::{Refused, Sink, extend, push, put_all};
+use graph::Property;
 use itoa::Buffer;
 use std::alloc::Global;
 

@@ -16,8 +16,8 @@ ghost use Rattle.checker.specs.declared.run_error.RunError.TheVariants.{Device};
 use crate::certified::{run_safe, run_safe_for};
 use crate::replayed::{run_stimulus, run_stimulus_for};
 use crate::run_error::RunError;
-use base::FromRead;
-use graph::{Property, Sink};
+use base::{FromRead, Sink};
+use graph::Property;
 use std::alloc::Global;
 use std::io::Read;
 

@@ -19,7 +19,8 @@ use crate::line::{Question, tell};
 use crate::run_error::RunError;
 use crate::stop::Stop;
 use aiger::load;
-use graph::{AigerFile, Property, Sink, Source};
+use base::{Sink, Source};
+use graph::{AigerFile, Property};
 use replay::judge_source;
 use std::alloc::Global;
 

@@ -11,8 +11,8 @@ ghost use Rattle.certificate.specs.Streams.{FindsWith, letter_of};
 ghost use Rattle.certificate.specs.declared.reader_error.ReaderError.TheVariants.{Device};
 ghost use Rattle.checker.specs.Streamed.{AreLemmas, IsFed, IsOfCase};
 
+use base::Source;
 use certificate::{Reader, ReaderError, SectionKind, skip_lines};
-use graph::Source;
 use lrat::{Fault, LineBuffer, Refuter};
 use std::alloc::Global;
 

@@ -16,9 +16,10 @@ use crate::clauses::first_outside;
 use crate::growing::{GrowError, grow};
 use crate::refusal::Refusal;
 use crate::sections::{Claims, check_proofs};
+use base::Source;
 use certificate::{Reader, ReaderError, read_clauses};
 use certificate3::{SizesLine, read_gates, read_latches, skip_clauses, skip_proofs};
-use graph::{Lit, Model, Source};
+use graph::{Lit, Model};
 use std::alloc::Global;
 
 /// Reads the sections of these clauses, and checks the clauses and them. After the first fault they

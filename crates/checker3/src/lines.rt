@@ -14,11 +14,11 @@ ghost use Rattle.certificate.specs.declared.reader_error.ReaderError.TheVariants
 ghost use Rattle.certificate3.specs.Reading.{hints_at};
 ghost use Rattle.checker3.specs.Judged.{AreFed, AreHinted};
 
-use base::Lists;
+use base::{Lists, Source};
 use certificate::{Reader, ReaderError, SectionKind, skip_lines};
 use certificate3::{HintsLine, skip_hints};
 use cnf::{TimeFrame, clause_into};
-use graph::{Lit, Source};
+use graph::Lit;
 use lrat::{Fault, LineBuffer, Refuter};
 use std::alloc::Global;
 

@@ -15,11 +15,11 @@ ghost use Rattle.certificate3.specs.Reading.{later_at, proofs_at, shown_at};
 ghost use Rattle.checker3.specs.Judged.{HasLater, HasProofs, HoldsFirst, HoldsNext, IsDerived, IsRefuted};
 
 use crate::lines::{Timed, check_hints, feed_section};
-use base::{Lists, Refused};
+use base::{Lists, Refused, Source};
 use certificate::{Reader, ReaderError, SectionKind, skip_section};
 use certificate3::{skip_hints, skip_later};
 use cnf::{TimeFrame, bad_row, begin_row, pair_row};
-use graph::{Lit, Model, Source};
+use graph::{Lit, Model};
 use lrat::{Fault, Refuter};
 use std::alloc::Global;
 

@@ -14,10 +14,11 @@ ghost use Rattle.checker3.specs.Judged.{IsJudged, IsUnshowable};
 
 use crate::evidence::check_evidence;
 use crate::refusal::Refusal;
+use base::Source;
 use certificate::{Reader, ReaderError};
 use certificate3::{Claim, ClaimLine, FirstLine, skip_evidence};
 use extension::{accepted_law, are_few_rounds, count_rounds};
-use graph::{Model, Property, Source};
+use graph::{Model, Property};
 use live_safe::LiveError;
 use std::alloc::Global;
 

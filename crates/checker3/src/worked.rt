@@ -1,8 +1,8 @@
 //! Certificates by hand, of a latch that keeps its value.
 
 use crate::text::check_source;
-use base::FromBytes;
-use graph::{Latch, Lit, Model, Parts, ReadError, Seq};
+use base::{FromBytes, Seq};
+use graph::{Latch, Lit, Model, Parts, ReadError};
 use std::alloc::Global;
 use std::test::Fail;
 

@@ -1,10 +1,10 @@
 //! Circuits and clauses, with what comes of them.
 
 use crate::questions::{HOLD, Question, asked};
-use base::{Budget, Refused};
+use base::{Budget, Refused, Seq};
 use certify::{Certified, certify};
 use checker::check;
-use graph::{Lit, Model, Property, Seq};
+use graph::{Lit, Model, Property};
 use std::alloc::Global;
 use std::test::Fail;
 

@@ -1,10 +1,10 @@
 //! Refusals of certificates with their places.
 
 use crate::questions::{HOLD, Question, asked};
-use base::Refused;
+use base::{Refused, Seq};
 use certificate::{Certificate, read};
 use checker::check;
-use graph::{Lit, Model, Property, Seq};
+use graph::{Lit, Model, Property};
 use lrat::Proof;
 use std::alloc::Global;
 use std::test::Fail;

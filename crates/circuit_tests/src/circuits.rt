@@ -1,8 +1,8 @@
 //! Circuits that no text spells: refusals of parts and of lists of symbols.
 
 use crate::questions::{Question, asked};
-use base::Refused;
-use graph::{AigerFile, Gate, Latch, Lit, Model, Parts, ReadError, Seq, Symbol, SymbolKind};
+use base::{Refused, Seq};
+use graph::{AigerFile, Gate, Latch, Lit, Model, Parts, ReadError, Symbol, SymbolKind};
 use std::alloc::Global;
 use std::test::Fail;
 

@@ -1,11 +1,11 @@
 //! A certificate of 1,000 clauses, made and judged with ample memory.
 
-use base::Refused;
+use aiger::{Layout, put_file};
+use base::{Budget, FromBytes, Refused, Seq, ToVec};
 use certificate::Certificate;
 use certify::{Certified, certify};
 use checker::{check, run_safe};
-use cli::{Layout, put_certificate, put_file};
-use graph::{AigerFile, Budget, FromBytes, Latch, Lit, Model, Parts, Property, Seq, ToVec};
+use graph::{AigerFile, Latch, Lit, Model, Parts, Property};
 use std::alloc::Global;
 use std::test::Fail;
 
@@ -51,7 +51,7 @@ fn is_accepted(alloc: Global, circuit: Model, certificate: &Certificate) -> Resu
     let mut text = ToVec::new(alloc);
     put_file(&file, Layout::Binary, &mut text)?;
     let mut evidence = ToVec::new(alloc);
-    put_certificate(certificate, &mut evidence)?;
+    certificate::write(certificate, &mut evidence)?;
     let mut out = ToVec::new(alloc);
     let yes = run_safe(
         alloc,

@@ -1,10 +1,11 @@
 //! Refusals by number and place, their words, and words that name no property: what no line of a command has.
 
-use cli::{CliError, property_named};
+use aig::AigWriteError;
 use cnf::CnfError;
 use graph::{ReadError, is_name};
 use live_safe::LiveError;
 use lrat::{Fault, LratError, StepError};
+use property_names::property_named;
 use simulate::ReplayError;
 use std::alloc::Global;
 use std::fmt::Display;
@@ -12,7 +13,7 @@ use std::test::Fail;
 
 #[test]
 fn refusals_have_numbers(rt: HostRuntime) {
-    let (unordered, device) = (CliError::Unordered, CliError::Device);
+    let (unordered, device) = (AigWriteError::Unordered, AigWriteError::Device);
     assert!(rt; (unordered.number(), unordered.place()) == (17, 0));
     assert!(rt; (device.number(), device.place()) == (21, 0));
     let against = ReplayError::InitialReset { latch: 1 };

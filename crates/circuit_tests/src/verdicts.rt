@@ -1,10 +1,10 @@
 //! What no clause says: which runs and invariants are believed, and that calls succeed where there is memory.
 
 use crate::questions::{HOLD, Question, asked};
-use base::{Refused, boxed, push};
+use base::{Budget, Refused, Seq, ToVec, boxed, push};
 use checker::check;
 use engine::{Counters, Engine, EngineError, Finding, Reason};
-use graph::{Budget, Lit, Model, Property, Seq, ToVec};
+use graph::{Lit, Model, Property};
 use std::alloc::Global;
 use std::test::Fail;
 use verdict::{DecideError, Verdict, decide, show};

@@ -18,7 +18,7 @@ use Rattle.lrat.specs.Limits.{IsFormula}
 use Rattle.lrat.specs.Literals.{IsLiteral}
 use Rattle.lrat.specs.Shared.{unit_clauses}
 use Rattle.cnf.specs.Clauses.{signed, is_negated, literal, denial, truth_clause, gate_clauses, reset_clauses, frame_at, time_clauses, frame_clauses, start_clauses, init_units, init_clauses, shared_clauses, along, next_of, step_units, step_clauses, bad_units, bad_clauses}
-use Rattle.cnf.specs.Formulas.{IsOverLatches, IsOfTimes, IsOver, IsClause, IsInvariant, formula_of, frame_formula, start_formula, init_formula, shared_formula, step_formula, bad_formula}
+use Rattle.cnf.specs.Formulas.{IsOverLatches, IsOfTimes, IsOver, IsClause, IsInvariant, formula_of, frame_formula, start_formula, shared_formula}
 use Rattle.cnf.proofs.CaseLaws.{nexts, step_units_are}
 
 -- a literal of an allowed variable
@@ -296,28 +296,10 @@ start_formed m well =
     let latches = well.limits.latches in
     formed m (start_clauses m) well (start_from (λ u. u ≤ m.max_var + 1) m (allows_formula m well)) (omega (arith, resets_length m.max_var 0 m.latches))
 
-pub init_formed : (m : Parts) (c : List Lit) → IsWellFormed m → IsClause m c → IsFormula (init_formula m c)
-init_formed m c well clause =
-    let latches = well.limits.latches in let short = clause.short in
-    formed m (init_clauses m c) well (init_from (λ u. u ≤ m.max_var + 1) m c clause.over (allows_formula m well))
-    (omega (arith, length-append (start_clauses m) (unit_clauses (init_units m c)), resets_length m.max_var 0 m.latches, units_length (init_units m c), length-map c (denial m.max_var 0)))
-
 pub shared_formed : (m : Parts) (inv : List (List Lit)) → IsWellFormed m → IsInvariant m inv → IsFormula (shared_formula m inv)
 shared_formed m inv well invariant =
     let gates = well.limits.gates in let constraints = well.limits.constraints in let few = invariant.few in
     formed m (shared_clauses m inv) well (shared_from (λ u. u ≤ m.max_var + 1) m inv well invariant.clauses (allows_formula m well)) (omega (arith, shared_length m inv))
-
-pub step_formed : (m : Parts) (inv : List (List Lit)) (c : List Lit) → IsWellFormed m → IsInvariant m inv → IsClause m c → IsFormula (step_formula m inv c)
-step_formed m inv c well invariant clause =
-    let gates = well.limits.gates in let constraints = well.limits.constraints in let few = invariant.few in let short = clause.short in
-    formed m (step_clauses m inv c) well (step_from (λ u. u ≤ m.max_var + 1) m inv c well invariant.clauses clause.over (allows_formula m well))
-    (omega (arith, length-append (shared_clauses m inv) (unit_clauses (step_units m c)), shared_length m inv, units_length (step_units m c), length-map c (λ a. denial m.max_var 0 (next_of m.latches a))))
-
-pub bad_formed : (m : Parts) (inv : List (List Lit)) (a : Lit) → IsWellFormed m → IsInvariant m inv → IsKnown m a → IsFormula (bad_formula m inv a)
-bad_formed m inv a well invariant known =
-    let gates = well.limits.gates in let constraints = well.limits.constraints in let few = invariant.few in
-    formed m (bad_clauses m inv a) well (bad_from (λ u. u ≤ m.max_var + 1) m inv a well invariant.clauses known (allows_formula m well))
-    (omega (arith, length-append (shared_clauses m inv) (unit_clauses (bad_units m a)), shared_length m inv))
 
 -- units over their base
 pub init_units_from : (m : Parts) (c : List Lit) → IsWellFormed m → IsOverLatches m c → IsClauseFrom (λ u. u ≤ m.max_var + 1) (init_units m c)

@@ -9,13 +9,13 @@ ghost use Rattle.cnf.specs.Meaning.{FrameLaw};
 
 use crate::push::{push, push_constraints, push_gates, push_invariant, push_lists, push_resets};
 use crate::time_frame::TimeFrame;
-use base::{Lists, Refused};
-use graph::{Lit, Model, Seq};
+use base::{Lists, Refused, Seq};
+use graph::{Lit, Model};
 use lrat::{AddClause, Clause, ClauseRow, Formula};
 use std::alloc::Global;
 
 /// The clauses as a formula over the variables of one time.
-pub(crate) fn formula(circuit: &Model, clauses: Seq<Clause>) -> Formula
+fn formula(circuit: &Model, clauses: Seq<Clause>) -> Formula
     ensures { result ≡ formula_of circuit.now clauses }
 {
     circuit.well_formed();
@@ -81,7 +81,7 @@ fn frame_clauses(alloc: Global, circuit: &Model) -> Result<Seq<Clause>, Refused>
     Ok(clauses)
 }
 
-pub(crate) fn start_clauses(alloc: Global, circuit: &Model) -> Result<Seq<Clause>, Refused>
+fn start_clauses(alloc: Global, circuit: &Model) -> Result<Seq<Clause>, Refused>
     ensures { IfOk result (λ s. s ≡ start_list circuit.now) }
 {
     let mut clauses: Seq<Clause> = Seq::new(alloc);
@@ -89,7 +89,7 @@ pub(crate) fn start_clauses(alloc: Global, circuit: &Model) -> Result<Seq<Clause
     Ok(clauses)
 }
 
-pub(crate) fn shared_clauses(
+fn shared_clauses(
     alloc: Global,
     circuit: &Model,
     invariant: &[Seq<Lit>],

@@ -1,12 +1,11 @@
 //! Circuits as clauses (Tseitin 1968), and the cases that show an invariant.
 //!
 //! - `frame` is satisfied exactly by the valuations that agree with the circuit's gates.
-//! - `init_case`, `step_case` and `bad_case` are the cases of an invariant, a list of clauses over
-//!   the latches. Where nothing satisfies any of them, the circuit is safe: no run that keeps the
-//!   constraints sets the literal that is asked about.
-//! - `start_base` and `shared_base` are what cases begin with, and `init_units`, `step_units` and
-//!   `bad_unit` the literals that follow, each as a clause of its own. So all cases can be checked
-//!   over two formulas.
+//! - `start_base` and `shared_base` are what the cases of an invariant begin with, a list of clauses
+//!   over the latches, and `init_units`, `step_units` and `bad_unit` the literals that follow, each
+//!   as a clause of its own. So all cases can be checked over two formulas. Where nothing satisfies
+//!   any case, the circuit is safe: no run that keeps the constraints sets the literal that is asked
+//!   about.
 //! - `begin_row`, `pair_row` and `bad_row` are the same for clauses over any variables of the
 //!   circuit, gates and inputs too: over one time, over two times and over one.
 //! - `unroll` is satisfied exactly by the runs of a number of steps that keep the constraints, and
@@ -19,7 +18,6 @@
 #![tactic(auto)]
 
 mod bases;
-mod cases;
 mod error;
 mod next_table;
 mod push;
@@ -29,7 +27,6 @@ mod units;
 mod unrolling;
 
 pub use bases::{frame, shared_base, shared_row, start_base, start_row};
-pub use cases::{bad_case, init_case, step_case};
 pub use error::CnfError;
 pub use next_table::NextTable;
 pub use rows::{bad_row, begin_row, clause_into, pair_row};

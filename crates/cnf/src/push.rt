@@ -6,8 +6,8 @@ ghost use Rattle.cnf.specs.Clauses.{literal, denial, gate_clauses, reset_clauses
 ghost use Rattle.cnf.specs.Formulas.{IsGateIn, IsInRange};
 
 use crate::time_frame::TimeFrame;
-use base::{Lists, Refused};
-use graph::{Gate, Latch, Lit, Seq};
+use base::{Lists, Refused, Seq};
+use graph::{Gate, Latch, Lit};
 use lrat::AddClause;
 use std::alloc::Global;
 
@@ -17,20 +17,6 @@ pub fn push<C: AddClause>(alloc: Global, clauses: &mut C, clause: &[i32]) -> Res
     ensures { OnOk result (C.clauses clauses.new ≡ C.clauses clauses.old ++ clause.now ∷ []) }
 {
     clauses.add_clause(alloc, clause)
-}
-
-/// Adds each literal as a clause of its own.
-pub fn push_units<C: AddClause>(
-    alloc: Global,
-    clauses: &mut C,
-    literals: &[i32],
-) -> Result<(), Refused>
-    ensures { OnOk result (C.clauses clauses.new ≡ C.clauses clauses.old ++ unit_clauses literals.now) }
-{
-    for literal in literals {
-        push(alloc, clauses, &[*literal])?;
-    }
-    Ok(())
 }
 
 /// Adds the literals of clauses for literals of the circuit.

@@ -12,8 +12,8 @@ ghost use Rattle.cnf.specs.declared.error.CnfError.TheVariants.{Limit, OutOfMemo
 use crate::error::CnfError;
 use crate::push::{push, push_constraints, push_gates, push_resets};
 use crate::time_frame::TimeFrame;
-use base::Refused;
-use graph::{Latch, Model, Seq};
+use base::{Refused, Seq};
+use graph::{Latch, Model};
 use lrat::{AddClause, Clause, Formula};
 use std::alloc::Global;
 

@@ -8,9 +8,9 @@ ghost use Rattle.correspondence.specs.Answered.{IsAnswered};
 use crate::equal_latches::Correspondence;
 use crate::finding::correspond;
 use crate::merging::find_merged;
-use base::Refused;
+use base::{Budget, Refused};
 use engine::{Counters, Engine, EngineError, Finding, Progress, Silent};
-use graph::{Budget, Model};
+use graph::Model;
 use solver::PartSat;
 use std::alloc::Global;
 

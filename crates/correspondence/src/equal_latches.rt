@@ -1,6 +1,7 @@
 //! What is found of equal latches.
 
-use graph::{Lit, Seq};
+use base::Seq;
+use graph::Lit;
 
 /// What is found of latches that are equal: clauses that hold in every first state, and after each step from a state that
 /// satisfies all of them and keeps the constraints. Each says that a latch keeps its first value, or that it does where

@@ -7,9 +7,9 @@ ghost use Rattle.merged.specs.Laws.{AreInductive, AreLaws};
 ghost use Rattle.merged.specs.Merged.{IsMerged};
 ghost use Rattle.correspondence.specs.Answered.{IsAnswered, carried as carried_of};
 
-use base::Refused;
+use base::{Budget, Refused, Seq};
 use engine::{Engine, EngineError, Finding};
-use graph::{Budget, Lit, Model, Seq};
+use graph::{Lit, Model};
 use merged::merge;
 use std::alloc::Global;
 

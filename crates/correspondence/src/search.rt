@@ -3,8 +3,8 @@
 ghost use Rattle.base.specs.Budget.{Spends};
 
 use crate::classes::Classes;
-use base::{Refused, push};
-use graph::{Budget, Latch, Model};
+use base::{Budget, Refused, push};
+use graph::{Latch, Model};
 use rand_core::SeedableRng;
 use rand_pcg::Lcg128Xsl64;
 use random_runs::{Bias, Runs, draw_biases, draw_row, rare, uniform};

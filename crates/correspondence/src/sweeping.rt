@@ -3,7 +3,8 @@
 ghost use Rattle.std.specs.Prelude.{◌≡◌, ◌+◌};
 ghost use Rattle.base.specs.Budget.{Spends};
 
-use graph::{Budget, Lit, Model, Seq};
+use base::{Budget, Seq};
+use graph::{Lit, Model};
 use solver::{Answer, PartSat, SatError};
 use std::alloc::Global;
 use sweep::{STEPS, Sweep};

@@ -10,8 +10,8 @@ ghost use Rattle.engine.specs.declared.finding.Finding.{Finding};
 use crate::counters::Counters;
 use crate::engine_error::EngineError;
 use crate::finding::Finding;
-use base::Refused;
-use graph::{Budget, Model};
+use base::{Budget, Refused};
+use graph::Model;
 use std::alloc::Global;
 
 /// What looks for evidence about circuits with one bad literal.

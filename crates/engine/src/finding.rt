@@ -1,6 +1,7 @@
 //! What an engine finds.
 
-use graph::{Lit, Seq};
+use base::Seq;
+use graph::Lit;
 
 /// Why nothing is known.
 #[derive(Clone, Copy, PartialEq, Eq)]

@@ -9,8 +9,8 @@ use crate::counters::Counters;
 use crate::engine::Engine;
 use crate::engine_error::EngineError;
 use crate::finding::Finding;
-use base::Refused;
-use graph::{Budget, Model};
+use base::{Budget, Refused};
+use graph::Model;
 use std::alloc::Global;
 
 /// Asks an engine, and where that finds no evidence another one, with what is left of the budget.

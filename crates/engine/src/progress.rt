@@ -1,6 +1,6 @@
 //! How far a search has come.
 
-use graph::Budget;
+use base::Budget;
 
 /// What is told how far a search has come, with the budget as it is then. It answers nothing, and no search depends
 /// on it.

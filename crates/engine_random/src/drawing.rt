@@ -3,8 +3,7 @@
 ghost use Rattle.std.specs.Prelude.{◌≡◌, IfOk, length};
 ghost use Rattle.engine_random.specs.Words.{draws, words};
 
-use base::{Refused, push};
-use graph::Seq;
+use base::{Refused, Seq, push};
 use rand_core::utils::NextWord;
 use rand_pcg::Lcg128Xsl64;
 use std::alloc::Global;

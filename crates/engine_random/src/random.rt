@@ -8,9 +8,9 @@ ghost use Rattle.engine_random.specs.Findings.{IsRunOrSpent};
 
 use crate::batch::Batch;
 use crate::watch::{Unwatched, Watch};
-use base::Refused;
+use base::{Budget, Refused};
 use engine::{Counters, Engine, EngineError, Finding, Reason};
-use graph::{Budget, Model};
+use graph::Model;
 use rand_core::SeedableRng;
 use rand_pcg::Lcg128Xsl64;
 use std::alloc::Global;

@@ -3,8 +3,7 @@
 ghost use Rattle.std.specs.Prelude.{◌≡◌, ◌<◌, IfOk};
 ghost use Rattle.simulate.specs.Lanes.{row_of, rows_of};
 
-use base::{Refused, push};
-use graph::Seq;
+use base::{Refused, Seq, push};
 use simulate::lanes::value;
 use std::alloc::Global;
 use std::simd::u64x4;

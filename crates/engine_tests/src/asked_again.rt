@@ -9,13 +9,13 @@ ghost use Rattle.lrat.specs.Literals.{IsLiteral};
 
 use crate::bounded::circuit;
 use crate::solvers::{Trouble, formula, is_right, satisfies};
-use base::{Budget, Refused};
+use base::{Budget, Refused, Seq};
 use bmc::Bmc;
 use cdcl::{Cdcl, Refuted, Refuter};
 use correspondence::Corresponding;
 use engine::{Engine, EngineError, Finding, InOrder, Reason, Silent};
 use engine_random::Random;
-use graph::{Lit, Model, ReadError, Seq};
+use graph::{Lit, Model, ReadError};
 use ic3::Ic3;
 use lrat::{Formula, refutes};
 use solver::{Answer, Plain, Sat, SatError};

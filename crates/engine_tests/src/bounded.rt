@@ -5,9 +5,10 @@ ghost use Rattle.std.specs.Prelude.{◌≤◌, IfOk};
 ghost use Rattle.engine.specs.Findings.{IsForBad};
 
 use aag::read;
+use base::Budget;
 use bmc::Bmc;
 use engine::{Counters, Engine, EngineError, Finding, Reason};
-use graph::{Budget, Model, ReadError};
+use graph::{Model, ReadError};
 use solver::{Plain, Sat};
 use std::alloc::Global;
 use std::test::Fail;

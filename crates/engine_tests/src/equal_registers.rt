@@ -5,10 +5,11 @@ ghost use Rattle.engine.specs.Findings.{IsForBad};
 
 use crate::bounded::circuit;
 use crate::inductive::{is_backed, is_certified};
+use base::Budget;
 use cdcl::Cdcl;
 use correspondence::{Correspondence, Corresponding, correspond};
 use engine::{Engine, Silent};
-use graph::{Budget, Model};
+use graph::Model;
 use ic3::Ic3;
 use solver::{PartSat, Plain};
 use std::alloc::Global;

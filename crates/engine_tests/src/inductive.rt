@@ -4,11 +4,12 @@
 ghost use Rattle.engine.specs.Findings.{IsForBad};
 
 use crate::bounded::circuit;
+use base::{Budget, Seq};
 use cdcl::Cdcl;
 use certify::{Certified, certify};
 use checker::check;
 use engine::{Engine, Finding, Progress};
-use graph::{Budget, Lit, Model, Property, Seq};
+use graph::{Lit, Model, Property};
 use ic3::Ic3;
 use solver::{PartSat, Plain};
 use std::alloc::Global;

@@ -5,8 +5,8 @@
 ghost use Rattle.std.specs.Prelude.{IfOk};
 ghost use Rattle.engine.specs.Findings.{IsForBad};
 
-use base::{Refused, push};
-use graph::{Gate, Latch, Lit, Model, Parts, Seq};
+use base::{Refused, Seq, push};
+use graph::{Gate, Latch, Lit, Model, Parts};
 use rand_core::SeedableRng;
 use rand_core::utils::NextWord;
 use rand_pcg::Lcg128Xsl64;

@@ -8,8 +8,8 @@ ghost use Rattle.extension.specs.Rounds.{always, missing_gates, met_literals, op
 ghost use Rattle.extension.specs.Rows.{AreSpaced, HasCause, IsCountable};
 
 use crate::rows::{Rows, count_out};
-use base::{Refused, copied, push};
-use graph::{Gate, Latch, Lit, Model, Parts, ReadError, Seq};
+use base::{Refused, Seq, copied, push};
+use graph::{Gate, Latch, Lit, Model, Parts, ReadError};
 use live_safe::{
     LiveError, cleared, joins, negation, negative, positive, push_chain, wanted_count,
     wanted_literals,

@@ -1,8 +1,8 @@
 //! Texts with their values, with the number and the place of their refusal, and texts that are written.
 
-use base::{Refused, Sink, ToVec, ToWrite, push};
+use base::{Refused, Seq, Sink, ToVec, ToWrite, push};
 use certificate::{CertError, CertWriteError, Certificate, read, write};
-use graph::{Lit, Property, Seq};
+use graph::{Lit, Property};
 use lrat::{Line, Proof};
 use std::alloc::Global;
 use std::io::Cursor;

@@ -1,7 +1,8 @@
 //! PLAs as ABC writes them, with the clauses of their cubes, or with the number and the place of their refusal.
 
 use crate::questions::{Question, asked, repeated};
-use graph::{AigerFile, Lit, Seq};
+use base::Seq;
+use graph::{AigerFile, Lit};
 use invariant::{InvariantError, read, read_pla};
 use std::alloc::Global;
 use std::test::Fail;

@@ -2,7 +2,8 @@
 //! Stimuli that are cut are lines `cut-sim` of `cases/texts.tsv`.
 
 use crate::questions::{Question, asked};
-use graph::{AigerFile, Model, ToVec};
+use base::ToVec;
+use graph::{AigerFile, Model};
 use std::alloc::Global;
 use std::test::Fail;
 use stimulus::{JudgeError, StimWriteError, Stimulus, judge, read, write};

@@ -88,18 +88,6 @@ impl AigerFile {
         AigerFile { model, ..self }
     }
 
-    /// The circuit alone.
-    pub fn into_model(self) -> Model
-        ensures { result ≡ self.model }
-    {
-        let AigerFile {
-            model,
-            symbols: _,
-            comment: _,
-        } = self;
-        model
-    }
-
     /// The symbols, in the order of the file.
     pub fn symbols(&self) -> &[Symbol]
         ensures list { result.now ≡ self.now.symbols }

@@ -9,7 +9,7 @@
 //!   and touches each gate once.
 //!
 //! Nothing here recurses, and no pass is worse than linear: a chain of gates of any depth costs
-//! neither stack nor time beyond its length. The items of `base` are handed on by name.
+//! neither stack nor time beyond its length.
 #![tactic(auto)]
 
 mod check;
@@ -25,10 +25,6 @@ mod ordering;
 mod parts;
 mod symbol;
 
-pub use base::{
-    Budget, Failed, FromBytes, FromRead, ReadAllError, ReadToEndError, Refused, Seq, Sink, Source,
-    ToVec, ToWrite, put_all, read_all, read_to_end,
-};
 pub use circuit::{Gate, Latch, Lit, Property};
 pub use error::ReadError;
 pub use file::AigerFile;

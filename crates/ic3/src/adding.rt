@@ -7,8 +7,9 @@ ghost use Rattle.ic3.specs.Sound.{IsSound};
 ghost use Rattle.ic3.specs.Answers.{IsInductiveFrom};
 
 use crate::frame_solver::FrameSolver;
+use base::Seq;
 use engine::EngineError;
-use graph::{Model, Seq};
+use graph::Model;
 use ic3_frames::Frames;
 use ic3_step::{Counted, StateLit};
 use solver::PartSat;

@@ -7,8 +7,9 @@ ghost use Rattle.ic3.specs.Sound.{IsSound};
 ghost use Rattle.ic3.specs.Answers.{IsAtBad};
 
 use crate::frame_solver::{FrameSolver, guards_from};
+use base::Budget;
 use engine::EngineError;
-use graph::{Budget, Model};
+use graph::Model;
 use ic3_frames::Frames;
 use ic3_step::{Assignment, Reply};
 use solver::PartSat;

@@ -10,9 +10,9 @@ ghost use Rattle.ic3.specs.declared.blocking.Blocking.TheVariants.{Blocked};
 
 use crate::frame_solver::FrameSolver;
 use crate::reset::reset_literal;
-use base::Refused;
+use base::{Budget, Refused, Seq};
 use engine::EngineError;
-use graph::{Budget, Model, Seq};
+use graph::Model;
 use ic3_frames::Frames;
 use ic3_step::{Assignment, Consecution, Counted, StateLit};
 use solver::PartSat;

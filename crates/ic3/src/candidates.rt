@@ -9,9 +9,9 @@ ghost use Rattle.ic3.specs.Candidates.{HasPositions, AreInside};
 
 use crate::frame_solver::FrameSolver;
 use crate::reset::reset_literal;
-use base::{Refused, filled, push};
+use base::{Budget, Refused, Seq, filled, push};
 use engine::EngineError;
-use graph::{Budget, Lit, Model, Seq};
+use graph::{Lit, Model};
 use ic3_frames::Frames;
 use ic3_step::StateLit;
 use solver::PartSat;

@@ -10,9 +10,9 @@ ghost use Rattle.ic3_frames.specs.Frames.{InFrame, AreFrames, IsStateClause};
 ghost use Rattle.ic3.specs.Sound.{HasFrames, IsSound};
 ghost use Rattle.ic3.specs.Answers.{IsAfter, IsRelative};
 
-use base::Refused;
+use base::{Budget, Refused, Seq};
 use engine::EngineError;
-use graph::{Budget, Model, Seq};
+use graph::Model;
 use ic3_frames::{Entry, Frames};
 use ic3_step::{Consecution, StateLit, Transition, holds_after};
 use solver::PartSat;

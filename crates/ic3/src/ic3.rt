@@ -6,9 +6,9 @@ ghost use Rattle.engine.specs.Findings.{IsForBad, IsSo};
 ghost use Rattle.ic3.specs.Answers.{IsDecided};
 
 use crate::frame_solver::FrameSolver;
-use base::Refused;
+use base::{Budget, Refused, Seq};
 use engine::{Counters, Engine, EngineError, Finding, Progress, Silent};
-use graph::{Budget, Lit, Model, Seq};
+use graph::{Lit, Model};
 use solver::PartSat;
 use std::alloc::Global;
 

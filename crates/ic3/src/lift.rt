@@ -11,9 +11,9 @@ ghost use Rattle.cones.specs.Reach.{IsGateTable};
 ghost use Rattle.ic3_frames.specs.Frames.{IsStateClause};
 ghost use Rattle.ic3.specs.Cubes.{Justifies, HasMarked, IsReady};
 
-use base::{Refused, copied, extend, filled};
+use base::{Refused, Seq, copied, extend, filled};
 use cones::{GateTable, Reach, unmark};
-use graph::{Latch, Lit, Model, Seq};
+use graph::{Latch, Lit, Model};
 use ic3_step::{Assignment, StateLit};
 use std::alloc::Global;
 

@@ -11,8 +11,8 @@ ghost use Rattle.ic3.specs.Cubes.{IsReady, ArePredecessors, AreBad};
 ghost use Rattle.ic3.specs.Answers.{IsObligation};
 
 use crate::lift::Lifting;
-use base::Refused;
-use graph::{Model, Seq};
+use base::{Refused, Seq};
+use graph::Model;
 use ic3_step::{Assignment, StateLit, denials};
 use std::alloc::Global;
 

@@ -6,8 +6,7 @@ ghost use Rattle.ic3_step.specs.declared.state.StateLit.{StateLit as Literal};
 ghost use Rattle.ic3_step.specs.States.{IsPartOf};
 ghost use Rattle.ic3.specs.Answers.{IsPicked};
 
-use base::{Refused, push};
-use graph::Seq;
+use base::{Refused, Seq, push};
 use ic3_step::StateLit;
 use std::alloc::Global;
 

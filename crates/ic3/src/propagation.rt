@@ -9,9 +9,9 @@ ghost use Rattle.ic3.specs.Answers.{AreApart, CannotPropagate};
 ghost use Rattle.ic3.specs.Sound.{IsSound};
 
 use crate::frame_solver::FrameSolver;
-use base::Refused;
+use base::{Budget, Refused, Seq};
 use engine::EngineError;
-use graph::{Budget, Lit, Model, Seq};
+use graph::{Lit, Model};
 use ic3_frames::Frames;
 use ic3_step::{Consecution, Counted};
 use solver::PartSat;

@@ -5,8 +5,9 @@ ghost use Rattle.base.specs.Budget.{Spends};
 ghost use Rattle.engine.specs.Findings.{IsForBad, IsInvariant};
 
 use crate::frame_solver::FrameSolver;
+use base::{Budget, Seq};
 use engine::EngineError;
-use graph::{Budget, Lit, Model, Seq};
+use graph::{Lit, Model};
 use solver::PartSat;
 use std::alloc::Global;
 

@@ -13,9 +13,9 @@ ghost use Rattle.ic3.specs.declared.obligation.Obligation.{Obligation};
 ghost use Rattle.ic3.specs.Answers.{AreObligations, IsWay, IsFound};
 
 use crate::obligation::Obligation;
-use base::Refused;
+use base::{Refused, Seq};
 use engine::Finding;
-use graph::{Latch, Model, Seq};
+use graph::{Latch, Model};
 use std::alloc::Global;
 
 /// The latch's first value: its reset, or where it has none this one.

@@ -7,8 +7,7 @@ ghost use Rattle.std.specs.Prelude.{◌≡◌, ◌⊎◌, [], All, Contains, IsT
 ghost use Rattle.ic3_frames.specs.Failures.{clauses_of};
 
 use crate::frames::Entry;
-use base::{Refused, push};
-use graph::Seq;
+use base::{Refused, Seq, push};
 use ic3_step::StateLit;
 use std::alloc::Global;
 

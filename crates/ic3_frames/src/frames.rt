@@ -18,8 +18,8 @@ use crate::resets::reset_entries;
 use crate::signature::signatures_of;
 use crate::subsumption::{insert, remove_subsumed};
 use crate::uses::Uses;
-use base::Refused;
-use graph::{Lit, Model, Seq};
+use base::{Refused, Seq};
+use graph::{Lit, Model};
 use ic3_step::StateLit;
 use std::alloc::Global;
 

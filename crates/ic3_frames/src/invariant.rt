@@ -4,8 +4,8 @@ ghost use Rattle.std.specs.Prelude.{◌≡◌, ◌≢◌, ◌↔◌, ◌<◌, Is
 ghost use Rattle.ic3_frames.specs.Clauses.{circuit_lit as circuit_lit_of, invariant_above};
 
 use crate::frames::Entry;
-use base::Refused;
-use graph::{Latch, Lit, Seq};
+use base::{Refused, Seq};
+use graph::{Latch, Lit};
 use ic3_step::StateLit;
 use std::alloc::Global;
 

@@ -5,8 +5,8 @@ ghost use Rattle.ic3_step.specs.declared.state.StateLit.{StateLit as Lit};
 ghost use Rattle.ic3_frames.specs.Clauses.{IsResetLit, IsResetEntry, reset_entry};
 
 use crate::frames::Entry;
-use base::{Refused, push};
-use graph::{Latch, Seq};
+use base::{Refused, Seq, push};
+use graph::Latch;
 use ic3_step::StateLit;
 use std::alloc::Global;
 

@@ -11,8 +11,7 @@ ghost use Rattle.ic3_frames.specs.Signatures.{IsSignature, AreSignatures};
 use crate::frames::Entry;
 use crate::signature::{covers, signature_of};
 use crate::uses::Uses;
-use base::{Refused, push, reserve_one};
-use graph::Seq;
+use base::{Refused, Seq, push, reserve_one};
 use ic3_step::StateLit;
 
 /// Whether the literal is one of the clause, which is in rising order. It costs the logarithm of the clause's length.

@@ -13,9 +13,9 @@ use crate::cone::{Cone, grow};
 use crate::encoding::guard_literal;
 use crate::reading::{core_lits, time_in};
 use crate::reply::Reply;
-use base::{Refused, push};
+use base::{Budget, Refused, push};
 use engine::EngineError;
-use graph::{Budget, Lit, Model};
+use graph::{Lit, Model};
 use solver::{Answer, PartSat};
 use std::alloc::Global;
 

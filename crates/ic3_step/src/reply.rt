@@ -1,7 +1,8 @@
 //! The answer to a query.
 
 use crate::state::Assignment;
-use graph::{Lit, Seq};
+use base::Seq;
+use graph::Lit;
 
 /// What is known of the times at which some literals are true.
 #[derive(Drop)]

@@ -1,6 +1,6 @@
 //! States and times.
 
-use graph::Seq;
+use base::Seq;
 
 /// A latch, by its position in the circuit's list, and a value. A literal of clauses over states:
 /// it is set where the latch has the value.

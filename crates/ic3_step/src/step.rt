@@ -12,9 +12,9 @@ use crate::order::by_activity;
 use crate::reply::Reply;
 use crate::state::{Assignment, StateLit};
 use crate::transition::Transition;
-use base::Refused;
+use base::{Budget, Refused, Seq};
 use engine::EngineError;
-use graph::{Budget, Latch, Lit, Model, Seq};
+use graph::{Latch, Lit, Model};
 use solver::PartSat;
 use std::alloc::Global;
 

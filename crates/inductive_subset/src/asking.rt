@@ -10,8 +10,8 @@ ghost use Rattle.inductive_subset.specs.Subsets.{IsExcluded, IsPossible};
 
 use crate::loading::guard;
 use crate::needed::Needed;
-use base::{Refused, extend, push};
-use graph::{Budget, Model};
+use base::{Budget, Refused, extend, push};
+use graph::Model;
 use solver::{Answer, Sat, SatError};
 use std::alloc::Global;
 

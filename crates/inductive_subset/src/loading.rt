@@ -6,9 +6,9 @@ ghost use Rattle.cnf.specs.Clauses.{literal, time_clauses};
 ghost use Rattle.cnf.specs.Formulas.{IsInRange, IsOverLatches};
 ghost use Rattle.inductive_subset.specs.Guards.{guard_of, guarded_clause as guarded_clause_of, IsOfCase, IsLoaded};
 
-use base::{Refused, push};
+use base::{Refused, Seq, push};
 use cnf::{TimeFrame, shared_base};
-use graph::{Lit, Model, Seq};
+use graph::{Lit, Model};
 use lrat::Clause;
 use solver::{Sat, SatError};
 use std::alloc::Global;

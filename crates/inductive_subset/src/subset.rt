@@ -11,9 +11,9 @@ ghost use Rattle.inductive_subset.specs.Subsets.{IsHeld, AreMarked, AreUnkept, H
 use crate::asking::ask;
 use crate::loading::load;
 use crate::needed::Needed;
-use base::Refused;
+use base::{Budget, Refused, Seq};
 use cnf::{NextTable, bad_unit, step_units};
-use graph::{Budget, Lit, Model, Seq};
+use graph::{Lit, Model};
 use solver::{Sat, SatError};
 use std::alloc::Global;
 

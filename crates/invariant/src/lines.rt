@@ -9,8 +9,8 @@ ghost use Rattle.invariant.specs.Reading.{clause_at, literals_at};
 ghost use Rattle.invariant.specs.Texts.{SpellsClauses};
 
 use crate::refusal::{IN_LINE, Refusal};
-use base::push;
-use graph::{Lit, Seq};
+use base::{Seq, push};
+use graph::Lit;
 use scan::{Fault, word};
 use std::alloc::Global;
 

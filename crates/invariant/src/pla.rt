@@ -11,7 +11,8 @@ use crate::columns::columns;
 use crate::invariant_error::InvariantError;
 use crate::refusal::{IN_LINE, Refusal, error};
 use crate::rows::rows;
-use graph::{AigerFile, Latch, Lit, Seq};
+use base::Seq;
+use graph::{AigerFile, Latch, Lit};
 use scan::{Fault, field, tag};
 use std::alloc::Global;
 

@@ -10,7 +10,8 @@ ghost use Rattle.invariant.specs.Texts.{IsRead, OfCertificate, SpellsClauses, Sp
 use crate::invariant_error::InvariantError;
 use crate::lines::clauses;
 use crate::refusal::error;
-use graph::{Lit, Seq};
+use base::Seq;
+use graph::Lit;
 use std::alloc::Global;
 
 /// Whether the first byte is that of a certificate, with which no line of a clause begins.

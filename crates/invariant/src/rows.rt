@@ -7,8 +7,8 @@ ghost use Rattle.invariant.specs.Plas.{literal_against, literals_against};
 ghost use Rattle.invariant.specs.PlaReading.{begins_dot, row_at, value_at};
 
 use crate::refusal::{IN_LINE, Refusal};
-use base::{Refused, push};
-use graph::{Latch, Lit, Seq};
+use base::{Refused, Seq, push};
+use graph::{Latch, Lit};
 use scan::{Fault, tag};
 use std::alloc::Global;
 

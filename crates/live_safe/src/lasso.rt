@@ -9,8 +9,8 @@ ghost use Rattle.live_safe.specs.Laws.{FitsShadow, lasso_from};
 ghost use Rattle.live_safe.specs.Shadow.{shadow_of};
 
 use crate::wanted::wanted_count;
-use base::Refused;
-use graph::{Model, Parts, Property, Seq};
+use base::{Refused, Seq};
+use graph::{Model, Parts, Property};
 use std::alloc::Global;
 use stimulus::Stimulus;
 

@@ -8,8 +8,8 @@ use crate::gates::all_gates;
 use crate::latches::all_latches;
 use crate::literals::positive;
 use crate::numbers::count_out;
-use base::Refused;
-use graph::{Lit, Parts, Seq};
+use base::{Refused, Seq};
+use graph::{Lit, Parts};
 use std::alloc::Global;
 
 /// The old inputs, then the new one.

@@ -10,8 +10,8 @@ ghost use Rattle.merged.specs.Reading.{IsTable, SaysAt};
 
 use crate::reading::read_parts;
 use crate::table::table_of;
-use base::Refused;
-use graph::{Lit, Model, Parts, ReadError, Seq};
+use base::{Refused, Seq};
+use graph::{Lit, Model, Parts, ReadError};
 use std::alloc::Global;
 
 /// The circuit of parts that are well formed.

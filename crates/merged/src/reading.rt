@@ -6,8 +6,8 @@ ghost use Rattle.merged.specs.Reading.{entry as entry_of, read_as, IsRoomy};
 ghost use Rattle.merged.specs.Merged.{merged_gate, merged_latch, merged_parts};
 
 use crate::equal::negated_as;
-use base::Refused;
-use graph::{Gate, Latch, Lit, Model, Parts, Seq};
+use base::{Refused, Seq};
+use graph::{Gate, Latch, Lit, Model, Parts};
 use std::alloc::Global;
 
 /// What the table has for a variable.

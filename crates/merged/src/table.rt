@@ -7,8 +7,8 @@ ghost use Rattle.cnf.specs.Formulas.{IsOverLatches, clause_at as clause_of};
 ghost use Rattle.merged.specs.Reading.{IsTable, IsTableTo};
 
 use crate::equal::said;
-use base::{Refused, filled};
-use graph::{Lit, Model, Seq};
+use base::{Refused, Seq, filled};
+use graph::{Lit, Model};
 use std::alloc::Global;
 
 /// The clause at a place, which is empty behind the last one.

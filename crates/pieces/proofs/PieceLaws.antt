@@ -42,6 +42,11 @@ piece_nil (c ∷ cs) e = elim (cases_Bool (is_inner c)) [
   | inr n ↦ absurd (let z = rw n at e in cc)
 ]
 
+-- no bytes have none
+pub nil_piece : (piece_at []).0 ≡ []
+unfolding piece_at
+nil_piece = refl
+
 -- ---- bytes that are ready
 
 -- the last byte ends each piece before it

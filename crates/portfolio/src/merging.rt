@@ -8,12 +8,12 @@ ghost use Rattle.portfolio.specs.Searched.{IsSearched};
 use crate::reporter::Reporter;
 use crate::timed::Timed;
 use crate::timing::Timing;
-use base::Refused;
+use base::{Budget, Refused, Seq};
 use bmc::Bmc;
 use cdcl::Cdcl;
 use correspondence::Corresponding;
 use engine::{Counters, Engine, EngineError, Finding, InOrder};
-use graph::{Budget, Lit, Model, Seq};
+use graph::{Lit, Model};
 use ic3::Ic3;
 use std::alloc::Global;
 

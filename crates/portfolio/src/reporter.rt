@@ -1,7 +1,7 @@
 //! What standard error says of a search: how far it is.
 
+use base::Budget;
 use engine::Progress;
-use graph::Budget;
 use std::time::Instant;
 
 /// How long the one line stays as it is.

@@ -7,8 +7,8 @@ ghost use Rattle.solver.specs.Answers.{IsLawful};
 ghost use Rattle.solver.specs.Full.{full};
 ghost use Rattle.solver.specs.declared.sat_error.SatError.TheVariants.{Limit};
 
+use base::Budget;
 use engine_random::Watch;
-use graph::Budget;
 use solver::{Answer, Part, PartSat, Sat, SatError, Statistics};
 use std::alloc::Global;
 use std::io;

@@ -3,8 +3,8 @@
 use crate::reporter::Shown;
 use crate::timed::{Deadline, Timed};
 use arguments::Search;
+use base::Budget;
 use cdcl::Cdcl;
-use graph::Budget;
 use std::alloc::Global;
 
 /// A search, when its time is over, and how it is shown.

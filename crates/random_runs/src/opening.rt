@@ -1,7 +1,7 @@
 //! The circuit whose latches begin in any state.
 
-use base::Refused;
-use graph::{Latch, Model, ReadError, Seq};
+use base::{Refused, Seq};
+use graph::{Latch, Model, ReadError};
 use std::alloc::Global;
 
 /// The latches with their own literals as resets.

@@ -1,8 +1,6 @@
 -- Lines are read from the piece that comes next.
-use Rattle.std.proofs.Common.{◌≡◌, ℕ, ◌+◌, ◌^◌, ◌<◌, ◌%◌, Bool, true, false, leb, List, [], ◌∷◌, ◌++◌, length, Option, Some, None, refl, sym, ap, ◌∙◌, append_assoc, arith, inl, inr}
+use Rattle.std.proofs.Common.{◌≡◌, ℕ, ◌+◌, ◌<◌, Bool, true, false, List, [], ◌∷◌, ◌++◌, length, Option, Some, None, refl, sym, ap, ◌∙◌, append_assoc, arith}
 use Rattle.std.specs.Prelude.{decimal, flat_map}
-use Rattle.std.proofs.lemmas.Bool.{le-leb, cases_Bool}
-use Rattle.std.proofs.lemmas.Fmt.{decimal_by_steps}
 use Rattle.std.proofs.lemmas.List.{append-nil, length-append}
 use Rattle.scan.specs.Reading.{Read}
 use Rattle.scan.specs.Lists.{items_at}
@@ -11,6 +9,7 @@ use Rattle.graph.specs.declared.circuit.Property.{Property as AProperty}
 use Rattle.graph.specs.declared.circuit.Property.TheVariants.{Bad, Justice, Output}
 use Rattle.graph.specs.Circuits.{position_of, property_text}
 use Rattle.pieces.specs.Pieces.{is_inner, piece_at, GoesOn}
+use Rattle.pieces.proofs.LineTexts.{IsLineText, goes_decimal, piece_of_line}
 use Rattle.pieces.proofs.PieceLaws.{goes_nil, goes_one, goes_append}
 use Rattle.stimulus.specs.Reading.{line_at, property_at, value_at}
 use Rattle.stimulus.specs.Texts.{value_text}
@@ -21,23 +20,6 @@ use Rattle.replay.specs.Reading.{dot_at, status_at}
 use Rattle.replay.proofs.TextLaws.{IsDotLine, IsInput, IsLine, IsPropertyLine, IsStatusLine, dot_reads, line_reads, property_reads, status_digit, status_reads, values_reads}
 
 -- ---- what is a line
-
--- bytes that may stand in a line before its end, and the line end
-abbrev pub IsLineText : List ℕ → Type 0
-IsLineText t = (body : List ℕ) × GoesOn body × (t ≡ body ++ 10 ∷ [])
-
-digit_inner : (d : ℕ) → d < 10 → is_inner (48 + d) ≡ true
-digit_inner d lt =
-    let low : leb 48 (48 + d) ≡ true = le-leb 48 (48 + d) (omega arith) in
-    let high : leb (48 + d) 57 ≡ true = le-leb (48 + d) 57 (omega arith) in
-    rw (low, high) refl
-
-goes_decimal : (n : ℕ) → n < 2 ^ 64 → GoesOn (decimal n)
-goes_decimal n lt =
-    decimal_by_steps (λ n ds. GoesOn ds)
-    (λ n lt. goes_one (48 + n) (digit_inner n lt))
-    (λ n ds ge before. goes_append ds ((48 + n % 10) ∷ []) before (goes_one (48 + n % 10) (digit_inner (n % 10) (omega arith))))
-    n lt
 
 goes_property : (p : AProperty) → position_of p < 4294967296 → GoesOn (property_text p)
 goes_property (Bad n) lt = goes_append (98 ∷ []) (decimal n) (goes_one 98 refl) (goes_decimal n (omega (arith, lt)))
@@ -71,18 +53,6 @@ input_is_line t None e = (46 ∷ [], goes_one 46 refl, e)
 input_is_line t (Some values) e = values_is_line t values e
 
 -- ---- a line is read from its piece
-
-piece_of_line : (body rest : List ℕ) → GoesOn body → piece_at ((body ++ 10 ∷ []) ++ rest) ≡ (body ++ 10 ∷ [], rest)
-unfolding piece_at
-piece_of_line body rest goes = ap piece_at (append_assoc body (10 ∷ []) rest) ∙ goes (10 ∷ rest)
-
-pub piece_whole : (bytes : List ℕ) → (piece_at bytes).0 ++ (piece_at bytes).1 ≡ bytes
-unfolding piece_at
-piece_whole [] = refl
-piece_whole (c ∷ cs) = elim (cases_Bool (is_inner c)) [
-  | inl y ↦ rw y (ap (λ (w : List ℕ). c ∷ w) (piece_whole cs))
-  | inr n ↦ rw n refl
-]
 
 some_bytes : (t body : List ℕ) → t ≡ body ++ 10 ∷ [] → 0 < length t
 some_bytes t body e = omega (arith, ap length e, length-append body (10 ∷ []))

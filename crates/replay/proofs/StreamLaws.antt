@@ -1,8 +1,7 @@
 -- A reader finds what the text says, however its source cuts it.
 use Rattle.std.specs.Prelude.{IsErrAnd, MatchResult}
 use Rattle.base.specs.Witness.{witness}
-use Rattle.std.proofs.Common.{◌≡◌, ℕ, zero, suc, ◌-◌, ◌<◌, ◌≤◌, Bool, true, false, List, [], ◌∷◌, ◌++◌, length, take, drop, Option, Some, None, Result, Ok, Err, refl, sym, ap, subst, ◌∙◌, append_assoc, arith, inl, inr}
-use Rattle.std.proofs.lemmas.Bool.{cases_Bool}
+use Rattle.std.proofs.Common.{◌≡◌, ℕ, zero, suc, ◌-◌, ◌<◌, ◌≤◌, Bool, true, false, List, [], ◌∷◌, ◌++◌, length, take, drop, Option, Some, None, Result, Ok, Err, refl, sym, ap, subst, ◌∙◌, append_assoc, arith}
 use Rattle.std.proofs.lemmas.List.{append-nil, length-take-le, length-append, take-append-drop}
 use Rattle.std.proofs.lemmas.Option.{none-some, same_Some}
 use Rattle.scan.specs.Reading.{◌>>=◌, Read, Fails}
@@ -10,7 +9,8 @@ use Rattle.scan.specs.Lists.{until_at, items_at, value_then}
 use Rattle.scan.proofs.Loops.{with_front, regroup}
 use Rattle.scan.specs.declared.fault.Fault.{Fault}
 use Rattle.scan.specs.declared.fault.Fault.TheVariants.{Memory, Text}
-use Rattle.pieces.specs.Pieces.{is_inner, piece_at, Lies}
+use Rattle.pieces.specs.Pieces.{piece_at, Lies}
+use Rattle.pieces.proofs.PieceLaws.{nil_piece, piece_nil, piece_whole}
 use Rattle.stimulus.specs.declared.stim_error.StimError.TheVariants as text
 use Rattle.stimulus.specs.declared.reading.Refusal.{Refusal}
 use Rattle.stimulus.specs.declared.reading.Refusal.TheVariants as kind
@@ -21,7 +21,7 @@ use Rattle.stimulus.specs.Reading.{line_at}
 use Rattle.replay.specs.Reading.{end_at, line_where}
 use Rattle.stimulus.specs.Refusals.{error_of}
 use Rattle.replay.specs.Streams.{Finds, FindsWith, ForText, StillReads}
-use Rattle.replay.proofs.LineLaws.{input_of_line, piece_whole}
+use Rattle.replay.proofs.LineLaws.{input_of_line}
 
 -- ---- one line
 
@@ -85,18 +85,6 @@ for_text_map (Refused (text.AfterEnd place)) P Q f p = f p
 for_text_map Device P Q f p = tt
 
 -- ---- the end
-
-piece_nil : (bytes : List ℕ) → (piece_at bytes).0 ≡ [] → bytes ≡ []
-unfolding piece_at
-piece_nil [] e = refl
-piece_nil (c ∷ cs) e = elim (cases_Bool (is_inner c)) [
-  | inl y ↦ absurd (let z = rw y at e in cc)
-  | inr n ↦ absurd (let z = rw n at e in cc)
-]
-
-nil_piece : (piece_at []).0 ≡ []
-unfolding piece_at
-nil_piece = refl
 
 -- no byte of the next piece is held
 none_held : (later zs : List ℕ) (n : ℕ) → n ≡ 0 → piece_at (later ++ zs) ≡ ((piece_at (take n later)).0, (piece_at (take n later)).1 ++ (drop n later ++ zs)) → later ++ zs ≡ []

@@ -11,8 +11,7 @@ ghost use Rattle.replay.specs.declared.text_error.TextError.TheVariants.{Device}
 use crate::numbers::{LINE_LENGTH, NO_INPUT_LINE};
 use crate::reader::LineReader;
 use crate::text_error::TextError;
-use base::{Source, copied, push};
-use graph::Seq;
+use base::{Seq, Source, copied, push};
 use std::alloc::Global;
 
 /// What the lengths of lines are.

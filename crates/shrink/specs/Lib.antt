@@ -2,3 +2,4 @@ pub mod Shrunk
 pub mod Making
 pub mod Hashed
 pub mod Carriable
+pub mod Ready

@@ -6,8 +6,8 @@ ghost use Rattle.graph.specs.Circuits.{Valuation, variable, place, value_of};
 ghost use Rattle.graph.specs.declared.circuit.Gate.{Gate as AGate};
 ghost use Rattle.shrink.specs.Making.{AreMade, Grows, IsConjunction, IsTable, same_sides};
 
-use base::{Refused, insert_hashed};
-use graph::{Gate, Lit, Seq};
+use base::{Refused, Seq, insert_hashed};
+use graph::{Gate, Lit};
 use std::alloc::Global;
 use std::collections::HashMap;
 

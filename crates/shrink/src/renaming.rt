@@ -5,8 +5,8 @@ ghost use Rattle.shrink.specs.Hashed.{carried_latch as carried_latch_of, carried
 ghost use Rattle.shrink.specs.Carriable.{IsCarriable, AreCarriable};
 
 use crate::carrying::rename;
-use base::Refused;
-use graph::{Gate, Latch, Lit, Parts, Seq};
+use base::{Refused, Seq};
+use graph::{Gate, Latch, Lit, Parts};
 use std::alloc::Global;
 
 /// The literals, carried over.

@@ -15,7 +15,8 @@ use crate::lasso::{has_lasso, wanted};
 use crate::lines::check_fit;
 use crate::playing::run;
 use crate::value::Stimulus;
-use graph::{Lit, Model, Property, Seq};
+use base::Seq;
+use graph::{Lit, Model, Property};
 use simulate::Replay;
 use std::alloc::Global;
 

@@ -6,8 +6,8 @@ ghost use Rattle.stimulus.specs.Courses.{Course, HasRunCause, Marks, MeetsAt, Ne
 ghost use Rattle.stimulus.specs.Shown.{ClosesLasso};
 
 use crate::judge_error::JudgeError;
-use base::{Refused, extend, filled_like};
-use graph::{Lit, Model, Parts, Seq};
+use base::{Refused, Seq, extend, filled_like};
+use graph::{Lit, Model, Parts};
 use simulate::Replay;
 use std::alloc::Global;
 

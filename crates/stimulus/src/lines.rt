@@ -5,7 +5,8 @@ ghost use Rattle.base.specs.Witness.{witness};
 ghost use Rattle.stimulus.specs.Causes.{HasCauseIn, HasFitLines, IsFirstWrong, IsFit, IsWrongLine};
 
 use crate::judge_error::JudgeError;
-use graph::{Parts, Property, Seq};
+use base::Seq;
+use graph::{Parts, Property};
 
 /// The position of the first line of another length.
 fn first_wrong(lines: &[Seq<bool>], long: usize) -> Option<usize>

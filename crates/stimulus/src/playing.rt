@@ -5,7 +5,8 @@ ghost use Rattle.graph.specs.Circuits.{Valuation, value_of, variable};
 ghost use Rattle.stimulus.specs.Courses.{HasRun, HasRunCause, PlaysAll, PlaysUpTo};
 
 use crate::judge_error::JudgeError;
-use graph::{Lit, Model, Seq};
+use base::Seq;
+use graph::{Lit, Model};
 use simulate::Replay;
 use std::alloc::Global;
 

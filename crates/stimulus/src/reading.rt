@@ -9,7 +9,8 @@ ghost use Rattle.stimulus.specs.declared.value.Stimulus.{Stimulus as AStimulus};
 
 use crate::stim_error::StimError;
 use crate::value::Stimulus;
-use graph::{Property, Seq};
+use base::Seq;
+use graph::Property;
 use scan::{Fault, ItemKind, Kinds, byte, field, items, place, tag};
 use std::alloc::Global;
 

@@ -3,8 +3,7 @@
 ghost use Rattle.std.specs.Prelude.{◌≡◌};
 ghost use Rattle.stimulus.specs.Numbers.{sim_number_of, sim_place_of};
 
-use base::Refused;
-use graph::Failed;
+use base::{Failed, Refused};
 use simulate::ReplayError;
 use thiserror::Error;
 

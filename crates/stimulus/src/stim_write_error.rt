@@ -3,7 +3,7 @@
 ghost use Rattle.std.specs.Prelude.{◌≡◌};
 ghost use Rattle.stimulus.specs.declared.stim_write_error.StimWriteError.TheVariants.{Device};
 
-use graph::Failed;
+use base::Failed;
 use thiserror::Error;
 
 /// Why the text of a stimulus is not written whole.

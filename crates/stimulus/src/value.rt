@@ -3,8 +3,8 @@
 ghost use Rattle.std.specs.Prelude.{◌≡◌, IfOk};
 ghost use Rattle.stimulus.specs.Texts.{property_of};
 
-use base::Refused;
-use graph::{Property, Seq};
+use base::{Refused, Seq};
+use graph::Property;
 use std::alloc::Global;
 
 /// What is said of one property of a circuit.

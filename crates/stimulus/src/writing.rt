@@ -8,7 +8,8 @@ ghost use Rattle.stimulus.specs.Texts.{SpellsStimulus, line_text, property_line,
 
 use crate::stim_write_error::StimWriteError;
 use crate::value::Stimulus;
-use graph::{Failed, Property, Seq, Sink, put_all};
+use base::{Failed, Seq, Sink, put_all};
+use graph::Property;
 use itoa::Buffer;
 
 /// The letter of a property's kind, and the property's position among its kind.

@@ -5,7 +5,7 @@ ghost use Rattle.base.specs.Budget.{Spends};
 ghost use Rattle.lrat.specs.Literals.{IsLiteral};
 ghost use Rattle.solver.specs.Answers.{IsLawful};
 
-use graph::Budget;
+use base::Budget;
 use solver::{Answer, Part, PartSat, SatError};
 use std::alloc::Global;
 

@@ -1,7 +1,7 @@
 //! Latches that clauses say are equal.
 
-use base::{Refused, filled, filled_like, insert_key};
-use graph::{Lit, Model, Seq};
+use base::{Refused, Seq, filled, filled_like, insert_key};
+use graph::{Lit, Model};
 use std::alloc::Global;
 use std::collections::BTreeSet;
 

@@ -8,8 +8,8 @@ use crate::near::Near;
 use crate::pairs::{Pair, pairs_of};
 use crate::signals::signals_of;
 use crate::unit::unit;
-use base::{Refused, push};
-use graph::{Lit, Model, Seq};
+use base::{Refused, Seq, push};
+use graph::{Lit, Model};
 use solver::Part;
 use std::alloc::Global;
 

@@ -5,8 +5,7 @@ ghost use Rattle.graph.specs.Circuits.{Valuation, variable};
 ghost use Rattle.trace.specs.Columns.{HasValues, known_at};
 
 use crate::bits::Bit;
-use base::{Refused, push};
-use graph::Seq;
+use base::{Refused, Seq, push};
 use simulate::Replay;
 use std::alloc::Global;
 

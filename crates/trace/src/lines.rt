@@ -4,7 +4,8 @@ ghost use Rattle.std.specs.Prelude.{◌≡◌, Bool, List, IfOk, IfErr};
 ghost use Rattle.graph.specs.declared.circuit.Property.{Property as AProperty};
 ghost use Rattle.trace.specs.Lines.{HasLines};
 
-use graph::{Property, Seq};
+use base::Seq;
+use graph::Property;
 use stimulus::{SimError, Stimulus};
 
 /// The property, the first values of the latches and the lines of inputs of the violation that a stimulus shows.

@@ -6,8 +6,8 @@ ghost use Rattle.simulate.specs.Refusals.{HasCause};
 ghost use Rattle.stimulus.specs.Courses.{Course, Marks, MeetsAt, NeverMeets};
 ghost use Rattle.trace.specs.Loops.{IsFirstLasso, IsLoopStart};
 
-use base::{Refused, extend, filled_like};
-use graph::{Lit, Model, Parts, Property, Seq};
+use base::{Refused, Seq, extend, filled_like};
+use graph::{Lit, Model, Parts, Property};
 use simulate::{Replay, ReplayError};
 use std::alloc::Global;
 

@@ -4,7 +4,7 @@ ghost use Rattle.std.specs.Prelude.{◌≡◌, ◌+◌, ◌-◌, ◌*◌, ◌/�
 ghost use Rattle.base.specs.Devices.{CountsFailure, Puts};
 ghost use Rattle.trace.specs.Numbers.{are_known as are_known_bits, binary_digit as digit_of_bit, binary_text, bit_number, digit_of, hex_below, known_text, number_of, number_text, open_text};
 
-use graph::{Failed, Sink, put_all};
+use base::{Failed, Sink, put_all};
 use itoa::Buffer;
 
 /// The digit of a bit.

@@ -3,7 +3,8 @@
 ghost use Rattle.std.specs.Prelude.{◌≡◌, ◌≢◌, ℕ, ◌<◌, ◌↔◌, IsTrue, [], All, length, IfErr, OnOk, MatchOption};
 ghost use Rattle.trace.specs.OpenTraces.{AreOpenFine, HasFitRows, HasOpenCause, IsFirstOpenAgainst, IsOpenFine, IsOpenPlayable, IsWrongRow, IsWrongRowOf};
 
-use graph::{Latch, Model, Parts, Seq};
+use base::Seq;
+use graph::{Latch, Model, Parts};
 use stimulus::SimError;
 
 /// The position of the first row that has another length.

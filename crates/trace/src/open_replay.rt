@@ -14,8 +14,8 @@ ghost use Rattle.trace.specs.OpenValues.{Stand, open_first, open_place, open_val
 
 use crate::bits::{Bit, latch_literals};
 use crate::open_values::{evaluate, open_value};
-use base::{Refused, copied, filled, push};
-use graph::{Latch, Lit, Model, Seq};
+use base::{Refused, Seq, copied, filled, push};
+use graph::{Latch, Lit, Model};
 use std::alloc::Global;
 
 /// The value that a latch begins with: the one that is given, or else that of its reset.

@@ -7,8 +7,8 @@ ghost use Rattle.trace.specs.Signals.{AreApart, AreSignals, IsVector, range_text
 
 use crate::bits::Bit;
 use crate::numbers::decimal_length;
-use base::{Refused, push};
-use graph::{Failed, Sink, SymbolKind, put_all};
+use base::{Failed, Refused, Sink, push, put_all};
+use graph::SymbolKind;
 use itoa::Buffer;
 use std::alloc::Global;
 

@@ -16,7 +16,8 @@ use crate::numbers::{number_length, put_number};
 use crate::signal_values::SignalValues;
 use crate::signals::{Signal, put_counted, put_signal_name, signal_name_length};
 use crate::widths::{names_width, put_spaces, values_widths};
-use graph::{AigerFile, Failed, Property, Seq, Sink, put_all};
+use base::{Failed, Seq, Sink, put_all};
+use graph::{AigerFile, Property};
 use std::alloc::Global;
 use stimulus::{SimError, Stimulus};
 

@@ -13,8 +13,8 @@ use crate::lines::lines_of;
 use crate::signal_values::SignalValues;
 use crate::signals::Signal;
 use crate::variables::{push_number, push_variables};
-use base::{Refused, extend};
-use graph::{AigerFile, Property, Seq, Sink, put_all};
+use base::{Refused, Seq, Sink, extend, put_all};
+use graph::{AigerFile, Property};
 use std::alloc::Global;
 use stimulus::{SimError, Stimulus};
 

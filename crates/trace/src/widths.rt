@@ -11,8 +11,7 @@ ghost use Rattle.trace.specs.Widths.{spaces, width_of};
 use crate::bits::Bit;
 use crate::numbers::number_length;
 use crate::signals::{Signal, signal_name_length};
-use base::{Refused, push};
-use graph::{Failed, Sink, put_all};
+use base::{Failed, Refused, Sink, push, put_all};
 use std::alloc::Global;
 
 /// Puts this many spaces.

@@ -9,9 +9,9 @@ ghost use Rattle.transforms.specs.Covering.{IsAlwaysBad, IsBadBehind, ShowsRun, 
 
 use crate::error::TransformError;
 use crate::symbols::count;
-use base::{Refused, push};
+use base::{Refused, Seq, push};
 use extension::{extended_parts, extension_laws};
-use graph::{AigerFile, Latch, Lit, Model, Parts, Property, ReadError, Seq};
+use graph::{AigerFile, Latch, Lit, Model, Parts, Property, ReadError};
 use live_safe::{cleared, positive};
 use std::alloc::Global;
 

@@ -9,11 +9,9 @@ ghost use Rattle.transforms.specs.Extracted.{HasCause, IsPartOf, IsUnmade, Stand
 use crate::cone::{cone_of, is_marked};
 use crate::error::TransformError;
 use crate::symbols::{add, name_others};
-use base::Refused;
+use base::{Refused, Seq};
 use cones::value_laws;
-use graph::{
-    AigerFile, Gate, Latch, Lit, Model, Parts, Property, ReadError, Seq, Symbol, SymbolKind,
-};
+use graph::{AigerFile, Gate, Latch, Lit, Model, Parts, Property, ReadError, Symbol, SymbolKind};
 use property_names::symbol_of;
 use std::alloc::Global;
 

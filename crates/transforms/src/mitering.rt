@@ -3,8 +3,8 @@
 use crate::error::TransformError;
 use crate::matching::partners;
 use crate::symbols::{add, count};
-use base::{Refused, copied, extend, filled, filled_like};
-use graph::{AigerFile, Gate, Latch, Lit, Model, Parts, Seq, Symbol, SymbolKind};
+use base::{Refused, Seq, copied, extend, filled, filled_like};
+use graph::{AigerFile, Gate, Latch, Lit, Model, Parts, Symbol, SymbolKind};
 use std::alloc::Global;
 
 /// The literal that is always false.

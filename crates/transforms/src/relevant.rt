@@ -5,8 +5,8 @@ ghost use Rattle.graph.specs.declared.circuit.Lit.{Lit};
 ghost use Rattle.transforms.specs.Cones.{AreOverCone, is_over as is_over_of, literal_of};
 
 use crate::cone::{cone_of, is_over};
-use base::Refused;
-use graph::{Lit, Model, Property, Seq};
+use base::{Refused, Seq};
+use graph::{Lit, Model, Property};
 use std::alloc::Global;
 
 /// The literal at the property's position among those of its kind.

@@ -7,8 +7,8 @@ ghost use Rattle.transforms.specs.Shadowed.{IsRefused};
 
 use crate::error::TransformError;
 use crate::symbols::{add, count, name_others};
-use base::{Refused, extend, push};
-use graph::{AigerFile, Model, Seq, Symbol, SymbolKind};
+use base::{Refused, Seq, extend, push};
+use graph::{AigerFile, Model, Symbol, SymbolKind};
 use live_safe::to_safety;
 use std::alloc::Global;
 

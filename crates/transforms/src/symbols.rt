@@ -4,8 +4,8 @@ ghost use Rattle.std.specs.Prelude.{◌≡◌, ◌≤◌, IfErr};
 ghost use Rattle.transforms.specs.Extracted.{IsUnmade};
 
 use crate::error::TransformError;
-use base::{Refused, filled_like, push};
-use graph::{Model, Seq, Symbol, SymbolKind};
+use base::{Refused, Seq, filled_like, push};
+use graph::{Model, Symbol, SymbolKind};
 use std::alloc::Global;
 
 /// Adds a name.

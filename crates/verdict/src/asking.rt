@@ -21,9 +21,10 @@ ghost use Rattle.verdict.specs.declared.decide_error.DecideError.TheVariants.{Ou
 
 use crate::decide_error::DecideError;
 use crate::verdict::Verdict;
+use base::{Budget, Seq};
 use certify::{Certified, CertifyError, certify, certify_shadow};
 use engine::{Engine, EngineError, Finding, Reason};
-use graph::{Budget, Lit, Model, Property, Seq};
+use graph::{Lit, Model, Property};
 use live_safe::lasso_of;
 use std::alloc::Global;
 use stimulus::{JudgeError, Stimulus, judge};

@@ -17,8 +17,9 @@ use crate::asking::verdict_of;
 use crate::decide_error::DecideError;
 use crate::reasons::{reason, weightier};
 use crate::verdict::Verdict;
+use base::Budget;
 use engine::{Engine, Reason};
-use graph::{Budget, Model, Property, ReadError};
+use graph::{Model, Property, ReadError};
 use live_safe::{LiveError, to_safety};
 use std::alloc::Global;
 

@@ -7,7 +7,8 @@ ghost use Rattle.stimulus.specs.Texts.{SpellsStimulus, stimulus_text};
 ghost use Rattle.verdict.specs.Verdicts.{status_of, stimulus_of};
 
 use crate::verdict::Verdict;
-use graph::{Property, Sink};
+use base::Sink;
+use graph::Property;
 use stimulus::{StimWriteError, Stimulus, write};
 
 /// Puts a verdict on a property as the text of a stimulus (the layout of the hardware model checking

@@ -1,6 +1,7 @@
 //! What is left of a stimulus.
 
-use graph::{Property, Seq};
+use base::Seq;
+use graph::Property;
 
 /// The values of a stimulus on which its violation rests. Each other one is `None`.
 #[derive(Drop)]

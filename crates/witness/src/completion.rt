@@ -3,8 +3,8 @@
 ghost use Rattle.std.specs.Prelude.{◌≡◌, [], map, slice_get, IfOk};
 ghost use Rattle.witness.specs.Completions.{Completes, CompleteFirst, completion, reset_at, value_or};
 
-use base::Refused;
-use graph::{Latch, Seq};
+use base::{Refused, Seq};
+use graph::Latch;
 use std::alloc::Global;
 
 /// The value that a latch is reset to, or that other one.

@@ -5,7 +5,8 @@ ghost use Rattle.graph.specs.Circuits.{variable};
 ghost use Rattle.stimulus.specs.Causes.{IsPlayable};
 
 use crate::lasso::first_lasso;
-use graph::{Lit, Model, Property, Seq};
+use base::Seq;
+use graph::{Lit, Model, Property};
 use simulate::Replay;
 use std::alloc::Global;
 use stimulus::{JudgeError, check_playable};

@@ -4,8 +4,8 @@ ghost use Rattle.std.specs.Prelude.{◌≡◌, ◌≤◌, ◌<◌, All, length, 
 ghost use Rattle.graph.specs.Circuits.{wanted_of, variable};
 ghost use Rattle.stimulus.specs.Causes.{IsPlayable};
 
-use base::{Refused, copied, extend, filled_like, insert};
-use graph::{Lit, Model, Parts, Seq};
+use base::{Refused, Seq, copied, extend, filled_like, insert};
+use graph::{Lit, Model, Parts};
 use simulate::Replay;
 use std::alloc::Global;
 use std::collections::BTreeMap;

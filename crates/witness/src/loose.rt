@@ -1,6 +1,7 @@
 //! What a loose text says.
 
-use graph::{Property, Seq};
+use base::Seq;
+use graph::Property;
 
 /// A counterexample as another tool wrote it. A value that doesn't matter is `None`.
 #[derive(Drop)]

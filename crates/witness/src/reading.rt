@@ -5,7 +5,8 @@ use crate::lines::{Line, Shape, lines, unfolded};
 use crate::loose::Loose;
 use crate::status::{after_status, named};
 use crate::witness_error::WitnessError;
-use graph::{Model, Property, Seq};
+use base::Seq;
+use graph::{Model, Property};
 use std::alloc::Global;
 
 /// The values of a line.

@@ -8,9 +8,9 @@ ghost use Rattle.cones.specs.Reach.{IsGateTable};
 ghost use Rattle.witness.specs.Completions.{Completes};
 ghost use Rattle.witness.specs.Cleared.{AreTrueFrom, IsTimeEnough, kept_by};
 
-use base::{Refused, copied, extend, filled, push};
+use base::{Refused, Seq, copied, extend, filled, push};
 use cones::{GateTable, Reach, extend as extend_marks, value_laws};
-use graph::{Lit, Model, Seq, literal_value};
+use graph::{Lit, Model, literal_value};
 use std::alloc::Global;
 
 /// The literal that is true where this one has the value.

@@ -6,8 +6,8 @@ ghost use Rattle.stimulus.specs.Texts.{property_line};
 ghost use Rattle.witness.specs.Texts.{character_of, cleared_text, row_text};
 
 use crate::cleared::Cleared;
-use base::{Refused, extend, push};
-use graph::{Property, Seq};
+use base::{Refused, Seq, extend, push};
+use graph::Property;
 use std::alloc::Global;
 
 /// The character of a value.

@@ -1,10 +1,11 @@
 //! Files in the numbering of the binary layout.
 
 ghost use Rattle.std.specs.Prelude.{IfOk};
-ghost use Rattle.cli.specs.Ready.{IsReady};
+ghost use Rattle.shrink.specs.Ready.{IsReady};
 
+use crate::hashing::shrink;
+use crate::shrink_error::ShrinkError;
 use graph::AigerFile;
-use shrink::{ShrinkError, shrink};
 use std::alloc::Global;
 
 /// The file, where its circuit is in the numbering of the binary layout (AIGER 1.9); and else the

@@ -4,12 +4,13 @@ ghost use Rattle.std.specs.Prelude.{◌≡◌, ◌+◌, ◌-◌, ◌<◌, ◌^�
 ghost use Rattle.std.specs.Io.KnownBytes.{Appends};
 ghost use Rattle.base.specs.Devices.{PutsBeginning};
 ghost use Rattle.graph.specs.Circuits.{IsOrdered};
-ghost use Rattle.cli.specs.Layouts.{layout_of, text_in};
-ghost use Rattle.cli.specs.declared.cli_error.CliError.TheVariants.{Device, Unordered};
-ghost use Rattle.cli.specs.declared.layout.Layout.TheVariants.{Binary};
+ghost use Rattle.aig.specs.declared.aig_write_error.AigWriteError.TheVariants.{Device, Unordered};
+ghost use Rattle.aiger.specs.Written.{layout_of, text_in};
+ghost use Rattle.aiger.specs.declared.layout.Layout.TheVariants.{Binary};
 
-use crate::cli_error::CliError;
-use graph::{AigerFile, Sink};
+use aig::AigWriteError;
+use base::Sink;
+use graph::AigerFile;
 
 /// A layout of a circuit's file (AIGER 1.9).
 #[derive(Clone, Copy, PartialEq, Eq)]
@@ -38,7 +39,7 @@ impl Layout {
 
 /// Puts the shortest text of a file in a layout. A file whose circuit is not ordered has none in the
 /// binary one, and then nothing is put.
-pub fn put_file<W: Sink>(file: &AigerFile, layout: Layout, out: &mut W) -> Result<(), CliError>
+pub fn put_file<W: Sink>(file: &AigerFile, layout: Layout, out: &mut W) -> Result<(), AigWriteError>
     requires { W.failed out.old < 2 ^ 64 - 1 }
     ensures written { OnOk result (Appends (W.contents out.old) (W.contents out.new) (text_in layout file.now)) }
     ensures unordered { (result ≡ Err Unordered) ↔ ((layout ≡ Binary) × (IsOrdered file.now.model → ⊥)) }

@@ -1,4 +1,0 @@
-pub mod Layouts
-pub mod Loading
-pub mod Numbers
-pub mod Ready
