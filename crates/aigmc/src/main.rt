@@ -76,8 +76,9 @@ mod detail;
 mod explaining;
 
 use aiger::Layout;
+use aigmc_certificates::recertify;
 use aigmc_circuits::{Pair, extract, make_fitting, make_shadow, make_witness, trace};
-use aigmc_commands::{begin, certify_clauses, check, check_all, check_miter, cover, recertify};
+use aigmc_commands::{begin, certify_clauses, check, check_all, check_miter, cover};
 use aigmc_files::{DONE, FAULT, Stop, circuit, finished, print_table, stimulus_of, tell};
 use arguments::{AskedLayout, Request, Search, Wrong, parse};
 use base::push;

@@ -1,7 +1,7 @@
 //! 256 runs at once of a latch that toggles, by hand.
 
 use crate::questions::{Question, asked};
-use graph::Model;
+use graph::{Lit, Model};
 use simulate::{ReplayError, Wide};
 use std::alloc::Global;
 use std::simd::u64x4;
@@ -12,6 +12,43 @@ static TOGGLE: &[u8] = b"aag 1 0 1 0 0 1\n2 3\n2\n";
 
 /// Four words of which each has the same 64 bits.
 type Words = [u64; 4];
+
+/// The values of the latch and of its negation behind one step.
+fn stepped(wide: &mut Wide) -> [Words; 2]
+    requires inputs { length wide.old.circuit.inputs ≡ 0 }
+    requires variables { 1 ≤ wide.old.circuit.max_var }
+{
+    wide.step(&[]);
+    [wide.value(Lit(2)).to_array(), wide.value(Lit(3)).to_array()]
+}
+
+/// What all runs show behind one step: the values of the latch and of its negation, and the next states.
+#[derive(Clone, Copy)]
+struct Stepped;
+
+impl Question for Stepped {
+    type Answer = Option<[Words; 3]>;
+
+    fn answer(&self, alloc: Global, circuit: &Model) -> Result<Option<[Words; 3]>, Fail> {
+        if circuit.latches().len() != 1 || !circuit.inputs().is_empty() || circuit.max_var() == 0 {
+            return Ok(None);
+        }
+        let mut wide = Wide::new(alloc, circuit, &[u64x4::splat(0)])?;
+        let [value, negation] = stepped(&mut wide);
+        match wide.state() {
+            [next] => Ok(Some([value, negation, next.to_array()])),
+            _ => Ok(None),
+        }
+    }
+}
+
+#[test]
+fn all_runs_toggle(rt: HostRuntime) -> Result<(), Fail> {
+    let zeros = [0; 4];
+    let ones = [u64::MAX; 4];
+    assert!(rt; asked(rt.alloc(), TOGGLE, &Stepped)? == Some([zeros, ones, ones]));
+    Ok(())
+}
 
 /// The first states of the latch, and whether one of the runs is against its reset.
 static FIRST: [(Words, bool); 4] = [

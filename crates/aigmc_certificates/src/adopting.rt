@@ -2,28 +2,40 @@
 
 use crate::counterexample::tell_counterexample;
 use crate::extending::claimed_over;
-use crate::telling::conclude;
 use crate::third::kept;
-use crate::timing::{ask, begin};
 use aigmc_files::{
     DONE, Role, Stop, about, asked_for, circuit, circuit_of, is_taken, keep, property_in, read_of,
     read_text,
 };
-use arguments::{Claim, EngineKind, Search};
+use arguments::Claim;
 use base::{Budget, Seq};
 use certify::{Certified, certify};
 use graph::{AigerFile, Lit, Property};
 use inputs::is_standard;
-use portfolio::Question;
-use property_names::symbol_of;
 use std::alloc::Global;
 use transforms::shadow_file;
 use verdict::Verdict;
 
 /// The status of clauses that are no inductive invariant which excludes the property's literal.
-const NO_INVARIANT: u8 = 1;
+pub const NO_INVARIANT: u8 = 1;
 /// The status of a budget that is exhausted, and of a search that found nothing.
-const SPENT: u8 = 2;
+pub const SPENT: u8 = 2;
+
+/// What became of the clauses.
+#[derive(Drop)]
+pub enum Adopted {
+    /// A certificate was made, or standard error says why none was: the status.
+    Ended(u8),
+    /// They are no invariant, and one that begins with them is to be looked for.
+    Strengthen {
+        /// the circuit
+        file: AigerFile,
+        /// the property
+        property: Property,
+        /// the clauses
+        clauses: Seq<Seq<Lit>>,
+    },
+}
 
 /// Whether the text begins as a PLA does, and as no line of clauses and no certificate.
 fn is_pla(text: &[u8]) -> bool {
@@ -73,82 +85,30 @@ fn clauses_of(
     }
 }
 
-/// Looks by IC3 for an invariant, beginning with the clauses, of which nothing is believed.
-fn strengthened(
-    rt: &HostRuntime,
-    asked: Claim<'_>,
-    property: Property,
-    file: &AigerFile,
-    clauses: Seq<Seq<Lit>>,
-) -> Result<u8, Stop> {
-    let search = Search {
-        engine: EngineKind::Inductive,
-        depth: 0,
-        budget: asked.budget,
-        seed: 0,
-        timeout: asked.timeout,
-        quiet: false,
-        json: false,
-        verbose: asked.verbose,
-    };
-    let timing = begin(rt, search)?;
-    let question = Question {
-        circuit: file.model(),
-        property,
-        timing,
-    };
-    let verdict = ask(rt, question, clauses)?.verdict;
-    if asked.verbose {
-        let symbol = symbol_of(file, property);
-        conclude(rt, property, &verdict, symbol, timing.deadline.is_over());
-    }
-    match &verdict {
-        Verdict::Safe(_) => {
-            keep(rt, asked.certificate, property, &verdict)?;
-            Ok(DONE)
-        }
-        Verdict::Unsafe(_) => {
-            let _ = eprintln!(rt; "aigmc: the property is violated");
-            Ok(NO_INVARIANT)
-        }
-        Verdict::Unknown(_) => {
-            let _ = eprintln!(rt; "aigmc: nothing is known of the property");
-            Ok(SPENT)
-        }
-    }
-}
-
-/// Makes a certificate of the clauses, each case of which is proved. Where none was made, standard error says why.
+/// Makes a certificate of the clauses, each case of which is proved. Where none was made, standard error says why; the
+/// status is none where an invariant that begins with them is to be looked for.
 fn certified(
     rt: &HostRuntime,
     asked: Claim<'_>,
     property: Property,
     file: &AigerFile,
-    clauses: Seq<Seq<Lit>>,
-) -> Result<u8, Stop> {
+    clauses: &[Seq<Lit>],
+) -> Result<Option<u8>, Stop> {
     let mut budget = Budget::new(asked.budget);
-    let outcome = certify(
-        rt.alloc(),
-        file.model(),
-        property,
-        clauses.as_slice(),
-        &mut budget,
-    )?;
+    let outcome = certify(rt.alloc(), file.model(), property, clauses, &mut budget)?;
     match outcome {
         Certified::Certificate(certificate) => {
             keep(rt, asked.certificate, property, &Verdict::Safe(certificate))?;
-            Ok(DONE)
+            Ok(Some(DONE))
         }
-        Certified::NotInvariant(_) if asked.strengthen => {
-            strengthened(rt, asked, property, file, clauses)
-        }
+        Certified::NotInvariant(_) if asked.strengthen => Ok(None),
         Certified::NotInvariant(found) => {
             tell_counterexample(rt, file.model(), property, &found)?;
-            Ok(NO_INVARIANT)
+            Ok(Some(NO_INVARIANT))
         }
         Certified::Spent => {
             let _ = eprintln!(rt; "aigmc: the budget is exhausted");
-            Ok(SPENT)
+            Ok(Some(SPENT))
         }
     }
 }
@@ -158,10 +118,18 @@ fn certified_clauses(
     rt: &HostRuntime,
     asked: Claim<'_>,
     property: Property,
-    file: &AigerFile,
-) -> Result<u8, Stop> {
-    let clauses = clauses_of(rt, asked.invariant, file, property)?;
-    about(Role::Circuit, certified(rt, asked, property, file, clauses))
+    file: AigerFile,
+) -> Result<Adopted, Stop> {
+    let clauses = clauses_of(rt, asked.invariant, &file, property)?;
+    let made = certified(rt, asked, property, &file, clauses.as_slice());
+    match about(Role::Circuit, made)? {
+        Some(status) => Ok(Adopted::Ended(status)),
+        None => Ok(Adopted::Strengthen {
+            file,
+            property,
+            clauses,
+        }),
+    }
 }
 
 /// Makes a certificate of version 3 of the clauses in the file that is named, over the circuit in the file of the
@@ -196,7 +164,7 @@ fn certified_over(
 }
 
 /// Makes a certificate of the clauses in a file, in the file of that name.
-pub fn certify_clauses(rt: &HostRuntime, asked: Claim<'_>) -> Result<u8, Stop> {
+pub fn certify_clauses(rt: &HostRuntime, asked: Claim<'_>) -> Result<Adopted, Stop> {
     let word = asked_for(asked.property)?;
     if is_standard(asked.file) && is_standard(asked.invariant) {
         return Err(Stop::BadArgument);
@@ -207,8 +175,9 @@ pub fn certify_clauses(rt: &HostRuntime, asked: Claim<'_>) -> Result<u8, Stop> {
     }
     let file = circuit(rt, asked.file)?;
     let property = property_in(rt, asked.file, &file, word, asked.verbose)?;
-    match asked.extension {
-        Some(extension) => certified_over(rt, asked, property, &file, extension),
-        None => certified_clauses(rt, asked, property, &file),
-    }
+    let Some(extension) = asked.extension else {
+        return certified_clauses(rt, asked, property, file);
+    };
+    let status = certified_over(rt, asked, property, &file, extension)?;
+    Ok(Adopted::Ended(status))
 }

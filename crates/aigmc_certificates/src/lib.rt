@@ -1,0 +1,11 @@
+//! The commands of `aigmc` that make certificates of clauses: of those that other engines found, and of a certificate's.
+#![tactic(auto)]
+
+mod adopting;
+mod counterexample;
+mod extending;
+mod recertifying;
+mod third;
+
+pub use adopting::{Adopted, NO_INVARIANT, SPENT, certify_clauses};
+pub use recertifying::recertify;

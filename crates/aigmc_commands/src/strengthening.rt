@@ -1,0 +1,76 @@
+//! The command `certify`: of clauses that are no invariant IC3 looks for one.
+
+use crate::telling::conclude;
+use crate::timing::{ask, begin};
+use aigmc_certificates::{Adopted, NO_INVARIANT, SPENT};
+use aigmc_files::{DONE, Role, Stop, about, keep};
+use arguments::{Claim, EngineKind, Search};
+use base::Seq;
+use graph::{AigerFile, Lit, Property};
+use portfolio::Question;
+use property_names::symbol_of;
+use verdict::Verdict;
+
+/// What is asked of IC3.
+fn search_for(asked: Claim<'_>) -> Search {
+    Search {
+        engine: EngineKind::Inductive,
+        depth: 0,
+        budget: asked.budget,
+        seed: 0,
+        timeout: asked.timeout,
+        quiet: false,
+        json: false,
+        verbose: asked.verbose,
+    }
+}
+
+/// Looks by IC3 for an invariant, beginning with the clauses, of which nothing is believed.
+fn strengthened(
+    rt: &HostRuntime,
+    asked: Claim<'_>,
+    property: Property,
+    file: &AigerFile,
+    clauses: Seq<Seq<Lit>>,
+) -> Result<u8, Stop> {
+    let timing = begin(rt, search_for(asked))?;
+    let question = Question {
+        circuit: file.model(),
+        property,
+        timing,
+    };
+    let verdict = ask(rt, question, clauses)?.verdict;
+    if asked.verbose {
+        let symbol = symbol_of(file, property);
+        conclude(rt, property, &verdict, symbol, timing.deadline.is_over());
+    }
+    match &verdict {
+        Verdict::Safe(_) => {
+            keep(rt, asked.certificate, property, &verdict)?;
+            Ok(DONE)
+        }
+        Verdict::Unsafe(_) => {
+            let _ = eprintln!(rt; "aigmc: the property is violated");
+            Ok(NO_INVARIANT)
+        }
+        Verdict::Unknown(_) => {
+            let _ = eprintln!(rt; "aigmc: nothing is known of the property");
+            Ok(SPENT)
+        }
+    }
+}
+
+/// Makes a certificate of the clauses in a file, in the file of that name.
+pub fn certify_clauses(rt: &HostRuntime, asked: Claim<'_>) -> Result<u8, Stop> {
+    match aigmc_certificates::certify_clauses(rt, asked)? {
+        Adopted::Ended(status) => Ok(status),
+        Adopted::Strengthen {
+            file,
+            property,
+            clauses,
+        } => about(
+            Role::Circuit,
+            strengthened(rt, asked, property, &file, clauses),
+        ),
+    }
+}
