@@ -3,9 +3,10 @@
  * Texts are bytes with a length; they may hold any bytes and need no end. None is kept after the call. A call takes memory by
  * malloc, realloc and free, and gives it back before it returns. Two calls may run at the same time.
  *
- * What each call ensures is proved of the library (crates/aigcheck_c/src/lib.rt has it as contracts). What a caller has to see to, since nothing checks
- * it: each pointer is of as many bytes as its length says, which no other call writes meanwhile; `line` is of `room` bytes that are the caller's alone;
- * `count` points to a size_t; and malloc aligns as C wants it. A pointer is not null, also where its length is 0.
+ * What each call ensures is proved of the library (crates/aigcheck_c/src/lib.rt has it as contracts), but when AIGCHECK_NONE comes, which is tested
+ * alone. What a caller has to see to, since nothing checks it: each pointer is of as many bytes as its length says, which no other call writes
+ * meanwhile; `line` is of `room` bytes that are the caller's alone; `count` points to a size_t; and malloc aligns as C wants it. A pointer is not null,
+ * also where its length is 0.
  */
 #ifndef AIGCHECK_H
 #define AIGCHECK_H
