@@ -38,17 +38,17 @@ Where Yosys and Icarus Verilog are installed, `cases/simulated` and `robustness/
 SystemVerilog designs with simulation: two cases, which are skipped elsewhere and named as skipped. So is the case of
 ABC's invariants (`cases/findings abc`) where ABC is not installed.
 
-Sixteen cases more: `cases/documents` looks for what the documents name; `cases/quoted` runs the commands that they
-quote; `cases/words` looks for old words in the crates that search; `cases/ticks` compares where a step of a budget is
-taken, and where a list is filled by a number, with its lists; `cases/waveform` reads waveforms back; `cases/findings`
-hands other tools' findings to `aigmc certify` and `aigmc witness`; `cases/recertified` judges certificates of version 3
-of random circuits; the sources make the witnesses of refused memory and of used-up ids in one file each; a chain of
-1,000,000 gates that is given last first is converted, and a cycle of as many is refused, under a stack of 64 KiB;
-evidence that never ends, or that is long and says little at once, is judged in 64 MiB of memory; `explain` of both
-programs says of each number what docs/faults.tsv says; `robustness/refused` refuses the growths of the cases of
-cases.tsv in turn, `robustness/devices` fails their calls of the system, and `robustness/again` refuses the growths of
-tests that make a call again then, all by libraries that a C compiler `cc` makes; and `robustness/cut` cuts their texts
-at every length.
+Seventeen cases more: `cases/documents` looks for what the documents name; `cases/quoted` runs the commands that they
+quote; `tools/trust` compares the definitions to believe with what docs/TRUST.md lists and counts; `cases/words` looks
+for old words in the crates that search; `cases/ticks` compares where a step of a budget is taken, and where a list is
+filled by a number, with its lists; `cases/waveform` reads waveforms back; `cases/findings` hands other tools' findings
+to `aigmc certify` and `aigmc witness`; `cases/recertified` judges certificates of version 3 of random circuits; the
+sources make the witnesses of refused memory and of used-up ids in one file each; a chain of 1,000,000 gates that is
+given last first is converted, and a cycle of as many is refused, under a stack of 64 KiB; evidence that never ends, or
+that is long and says little at once, is judged in 64 MiB of memory; `explain` of both programs says of each number what
+docs/faults.tsv says; `robustness/refused` refuses the growths of the cases of cases.tsv in turn, `robustness/devices`
+fails their calls of the system, and `robustness/again` refuses the growths of tests that make a call again then, all by
+libraries that a C compiler `cc` makes; and `robustness/cut` cuts their texts at every length.
 
 The cases of `cases/scripts` are of the scripts of bin/ around the programs, those of `cases/library` of the library for
 C, which `tools/library` has to have built, those of `cases/large` of circuits of 200,000 gates, and those of

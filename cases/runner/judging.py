@@ -8,6 +8,7 @@ from runner.texts import texts
 from runner.tools import (
     COUNTING,
     HOSTILE,
+    believed,
     counted_by,
     documents,
     findings,
@@ -28,6 +29,7 @@ def further_cases():
     found = {"the witness of refused memory": breaches(), "a deep chain": deep_chain(), "a deep cycle": deep_cycle()}
     found |= {"explain": explanations(), "evidence that never ends": endless()}
     found |= {"documents": documents(), "words": of_sources("words"), "steps of a budget": of_sources("ticks")}
+    found |= {"definitions to believe": believed()}
     found |= {"quoted commands": quoted(), "waveforms": waveforms(), "other tools' findings": findings()}
     found |= {"ABC's invariants": of_abc(), "certificates of version 3": recertified()}
     found |= {f"robustness/{tool}": hostile(tool) for tool in HOSTILE}

@@ -45,6 +45,12 @@ def of_sources(tool):
     return faults_of(*told(f"cases/{tool}", seconds=LIMIT_SECONDS))
 
 
+def believed():
+    """What `tools/trust` finds wrong with the lists of the definitions that are to be believed."""
+    status, lines = told("tools/trust", seconds=LIMIT_SECONDS)
+    return faults_of(status, [line for line in lines if line.startswith(("not found", "cited", "said otherwise"))])
+
+
 def hostile(tool):
     """What a tool of robustness/ finds that hands the built programs a hostile system or hostile texts. Each line before
     its last one is a fault, whatever its status. Some need a C compiler."""
