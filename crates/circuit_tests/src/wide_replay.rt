@@ -1,5 +1,7 @@
 //! 256 runs at once of a latch that toggles, by hand.
 
+ghost use Rattle.std.specs.Prelude.{◌≡◌, ◌≤◌, length};
+
 use crate::questions::{Question, asked};
 use graph::{Lit, Model};
 use simulate::{ReplayError, Wide};
@@ -14,7 +16,7 @@ static TOGGLE: &[u8] = b"aag 1 0 1 0 0 1\n2 3\n2\n";
 type Words = [u64; 4];
 
 /// The values of the latch and of its negation behind one step.
-fn stepped(wide: &mut Wide) -> [Words; 2]
+fn values_behind(wide: &mut Wide) -> [Words; 2]
     requires inputs { length wide.old.circuit.inputs ≡ 0 }
     requires variables { 1 ≤ wide.old.circuit.max_var }
 {
@@ -34,7 +36,7 @@ impl Question for Stepped {
             return Ok(None);
         }
         let mut wide = Wide::new(alloc, circuit, &[u64x4::splat(0)])?;
-        let [value, negation] = stepped(&mut wide);
+        let [value, negation] = values_behind(&mut wide);
         match wide.state() {
             [next] => Ok(Some([value, negation, next.to_array()])),
             _ => Ok(None),

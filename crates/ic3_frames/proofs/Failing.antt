@@ -9,7 +9,7 @@ use Rattle.std.proofs.lemmas.List.Elements.{All-contains_itself, All-map, All-ni
 use Rattle.std.proofs.lemmas.Slice.Eq.{slice_eq-Decides}
 use Rattle.ic3_step.specs.declared.state.StateLit.{StateLit}
 use Rattle.ic3_frames.specs.declared.failed_pushes.FailedPush.{FailedPush}
-use Rattle.ic3_frames.specs.Failures.{clauses_of}
+use Rattle.ic3_frames.specs.FailedPushes.{clauses_of}
 
 abbrev pub lit_eq : StateLit → StateLit → Bool
 lit_eq a b = nat_eq a.latch b.latch && beq a.value b.value

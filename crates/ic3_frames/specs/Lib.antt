@@ -3,4 +3,4 @@ pub mod Resets
 pub mod Clauses
 pub mod Marks
 pub mod Signatures
-pub mod Failures
+pub mod FailedPushes

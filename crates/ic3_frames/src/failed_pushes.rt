@@ -4,7 +4,7 @@
 //! As long as such a state lies in the frame, the push fails again, so it need not be tried.
 
 ghost use Rattle.std.specs.Prelude.{◌≡◌, ◌⊎◌, [], All, Contains, IsTrue};
-ghost use Rattle.ic3_frames.specs.Failures.{clauses_of};
+ghost use Rattle.ic3_frames.specs.FailedPushes.{clauses_of};
 
 use crate::frames::Entry;
 use base::{Refused, Seq, push};

@@ -45,7 +45,7 @@ pub struct Frames {
 impl std::marker::Model for Frames {
     ghost use Rattle.ic3_frames.specs.Frames.{Levels};
     ghost use Rattle.ic3_frames.specs.Signatures.{AreSignatures};
-    ghost use Rattle.ic3_frames.specs.Failures.{clauses_of};
+    ghost use Rattle.ic3_frames.specs.FailedPushes.{clauses_of};
 
     ghost Value = { Levels };
 

@@ -1,6 +1,6 @@
 use Rattle.std.proofs.Common.{List, Contains, arith, subst}
 use Rattle.ic3_frames.specs.declared.failed_pushes.FailedPush.{FailedPush}
-use Rattle.ic3_frames.specs.Failures.{clauses_of}
+use Rattle.ic3_frames.specs.FailedPushes.{clauses_of}
 use Rattle.ic3_frames.proofs.Failing.{clause_of}
 use Rattle.ic3_frames.proofs.failed_pushes.FailedPushes.fails_again.Goals as goal
 

@@ -1,5 +1,5 @@
 use Rattle.std.proofs.Common.{◌≡◌, ◌⊎◌, All, Contains, ap, subst}
-use Rattle.ic3_frames.specs.Failures.{clauses_of}
+use Rattle.ic3_frames.specs.FailedPushes.{clauses_of}
 use Rattle.ic3_frames.proofs.Laws.{noted_to}
 use Rattle.ic3_frames.proofs.frames.Frames.add_failed_push.Goals as goal
 
