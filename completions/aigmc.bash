@@ -4,7 +4,7 @@ _aigmc() {
     local word=${COMP_WORDS[COMP_CWORD]} before=${COMP_WORDS[COMP_CWORD - 1]} options
     COMPREPLY=()
     if [ "$COMP_CWORD" -eq 1 ]; then
-        mapfile -t COMPREPLY < <(compgen -W 'check all equal cover certify recertify convert to-safety extract witness sim trace explain --help -h --version -V' -- "$word")
+        mapfile -t COMPREPLY < <(compgen -W 'check all equal cover certify recertify to-witness adopt-witness convert to-safety extract witness sim trace explain --help -h --version -V' -- "$word")
         return
     fi
     case $before in
@@ -22,6 +22,7 @@ _aigmc() {
     check) options='-p --cert --out --engine --depth --budget --seed --timeout --quiet --json --verbose -v --help -h' ;;
     cover) options='--depth --budget --timeout --verbose -v --help -h' ;;
     certify) options='-p --invariant --extension --cert --budget --strengthen --timeout --verbose -v --help -h' ;;
+    adopt-witness) options='-p --budget --verbose -v --help -h' ;;
     recertify) options='--budget --verbose -v --help -h' ;;
     to-safety | extract) options='-p --verbose -v --help -h' ;;
     witness) options='-p --clear --verbose -v --help -h' ;;

@@ -9,8 +9,8 @@ that no clause and no core that the solver learned was refused.
 
 Only the cases whose programs are built so far are due (`STANDING`). A stimulus that `aigmc check` prints for a
 violation is confirmed by `aigcheck run`; where it answers that the property holds, it is asked for the certificate,
-which `aigcheck safe` accepts. A case that names no engine is asked of IC3 alone too. A case of `aigmc certify` or
-`aigmc recertify` makes a certificate that `aigcheck safe` accepts, or nothing. A case of `aigmc all` is asked for the
+which `aigcheck safe` accepts. A case that names no engine is asked of IC3 alone too. A case of `aigmc certify`,
+`aigmc recertify` or `aigmc adopt-witness` makes a certificate that `aigcheck safe` accepts, or nothing. A case of `aigmc all` is asked for the
 folder with its evidence too: that has a file for each verdict but an unknown, and `aigcheck all` accepts these, finds
 none for the others, counts them, and has the status that the verdicts have. Behind them, each ordered circuit of the
 cases is converted to binary and back, which must give the same text.
@@ -51,8 +51,9 @@ fails their calls of the system, and `robustness/again` refuses the growths of t
 libraries that a C compiler `cc` makes; and `robustness/cut` cuts their texts at every length.
 
 The cases of `cases/scripts` are of the scripts of bin/ around the programs, those of `cases/library` of the library for
-C, which `tools/library` has to have built, those of `cases/large` of circuits of 200,000 gates, and those of
-`cases/witness_judge` of `tools/witness_judge`; each counts.
+C, which `tools/library` has to have built, those of `cases/large` of circuits of 200,000 gates, those of
+`cases/witness_judge` of `tools/witness_judge`, and those of `cases/witnesses` of the witness circuits that are made and
+adopted; each counts.
 
 The line before the last one has the cases that were skipped, which count neither as passed nor as failed. The last line
 is 'N passed, M failed'; the status is 0 only where nothing failed.

@@ -41,18 +41,25 @@ def head_of(path):
     return version, claim.partition(" ")[0]
 
 
+def claimed(words):
+    """The property that a certificate is to be made of: that of another one, or the one that is asked for, or the first."""
+    if words[1] == "recertify":
+        return head_of(FOLDER / words[3])[1]
+    return words[words.index("-p") + 1] if "-p" in words else "b0"
+
+
 def unaccepted(case, status, scratch):
     """What is wrong with the certificate that was made of clauses, or with what was made beside a refusal."""
     words = words_of(case["command"], scratch)
     if status != 0:
         left = sorted(it.name for it in scratch.iterdir())
         return [f"{' '.join(left)} was made"] if left else []
-    is_again = words[1] == "recertify"
+    is_third = words[1] in ("recertify", "adopt-witness") or "--extension" in words
     path = next(pathlib.Path(word) for word in words if word.startswith(str(scratch)))
     version, _ = head_of(path)
-    if (is_again or "--extension" in words) != (version == "aigcert 3"):
+    if is_third != (version == "aigcert 3"):
         return [f"the certificate begins with {version}"]
-    name = head_of(FOLDER / words[3])[1] if is_again else words[words.index("-p") + 1]
+    name = claimed(words)
     _, said = answered(words_of(f"aigcheck safe {words[2]} {path}", scratch))
     return [] if said == f"yes safe {name}\n".encode() else [f"the certificate is not accepted: {said!r}"]
 

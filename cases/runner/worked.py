@@ -72,7 +72,7 @@ def faults_of(case, scratch):
     faults = differences(case, done) + refused_clauses(done.stdout)
     if not given and not is_json(command):
         faults += unsupported(case, done, scratch)
-    if command.startswith(("aigmc certify", "aigmc recertify")):
+    if command.startswith(("aigmc certify", "aigmc recertify", "aigmc adopt-witness")):
         faults += unaccepted(case, done.returncode, scratch)
     return faults + unmade(case, scratch)
 

@@ -41,6 +41,12 @@ fn name_of<'a>(request: Request<'a>, role: Role) -> Option<&'a str> {
         (Request::Extract(asked), Role::Made) => Some(asked.out),
         (Request::ToSafety(asked), Role::Circuit) => Some(asked.file),
         (Request::ToSafety(asked), Role::Made) => Some(asked.out),
+        (Request::AdoptWitness(asked), Role::Circuit) => Some(asked.file),
+        (Request::AdoptWitness(asked), Role::Other) => Some(asked.witness),
+        (Request::AdoptWitness(asked), Role::Made) => Some(asked.out),
+        (Request::ToWitness(asked), Role::Circuit) => Some(asked.file),
+        (Request::ToWitness(asked), Role::Invariant) => Some(asked.certificate),
+        (Request::ToWitness(asked), Role::Made) => Some(asked.out),
         _ => None,
     }
 }

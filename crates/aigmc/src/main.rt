@@ -51,6 +51,13 @@
 //! `aigmc recertify FILE CERT OUT` makes a certificate of version 3 of the clauses of the certificate CERT, of any version
 //! (`certify3::certify`), and says what `certify` says where there is none.
 //!
+//! `aigmc to-witness FILE CERT OUT` writes the witness circuit of the certificate CERT, which has to be accepted, to OUT, in the
+//! layouts of `convert` (`witness_circuits::witness_of`). OUT is neither FILE nor CERT.
+//!
+//! `aigmc adopt-witness FILE WITNESS OUT` makes a certificate of version 3 of the witness circuit WITNESS, of the property that
+//! `-p` names or else FILE's only one (`witness_circuits::adopt`, `certify3::certify`). Where WITNESS is none, standard error says
+//! which condition fails, by which state.
+//!
 //! `aigmc to-safety FILE -p jN OUT` writes the shadow circuit of a justice property to OUT, in the layouts of
 //! `convert`. OUT is not FILE.
 //!
@@ -76,8 +83,10 @@ mod detail;
 mod explaining;
 
 use aiger::Layout;
-use aigmc_certificates::recertify;
-use aigmc_circuits::{Pair, extract, make_fitting, make_shadow, make_witness, trace};
+use aigmc_certificates::{adopt_witness, recertify};
+use aigmc_circuits::{
+    Pair, extract, make_fitting, make_shadow, make_witness, make_witness_circuit, trace,
+};
 use aigmc_commands::{begin, certify_clauses, check, check_all, check_miter, cover};
 use aigmc_files::{DONE, FAULT, Stop, circuit, finished, print_table, stimulus_of, tell};
 use arguments::{AskedLayout, Request, Search, Wrong, parse};
@@ -139,6 +148,8 @@ fn done(rt: &HostRuntime, request: Request<'_>) -> Result<u8, Stop> {
         Request::Certify(asked) => certify_clauses(rt, asked),
         Request::Recertify(asked) => recertify(rt, asked),
         Request::ToSafety(asked) => make_shadow(rt, asked),
+        Request::AdoptWitness(asked) => adopt_witness(rt, asked),
+        Request::ToWitness(asked) => make_witness_circuit(rt, asked),
         Request::Extract(asked) => extract(rt, asked),
         Request::Witness(asked) => make_witness(rt, asked),
         Request::Check {

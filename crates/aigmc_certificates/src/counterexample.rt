@@ -31,8 +31,19 @@ pub struct Values {
     pub next: Seq<bool>,
 }
 
+/// Says in which state it is so.
+pub fn tell_state(rt: &HostRuntime, values: &Values) {
+    let _ = eprint!(rt; " in the state {}", Bits(values.state.as_slice()));
+}
+
+/// Says after which step it is so.
+pub fn tell_step(rt: &HostRuntime, values: &Values) {
+    let (state, next) = (Bits(values.state.as_slice()), Bits(values.next.as_slice()));
+    let _ = eprint!(rt; " after the step from {state} to {next}");
+}
+
 /// Says by which inputs, where there are some.
-fn tell_inputs(rt: &HostRuntime, inputs: &[bool]) {
+pub fn tell_inputs(rt: &HostRuntime, inputs: &[bool]) {
     if !inputs.is_empty() {
         let _ = eprint!(rt; " with the inputs {}", Bits(inputs));
     }
@@ -41,19 +52,18 @@ fn tell_inputs(rt: &HostRuntime, inputs: &[bool]) {
 
 /// Says which case the values satisfy.
 pub fn tell_case(rt: &HostRuntime, case: Case, values: &Values) {
-    let (state, next) = (Bits(values.state.as_slice()), Bits(values.next.as_slice()));
     let _ = eprintln!(rt;
         "aigmc: the clauses are no inductive invariant that excludes the property's literal"
     );
     let _ = match case {
-        Case::Initial(clause) => {
-            eprint!(rt; "  initial: clause {clause} is false in the state {state}")
-        }
-        Case::Step(clause) => eprint!(rt;
-            "  step: clause {clause} is false after the step from {state} to {next}"
-        ),
-        Case::Bad => eprint!(rt; "  bad: the property's literal is 1 in the state {state}"),
+        Case::Initial(clause) => eprint!(rt; "  initial: clause {clause} is false"),
+        Case::Step(clause) => eprint!(rt; "  step: clause {clause} is false"),
+        Case::Bad => eprint!(rt; "  bad: the property's literal is 1"),
     };
+    match case {
+        Case::Step(_) => tell_step(rt, values),
+        Case::Initial(_) | Case::Bad => tell_state(rt, values),
+    }
     tell_inputs(rt, values.inputs.as_slice());
 }
 

@@ -1,10 +1,8 @@
 //! The latches and gates that a circuit has beyond another one.
 
-use crate::recertifying::listed;
-use crate::third::Claimed;
-use aigmc_files::{Role, Stop, about};
+use aigmc_files::{Claimed, Role, Stop, about, listed};
 use base::{Refused, Seq};
-use certificate3::Claim;
+use certificate3::{Claim, Format};
 use graph::{Lit, Model, Property};
 use std::alloc::Global;
 
@@ -30,6 +28,7 @@ fn beyond(
     let latches = circuit.latches().len().min(extended.latches().len());
     let gates = circuit.gates().len().min(extended.gates().len());
     Ok(Claimed {
+        format: Format::Three,
         claim: Claim {
             property,
             rounds: 0,

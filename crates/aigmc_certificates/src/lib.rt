@@ -6,6 +6,8 @@ mod counterexample;
 mod extending;
 mod recertifying;
 mod third;
+mod witnessed;
 
 pub use adopting::{Adopted, NO_INVARIANT, SPENT, certify_clauses};
 pub use recertifying::recertify;
+pub use witnessed::adopt_witness;

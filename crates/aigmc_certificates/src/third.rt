@@ -1,31 +1,17 @@
 //! Certificates of version 3.
 
 use crate::counterexample::{Values, tell_case};
-use aigmc_files::{DONE, Role, Stop, about, make_bytes};
-use base::{Budget, Lists, Refused, Seq};
-use certificate3::Claim;
+use aigmc_files::{Claimed, DONE, Role, Stop, about, make_bytes};
+use base::{Budget, Refused, Seq};
 use certify::Case as EarlierCase;
 use certify3::{Case, Certified, Counterexample, Extension, certify};
-use graph::{Gate, Latch, Lit, Model};
+use graph::Model;
 use std::alloc::Global;
 
 /// The status of clauses that are no inductive invariant which excludes the property's literal.
-const NO_INVARIANT: u8 = 1;
+pub const NO_INVARIANT: u8 = 1;
 /// The status where nothing is known.
-const UNKNOWN: u8 = 2;
-
-/// What a certificate claims, and by which clauses.
-#[derive(Drop)]
-pub struct Claimed {
-    /// what it claims
-    pub claim: Claim,
-    /// its latches behind those of the circuit
-    pub latches: Seq<Latch>,
-    /// its gates behind those of the circuit
-    pub gates: Seq<Gate>,
-    /// its clauses
-    pub invariant: Lists<Lit>,
-}
+pub const UNKNOWN: u8 = 2;
 
 /// The values of the circuit's latches.
 fn state_of(alloc: Global, circuit: &Model, found: &Counterexample) -> Result<Seq<bool>, Refused> {
@@ -63,30 +49,41 @@ fn case_of(case: Case) -> EarlierCase {
     }
 }
 
-/// Says which case the values satisfy, and by which state and inputs of the circuit.
-fn tell_values(rt: &HostRuntime, circuit: &Model, found: &Counterexample) -> Result<(), Stop> {
-    let alloc = rt.alloc();
-    // all memory is taken before the first word
-    let values = Values {
+/// The values of the circuit's latches and inputs, and of the latches after a step. All memory is taken before the first
+/// word is told.
+pub fn values_of(
+    alloc: Global,
+    circuit: &Model,
+    found: &Counterexample,
+) -> Result<Values, Refused> {
+    Ok(Values {
         state: state_of(alloc, circuit, found)?,
         inputs: inputs_of(alloc, circuit, found)?,
         next: next_of(alloc, circuit, found)?,
-    };
-    tell_case(rt, case_of(found.case), &values);
-    Ok(())
+    })
 }
 
-/// Makes the certificate of what is claimed about the circuit, in the file of that name. Where none was made,
-/// standard error says why, by the state of the circuit that is shown.
-pub fn kept(
+/// What came of what is claimed.
+#[derive(Drop)]
+pub enum Outcome {
+    /// The certificate is made.
+    Made,
+    /// What satisfies a case of the clauses.
+    NotInvariant(Counterexample),
+    /// Standard error says why nothing is known.
+    Unknown,
+}
+
+/// Makes the certificate of what is claimed about the circuit, in the file of that name.
+pub fn outcome_of(
     rt: &HostRuntime,
     out: &str,
     circuit: &Model,
-    shown: &Model,
     claimed: Claimed,
     steps: u64,
-) -> Result<u8, Stop> {
+) -> Result<Outcome, Stop> {
     let Claimed {
+        format: _,
         claim,
         latches,
         gates,
@@ -108,19 +105,37 @@ pub fn kept(
     match about(Role::Circuit, outcome.map_err(Stop::from))? {
         Certified::Certificate(text) => {
             make_bytes(rt, out, text.as_slice())?;
-            Ok(DONE)
+            Ok(Outcome::Made)
         }
-        Certified::NotInvariant(found) => {
-            tell_values(rt, shown, &found)?;
-            Ok(NO_INVARIANT)
-        }
+        Certified::NotInvariant(found) => Ok(Outcome::NotInvariant(found)),
         Certified::Spent => {
             let _ = eprintln!(rt; "aigmc: the budget is exhausted");
-            Ok(UNKNOWN)
+            Ok(Outcome::Unknown)
         }
         Certified::Unaccepted => {
             let _ = eprintln!(rt; "aigmc: the certificate that was made is not accepted");
-            Ok(UNKNOWN)
+            Ok(Outcome::Unknown)
         }
+    }
+}
+
+/// Makes the certificate of what is claimed about the circuit, in the file of that name. Where none was made,
+/// standard error says why, by the state of the circuit that is shown.
+pub fn kept(
+    rt: &HostRuntime,
+    out: &str,
+    circuit: &Model,
+    shown: &Model,
+    claimed: Claimed,
+    steps: u64,
+) -> Result<u8, Stop> {
+    match outcome_of(rt, out, circuit, claimed, steps)? {
+        Outcome::Made => Ok(DONE),
+        Outcome::NotInvariant(found) => {
+            let values = values_of(rt.alloc(), shown, &found)?;
+            tell_case(rt, case_of(found.case), &values);
+            Ok(NO_INVARIANT)
+        }
+        Outcome::Unknown => Ok(UNKNOWN),
     }
 }

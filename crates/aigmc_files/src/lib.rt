@@ -4,6 +4,7 @@
 //! it is about.
 #![tactic(auto)]
 
+mod claimed;
 mod command_error;
 mod files;
 mod making;
@@ -12,6 +13,7 @@ mod naming;
 mod stop;
 mod terminal;
 
+pub use claimed::{Claimed, claimed_in, listed, refused_text};
 pub use command_error::CommandError;
 pub use files::{
     Shown, UNKNOWN, VIOLATED, circuit, circuit_of, is_taken, keep, keep_and_print, make,

@@ -12,6 +12,7 @@ use std::io;
 use std::process::ExitCode;
 use transforms::TransformError;
 use witness::WitnessError;
+use witness_circuits::{MakeError, PairError};
 
 /// The status of a command that was done.
 pub const DONE: u8 = 0;
@@ -155,6 +156,24 @@ impl From<LiveError> for Stop {
 
 impl From<TransformError> for Stop {
     fn from(e: TransformError) -> Stop {
+        Stop::Fault {
+            number: e.number(),
+            place: e.place(),
+        }
+    }
+}
+
+impl From<MakeError> for Stop {
+    fn from(e: MakeError) -> Stop {
+        Stop::Fault {
+            number: e.number(),
+            place: e.place(),
+        }
+    }
+}
+
+impl From<PairError> for Stop {
+    fn from(e: PairError) -> Stop {
         Stop::Fault {
             number: e.number(),
             place: e.place(),

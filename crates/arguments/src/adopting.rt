@@ -41,6 +41,36 @@ pub struct Recertification<'a> {
     pub verbose: bool,
 }
 
+/// A witness circuit, and the certificate to make of it.
+#[derive(Clone, Copy)]
+pub struct Adoption<'a> {
+    /// the circuit's file
+    pub file: &'a str,
+    /// the witness circuit's file
+    pub witness: &'a str,
+    /// the file to make
+    pub out: &'a str,
+    /// the property's name, where one is chosen
+    pub property: Option<&'a str>,
+    /// how many steps the proofs may cost
+    pub budget: u64,
+    /// whether a fault says more than its line
+    pub verbose: bool,
+}
+
+/// A certificate, and the file to make of its witness circuit.
+#[derive(Clone, Copy)]
+pub struct WitnessCircuit<'a> {
+    /// the circuit's file
+    pub file: &'a str,
+    /// the certificate's file
+    pub certificate: &'a str,
+    /// the file to make
+    pub out: &'a str,
+    /// whether a fault says more than its line
+    pub verbose: bool,
+}
+
 /// A justice property, and the file to make of its shadow circuit.
 #[derive(Clone, Copy)]
 pub struct Shadow<'a> {
@@ -99,6 +129,28 @@ pub fn asked_recertify<'a>(words: &ArgMatches<'a>) -> Recertification<'a> {
         certificate: word(words, "CERT"),
         out: word(words, "OUT"),
         budget: words.get_one::<u64>("budget").unwrap_or(STEPS),
+        verbose: words.get_flag("verbose"),
+    }
+}
+
+/// What `adopt-witness` asks for.
+pub fn asked_adopt_witness<'a>(words: &ArgMatches<'a>) -> Adoption<'a> {
+    Adoption {
+        file: word(words, "FILE"),
+        witness: word(words, "WITNESS"),
+        out: word(words, "OUT"),
+        property: words.get_str("property"),
+        budget: words.get_one::<u64>("budget").unwrap_or(STEPS),
+        verbose: words.get_flag("verbose"),
+    }
+}
+
+/// What `to-witness` asks for.
+pub fn asked_to_witness<'a>(words: &ArgMatches<'a>) -> WitnessCircuit<'a> {
+    WitnessCircuit {
+        file: word(words, "FILE"),
+        certificate: word(words, "CERT"),
+        out: word(words, "OUT"),
         verbose: words.get_flag("verbose"),
     }
 }

@@ -17,7 +17,7 @@ struct Row {
 static VERSION: &str = "0.1.0 (rattle-kit-13f)";
 
 static STATUSES: &str =
-    "Status: 0 done, 1 a violation (check, all), a difference (equal), no run (cover), no invariant (certify, recertify) or none shown (witness), 2 nothing is known (check, all, equal, cover, certify, recertify), 3 failed.
+    "Status: 0 done, 1 a violation (check, all), a difference (equal), no run (cover), no invariant (certify, recertify), no witness (adopt-witness) or none shown (witness), 2 nothing is known (check, all, equal, cover, certify, recertify, adopt-witness), 3 failed.
 A file called - is the standard input or output. Each command has a help of its own: aigmc check --help.";
 
 /// The file to make of a circuit.
@@ -320,7 +320,61 @@ Examples:
     },
 ];
 
-/// The commands behind them. They stand in a table of their own, since a proof about a table takes all of it.
+/// The commands about witness circuits. They stand in a table of their own, since a proof about a table takes all of it.
+static WITNESS_ROWS: [Row; 2] = [
+    Row {
+        name: "to-witness",
+        about: "Writes an accepted certificate as a witness circuit of the model checking competition",
+        behind: "OUT has the inputs, latches, gates and constraints of FILE, what the certificate adds, and one bad literal: it is set
+where the property's literal is, or where a clause is false. The symbols of OUT name the literals of FILE's inputs and
+latches.
+Status: 0 done, 3 failed: the certificate is not accepted, or is of a justice property.
+Examples:
+  aigmc to-witness design.aig b0.cert b0.witness.aig",
+        words: &[
+            FILE,
+            Argument {
+                name: "CERT",
+                help: "The certificate, of any version",
+                ..FILE
+            },
+            OUT,
+            REASONS,
+        ],
+    },
+    Row {
+        name: "adopt-witness",
+        about: "Makes a certificate of version 3 of a witness circuit of the model checking competition",
+        behind: "Status: 0 a certificate was made, 1 the circuit is no witness, 2 the budget is exhausted, 3 failed.
+Examples:
+  aigmc adopt-witness design.aig witness.aig b0.cert
+  aigmc adopt-witness design.aig witness.aig b1.cert -p b1",
+        words: &[
+            FILE,
+            Argument {
+                name: "WITNESS",
+                help: "The witness circuit",
+                ..FILE
+            },
+            Argument {
+                help: "The file to make of the certificate",
+                ..OUT
+            },
+            Argument {
+                required: false,
+                help: "The property, where FILE has several: b or o and its position, or its name",
+                ..PROPERTY
+            },
+            Argument {
+                help: "How many steps the proofs may cost",
+                ..BUDGET
+            },
+            REASONS,
+        ],
+    },
+];
+
+/// The commands behind those.
 static MORE_ROWS: [Row; 6] = [
     Row {
         name: "recertify",
@@ -475,6 +529,11 @@ fn add_whole<'a>(command: Command<'a>, alloc: Global) -> Result<Command<'a>, All
     add_rows(command, alloc, &CIRCUIT_ROWS)
 }
 
+/// Adds the commands about witness circuits.
+fn add_witness<'a>(command: Command<'a>, alloc: Global) -> Result<Command<'a>, AllocError> {
+    add_rows(command, alloc, &WITNESS_ROWS)
+}
+
 /// Adds the commands behind them.
 fn add_more<'a>(command: Command<'a>, alloc: Global) -> Result<Command<'a>, AllocError> {
     add_rows(command, alloc, &MORE_ROWS)
@@ -488,5 +547,5 @@ pub fn command<'a>(alloc: Global) -> Result<Command<'a>, AllocError> {
         .after_help(STATUSES)
         .subcommand_required(true);
     let command = add_whole(add_first(command, alloc)?, alloc)?;
-    add_more(command, alloc)
+    add_more(add_witness(command, alloc)?, alloc)
 }

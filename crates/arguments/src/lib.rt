@@ -12,7 +12,7 @@ mod witnessing;
 mod words;
 mod wrong;
 
-pub use adopting::{Claim, Extraction, Recertification, Shadow};
+pub use adopting::{Adoption, Claim, Extraction, Recertification, Shadow, WitnessCircuit};
 pub use layouts::AskedLayout;
 pub use request::{Asked, EngineKind, Kept, Request, Search, parse};
 pub use witnessing::Counterexample;

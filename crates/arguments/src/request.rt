@@ -1,8 +1,8 @@
 //! What the words of a command line ask for.
 
 use crate::adopting::{
-    Claim, Extraction, Recertification, Shadow, asked_certify, asked_extract, asked_recertify,
-    asked_to_safety,
+    Adoption, Claim, Extraction, Recertification, Shadow, WitnessCircuit, asked_adopt_witness,
+    asked_certify, asked_extract, asked_recertify, asked_to_safety, asked_to_witness,
 };
 use crate::grammar::command;
 use crate::layouts::{AskedLayout, asked_layout};
@@ -141,6 +141,10 @@ pub enum Request<'a> {
     Recertify(Recertification<'a>),
     /// Write the shadow circuit of a justice property.
     ToSafety(Shadow<'a>),
+    /// Make a certificate of version 3 of a witness circuit.
+    AdoptWitness(Adoption<'a>),
+    /// Write the witness circuit of a certificate.
+    ToWitness(WitnessCircuit<'a>),
     /// Write the circuit of a property alone.
     Extract(Extraction<'a>),
     /// Make a strict stimulus of a counterexample.
@@ -309,6 +313,8 @@ fn asked_of<'a>(name: &str, words: &ArgMatches<'a>) -> Option<Request<'a>> {
         "certify" => Some(Request::Certify(asked_certify(words))),
         "recertify" => Some(Request::Recertify(asked_recertify(words))),
         "to-safety" => Some(Request::ToSafety(asked_to_safety(words))),
+        "adopt-witness" => Some(Request::AdoptWitness(asked_adopt_witness(words))),
+        "to-witness" => Some(Request::ToWitness(asked_to_witness(words))),
         "extract" => Some(Request::Extract(asked_extract(words))),
         "witness" => Some(Request::Witness(asked_witness(words))),
         "convert" => asked_convert(words),

@@ -12,7 +12,7 @@ pub struct Explanation {
 }
 
 /// The numbers of faults and of a no, in rising order: the lines of docs/faults.tsv.
-static ROWS: [Explanation; 54] = [
+static ROWS: [Explanation; 56] = [
     Explanation {
         number: 1,
         meaning: "the text is longer than 67,108,864 bytes, or as a stimulus or clauses than 1,073,741,824",
@@ -207,6 +207,16 @@ static ROWS: [Explanation; 54] = [
         number: 56,
         meaning: "more rounds of justice than states",
         remedy: "claim 2^L rounds at most",
+    },
+    Explanation {
+        number: 57,
+        meaning: "a witness circuit's = LITERAL names no input or latch of the circuit, or one twice",
+        remedy: "name the literals of inputs and latches, each once",
+    },
+    Explanation {
+        number: 58,
+        meaning: "a witness circuit has another number of bad literals than one",
+        remedy: "give it one bad literal",
     },
     Explanation {
         number: 60,

@@ -1,0 +1,154 @@
+//! The command `adopt-witness`: a witness circuit becomes a certificate of version 3.
+
+use crate::counterexample::{Values, tell_inputs, tell_state, tell_step};
+use crate::third::{NO_INVARIANT, Outcome, UNKNOWN, outcome_of, values_of};
+use aigmc_files::{
+    Claimed, DONE, Role, Stop, about, asked_for, circuit, circuit_of, is_taken, property_in,
+};
+use arguments::Adoption;
+use base::{Refused, Seq};
+use certificate3::{Claim, Format};
+use certify3::{Case, Counterexample};
+use graph::{AigerFile, Latch, Model, Property};
+use inputs::is_standard;
+use std::alloc::Global;
+use witness_circuits::{Adopted, adopt};
+
+/// The only bad literal of the circuit, or the only output of one whose outputs are taken as some.
+fn only_property(circuit: &Model) -> Option<Property> {
+    if circuit.bad().len() == 1 {
+        return Some(Property::Bad(0));
+    }
+    if circuit.parts().are_outputs_bad() && circuit.outputs().len() == 1 {
+        return Some(Property::Output(0));
+    }
+    None
+}
+
+/// The property that is asked for, or else the circuit's only one.
+fn asked_property(
+    rt: &HostRuntime,
+    asked: Adoption<'_>,
+    file: &AigerFile,
+) -> Result<Property, Stop> {
+    if let Some(word) = asked.property {
+        let word = asked_for(word)?;
+        return property_in(rt, asked.file, file, word, asked.verbose);
+    }
+    match only_property(file.model()) {
+        Some(property) => Ok(property),
+        None => {
+            let _ = eprintln!(rt;
+                "aigmc: the circuit has not one bad literal: -p says which it is about"
+            );
+            Err(Stop::Told)
+        }
+    }
+}
+
+/// What is claimed of the property by what a witness adds.
+fn claimed_of(property: Property, adopted: Adopted) -> Claimed {
+    let Adopted {
+        latches,
+        gates,
+        invariant,
+    } = adopted;
+    Claimed {
+        format: Format::Three,
+        claim: Claim {
+            property,
+            rounds: 0,
+        },
+        latches,
+        gates,
+        invariant,
+    }
+}
+
+/// Adds the values of the latches that the witness alone has, and those after a step.
+fn add_own(values: &mut Values, latches: &[Latch], found: &Counterexample) -> Result<(), Refused> {
+    for latch in latches {
+        values.state.push(found.value(latch.lit))?;
+        values.next.push(found.value(latch.next))?;
+    }
+    Ok(())
+}
+
+/// Says which clause is false: the first one is the witness's property, and the others are its constraints.
+fn tell_clause(rt: &HostRuntime, of_property: &str, of_constraint: &str, clause: u64) {
+    let _ = if clause == 0 {
+        eprint!(rt; "  {of_property}: the witness's property is false")
+    } else {
+        eprint!(rt;
+            "  {of_constraint}: the witness's constraint {} is false",
+            clause.saturating_sub(1)
+        )
+    };
+}
+
+/// Says which of a witness's conditions the values break.
+fn tell_condition(rt: &HostRuntime, case: Case, values: &Values) {
+    let _ = eprintln!(rt; "aigmc: the circuit is no witness of the property");
+    match case {
+        Case::First(clause) => {
+            tell_clause(rt, "base", "reset", clause);
+            tell_state(rt, values);
+        }
+        Case::Step(clause) => {
+            tell_clause(rt, "step", "transition", clause);
+            tell_step(rt, values);
+        }
+        Case::Last => {
+            let _ = eprint!(rt; "  property: the property's literal is 1");
+            tell_state(rt, values);
+        }
+    }
+    tell_inputs(rt, values.inputs.as_slice());
+}
+
+/// Makes the certificate, or says which of the witness's conditions fails, by the latches of the circuit and then those
+/// that the witness alone has.
+fn kept_of(
+    rt: &HostRuntime,
+    asked: Adoption<'_>,
+    circuit: &Model,
+    claimed: Claimed,
+) -> Result<u8, Stop> {
+    let own = Seq::from_slice(rt.alloc(), claimed.latches.as_slice())?;
+    match outcome_of(rt, asked.out, circuit, claimed, asked.budget)? {
+        Outcome::Made => Ok(DONE),
+        Outcome::NotInvariant(found) => {
+            let mut values = values_of(rt.alloc(), circuit, &found)?;
+            add_own(&mut values, own.as_slice(), &found)?;
+            tell_condition(rt, found.case, &values);
+            Ok(NO_INVARIANT)
+        }
+        Outcome::Unknown => Ok(UNKNOWN),
+    }
+}
+
+/// What a witness adds to the circuit, and what is to be inductive.
+fn adopted_of(alloc: Global, circuit: &Model, witness: &AigerFile) -> Result<Adopted, Stop> {
+    let adopted = adopt(alloc, circuit, witness)?;
+    Ok(adopted)
+}
+
+/// Makes a certificate of version 3 of a witness circuit, in the file of that name.
+pub fn adopt_witness(rt: &HostRuntime, asked: Adoption<'_>) -> Result<u8, Stop> {
+    if is_standard(asked.file) && is_standard(asked.witness) {
+        return Err(Stop::BadArgument);
+    }
+    let out = asked.out;
+    if is_taken(rt, asked.file, out) || is_taken(rt, asked.witness, out) {
+        return Err(Stop::Taken);
+    }
+    let file = circuit(rt, asked.file)?;
+    let property = asked_property(rt, asked, &file)?;
+    if matches!(property, Property::Justice(_)) {
+        return Err(Stop::BadArgument);
+    }
+    let witness = circuit_of(rt, asked.witness, Role::Other)?;
+    let adopted = about(Role::Other, adopted_of(rt.alloc(), file.model(), &witness))?;
+    let claimed = claimed_of(property, adopted);
+    kept_of(rt, asked, file.model(), claimed)
+}
