@@ -1,5 +1,7 @@
 //! The command `all`.
 
+ghost use Rattle.std.specs.Prelude.{◌≡◌, None, IfSome, false};
+
 use crate::counts::{Counts, Shown};
 use crate::detail::{number_of, put_line, tell_circuit, tell_meaning, tell_symbol};
 use crate::judging::{Names, answer_in_memory, judge, text_of};
@@ -37,7 +39,10 @@ fn found(rt: &HostRuntime, name: &str) -> Result<Option<File>, NoAnswer> {
 }
 
 /// Whether a file was judged and accepted.
-fn is_accepted(said: &Option<Said>) -> bool {
+fn is_accepted(said: &Option<Said>) -> bool
+    ensures judged { IfSome said.now (λ said. result ≡ said.is_yes) }
+    ensures none { said.now ≡ None → result ≡ false }
+{
     match said {
         Some(said) => said.is_yes,
         None => false,

@@ -1,6 +1,12 @@
 //! The commands `safe` and `run`.
 
-ghost use Rattle.std.specs.Prelude.{◌-◌, ◌<◌, ◌^◌};
+ghost use Rattle.std.specs.Prelude.{◌≡◌, ◌-◌, ◌<◌, ◌^◌, ℕ, None, Ok, IfOk, IfSome, IsSome, IsTrue, false};
+ghost use Rattle.std.specs.Io.KnownBytes.{Appends};
+ghost use Rattle.base.specs.Devices.{Reads};
+ghost use Rattle.graph.specs.declared.circuit.Property.{Property as AProperty};
+ghost use Rattle.checker.specs.Lines.{no_line, yes_line};
+ghost use Rattle.property_names.specs.Symbols.{IsAskedFor};
+ghost use Rattle.aigcheck.specs.Judged.{IsAccepted, IsNo, question_of};
 
 use crate::detail::{put_line, tell_circuit, tell_unnamed};
 use crate::no_answer::{NoAnswer, Role, opened};
@@ -65,6 +71,12 @@ pub fn judge<M: Source, C: Source, W: Sink>(
     requires circuit { M.failed circuit.old < 2 ^ 64 - 1 }
     requires evidence { C.failed file.old < 2 ^ 64 - 1 }
     requires out { W.failed out.old < 2 ^ 64 - 1 }
+    // Yes: it is accepted, for the property that is wanted, where one is, and the line says so.
+    ensures yes { Reads (M.leaves circuit.old) (M.leaves circuit.new) (λ xs _. Reads (C.leaves file.old) (C.leaves file.new) (λ ys _. IfOk result (λ yes. IsTrue yes → (p : AProperty) × IfSome property (λ q. q ≡ p) × IsAccepted evidence xs ys p × Appends (W.contents out.old) (W.contents out.new) (yes_line (question_of evidence) p)))) }
+    // No: there is a reason, and the line has its number.
+    ensures no { Reads (M.leaves circuit.old) (M.leaves circuit.new) (λ xs _. Reads (C.leaves file.old) (C.leaves file.new) (λ ys _. IfOk result (λ yes. yes ≡ false → (n : ℕ) × IsNo evidence property xs ys n × Appends (W.contents out.old) (W.contents out.new) (no_line n)))) }
+    // Whatever is accepted gets a yes, unless memory runs out or a device fails.
+    ensures exact { Reads (M.leaves circuit.old) (M.leaves circuit.new) (λ xs _. Reads (C.leaves file.old) (C.leaves file.new) (λ ys _. (p : AProperty) → IfSome property (λ q. q ≡ p) → IsAccepted evidence xs ys p → IfOk result (λ yes. IsTrue yes))) }
 {
     match (evidence, property) {
         (Evidence::Certificate, None) => run_safe(alloc, circuit, file, out),
@@ -79,7 +91,9 @@ pub fn judge<M: Source, C: Source, W: Sink>(
 }
 
 /// The answer of a judge that puts its line into memory: where that fails, there is none left.
-pub fn answer_in_memory(answer: Result<bool, RunError>, out: &ToVec) -> Result<bool, NoAnswer> {
+pub fn answer_in_memory(answer: Result<bool, RunError>, out: &ToVec) -> Result<bool, NoAnswer>
+    ensures { IfOk result (λ yes. answer ≡ Ok yes) }
+{
     match answer {
         Err(RunError::Device) if out.failures() > 0 => Err(NoAnswer::Memory),
         answer => Ok(answer?),
@@ -139,7 +153,10 @@ impl Question<'_> {
         self,
         rt: &HostRuntime,
         circuit: &AigerFile,
-    ) -> Result<Option<Property>, NoAnswer> {
+    ) -> Result<Option<Property>, NoAnswer>
+        ensures asked { IfSome self.entry.asked (λ asked. IfOk result (λ wanted. IsSome wanted × IfSome wanted (IsAskedFor circuit.now.symbols asked))) }
+        ensures none { self.entry.asked ≡ None → result ≡ Ok None }
+    {
         match self.asked {
             None => Ok(None),
             Some(Asked::Property(property)) => Ok(Some(property)),

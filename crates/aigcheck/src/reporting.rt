@@ -1,5 +1,8 @@
 //! What JSON says of a property that was judged.
 
+ghost use Rattle.std.specs.Prelude.{◌≡◌, None, IfSome, IsTrue, false, codes};
+ghost use Rattle.aigcheck.specs.declared.counts.Shown.TheVariants.{Nothing, Safe, Violated};
+
 use crate::counts::Shown;
 use crate::no_answer::{NoAnswer, given};
 use graph::{AigerFile, Property};
@@ -18,7 +21,12 @@ pub struct Said {
 }
 
 /// The word for what is shown, by the file that was judged last, where there is one.
-fn word_of(shown: Shown, last: &Option<Said>) -> &'static str {
+fn word_of(shown: Shown, last: &Option<Said>) -> &'static str
+    ensures safe { shown ≡ Safe → result.now ≡ codes "safe" }
+    ensures violated { shown ≡ Violated → result.now ≡ codes "violated" }
+    ensures refused { shown ≡ Nothing → IfSome last.now (λ _. result.now ≡ codes "refused") }
+    ensures none { shown ≡ Nothing → last.now ≡ None → result.now ≡ codes "none" }
+{
     match shown {
         Shown::Safe => "safe",
         Shown::Violated => "violated",
@@ -28,7 +36,11 @@ fn word_of(shown: Shown, last: &Option<Said>) -> &'static str {
 }
 
 /// Whether the file that was judged last is accepted, or nothing where none was judged.
-fn checked(last: &Option<Said>) -> &'static str {
+fn checked(last: &Option<Said>) -> &'static str
+    ensures yes { IfSome last.now (λ said. IsTrue said.is_yes → result.now ≡ codes "true") }
+    ensures no { IfSome last.now (λ said. said.is_yes ≡ false → result.now ≡ codes "false") }
+    ensures none { last.now ≡ None → result.now ≡ codes "null" }
+{
     match last {
         Some(said) if said.is_yes => "true",
         Some(_) => "false",

@@ -126,7 +126,19 @@ fn sim(rt: &HostRuntime, name: &str, stimulus: &str) -> Result<u8, Stop> {
 }
 
 /// Looks for a run in which two circuits differ.
-fn compare(rt: &HostRuntime, pair: Pair<'_>, search: Search) -> Result<u8, Stop> {
+fn compare(
+    rt: &HostRuntime,
+    one: &str,
+    other: &str,
+    folder: Option<&str>,
+    search: Search,
+) -> Result<u8, Stop> {
+    let pair = Pair {
+        one,
+        other,
+        folder,
+        verbose: search.verbose,
+    };
     let timing = begin(rt, search)?;
     let miter = pair.made(rt)?;
     let name = pair.name(rt.alloc())?;
@@ -163,15 +175,7 @@ fn done(rt: &HostRuntime, request: Request<'_>) -> Result<u8, Stop> {
             other,
             folder,
             search,
-        } => {
-            let pair = Pair {
-                one: file,
-                other,
-                folder,
-                verbose: search.verbose,
-            };
-            compare(rt, pair, search)
-        }
+        } => compare(rt, file, other, folder, search),
         Request::Cover { file, search } => cover(rt, file, search),
         Request::All {
             file,

@@ -1,6 +1,7 @@
 //! The commands `check` and `all`.
 
-ghost use Rattle.std.specs.Prelude.{◌≡◌, ◌≢◌, ◌<◌, ◌≤◌, ◌⊎◌, length};
+ghost use Rattle.std.specs.Prelude.{◌≡◌, ◌≢◌, ◌<◌, ◌≤◌, ◌⊎◌, IfOk, length};
+ghost use Rattle.verdict.specs.Verdicts.{status_of as wanted_status};
 
 use crate::showing::Found;
 use crate::timing::{ask, begin, is_vacuous, now};
@@ -59,7 +60,9 @@ impl<'a> Whole<'a> {
         verdict: &'a Verdict,
         evidence: Option<&'a str>,
         spent: Spent<'a>,
-    ) -> Found<'a> {
+    ) -> Found<'a>
+        ensures { result.verdict.now ≡ verdict.now }
+    {
         Found {
             name: self.name,
             file: self.file,
@@ -93,7 +96,9 @@ fn show<'a>(
     verdict: &'a Verdict,
     evidence: Option<&'a str>,
     spent: Spent<'a>,
-) -> Result<u8, Stop> {
+) -> Result<u8, Stop>
+    ensures { IfOk result (λ status. status ≡ wanted_status verdict.now) }
+{
     whole.found(property, verdict, evidence, spent).show(rt)
 }
 
@@ -190,7 +195,9 @@ fn keep_in_and_print(
     property: Property,
     verdict: &Verdict,
     spent: Spent<'_>,
-) -> Result<u8, Stop> {
+) -> Result<u8, Stop>
+    ensures { IfOk result (λ status. status ≡ wanted_status verdict.now) }
+{
     match evidence_in(rt, whole, property, verdict)? {
         Some(out) => show(rt, whole, property, verdict, Some(out.as_str()), spent),
         None => show(rt, whole, property, verdict, None, spent),

@@ -1,5 +1,9 @@
 //! How a verdict is kept and printed.
 
+ghost use Rattle.std.specs.Prelude.{◌≡◌, IfOk};
+ghost use Rattle.verdict.specs.Verdicts.{status_of as wanted_status};
+ghost use Rattle.aigmc_commands.specs.Words.{checked_word, verdict_word};
+
 use crate::telling::{Why, conclude, tell_counters};
 use aigmc_files::{Stop, finished, keep, keep_and_print, print_alone, status_of};
 use arguments::Search;
@@ -39,7 +43,9 @@ pub struct Found<'a> {
 
 /// Whether the judge accepted the evidence before the verdict was given, or nothing where none was asked: `verdict::decide` has each
 /// run replayed, and no certificate that it makes.
-fn checked(verdict: &Verdict) -> &'static str {
+fn checked(verdict: &Verdict) -> &'static str
+    ensures { result.now ≡ checked_word verdict.now }
+{
     match verdict {
         Verdict::Unsafe(_) => "true",
         Verdict::Safe(_) | Verdict::Unknown(_) => "null",
@@ -47,7 +53,9 @@ fn checked(verdict: &Verdict) -> &'static str {
 }
 
 /// The word for what was found.
-fn word_of(verdict: &Verdict) -> &'static str {
+fn word_of(verdict: &Verdict) -> &'static str
+    ensures { result.now ≡ verdict_word verdict.now }
+{
     match verdict {
         Verdict::Safe(_) => "holds",
         Verdict::Unsafe(_) => "violated",
@@ -82,7 +90,9 @@ impl Found<'_> {
     }
 
     /// Prints what JSON says of it, and answers its status. It takes no memory.
-    fn print_line(self, rt: &HostRuntime) -> Result<u8, Stop> {
+    fn print_line(self, rt: &HostRuntime) -> Result<u8, Stop>
+        ensures { IfOk result (λ status. status ≡ wanted_status self.entry.verdict.now) }
+    {
         let line = Line {
             file: self.name,
             property: self.property,
@@ -113,7 +123,9 @@ impl Found<'_> {
 
     /// Makes the file of the evidence, where one is named, and prints the verdict alone or as JSON. Once there is that
     /// file, nothing takes memory.
-    fn keep_and_print_short(self, rt: &HostRuntime) -> Result<u8, Stop> {
+    fn keep_and_print_short(self, rt: &HostRuntime) -> Result<u8, Stop>
+        ensures { IfOk result (λ status. status ≡ wanted_status self.entry.verdict.now) }
+    {
         if let Some(out) = self.evidence {
             keep(rt, out, self.property, self.verdict)?;
         }
@@ -126,7 +138,9 @@ impl Found<'_> {
 
     /// Makes the file of the evidence, where one is named, prints the verdict, and answers its status. Standard error says what
     /// was found where that is asked for.
-    pub fn show(self, rt: &HostRuntime) -> Result<u8, Stop> {
+    pub fn show(self, rt: &HostRuntime) -> Result<u8, Stop>
+        ensures { IfOk result (λ status. status ≡ wanted_status self.entry.verdict.now) }
+    {
         let status = if self.search.json || self.search.quiet {
             self.keep_and_print_short(rt)?
         } else {

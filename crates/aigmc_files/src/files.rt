@@ -1,6 +1,6 @@
 //! The files that commands read and make.
 
-ghost use Rattle.std.specs.Prelude.{◌≡◌, IfOk, Ok};
+ghost use Rattle.std.specs.Prelude.{◌≡◌, ◌≢◌, IfOk, Ok, codes};
 ghost use Rattle.verdict.specs.Verdicts.{status_of as wanted_status};
 
 use crate::command_error::CommandError;
@@ -29,7 +29,10 @@ const MOST: usize = 1_073_741_824;
 const TOO_LONG: u8 = 1;
 
 /// What the system calls the file that is read by this name.
-pub fn path_of(name: &str) -> &str {
+pub fn path_of(name: &str) -> &str
+    ensures standard { name.now ≡ codes "-" → result.now ≡ codes "/dev/stdin" }
+    ensures other { name.now ≢ codes "-" → result.now ≡ name.now }
+{
     if is_standard(name) {
         "/dev/stdin"
     } else {

@@ -1,5 +1,8 @@
 //! Properties by their names in the circuit's symbol table.
 
+ghost use Rattle.std.specs.Prelude.{IfOk};
+ghost use Rattle.property_names.specs.Symbols.{IsAskedBy, IsAskedFor};
+
 use crate::stop::Stop;
 use crate::terminal::is_terminal;
 use explanations::Printable;
@@ -7,7 +10,9 @@ use graph::{AigerFile, Property};
 use property_names::{Asked, Listing, asked_by, property_called};
 
 /// What the word asks for.
-pub fn asked_for(word: &str) -> Result<Asked<'_>, Stop> {
+pub fn asked_for(word: &str) -> Result<Asked<'_>, Stop>
+    ensures { IfOk result (IsAskedBy word.now) }
+{
     asked_by(word).ok_or(Stop::BadArgument)
 }
 
@@ -19,7 +24,9 @@ pub fn property_in(
     file: &AigerFile,
     asked: Asked<'_>,
     verbose: bool,
-) -> Result<Property, Stop> {
+) -> Result<Property, Stop>
+    ensures { IfOk result (IsAskedFor file.now.symbols asked.entry) }
+{
     let word = match asked {
         Asked::Property(property) => return Ok(property),
         Asked::Symbol(word) => word,

@@ -1,5 +1,18 @@
 //! Why a command was not done.
 
+ghost use Rattle.std.specs.Prelude.{◌≡◌, ◌↔◌, Ok, IfOk, IfErr, IsErr, IsTrue};
+ghost use Rattle.base.specs.Witness.{witness};
+ghost use Rattle.graph.specs.Refusals.{number_of as read_number, place_of as read_place};
+ghost use Rattle.invariant.specs.Numbers.{number_of as invariant_number, place_of as invariant_place};
+ghost use Rattle.witness.specs.Numbers.{number_of as witness_number, place_of as witness_place};
+ghost use Rattle.certify.specs.Numbers.{number_of as certify_number, place_of as certify_place};
+ghost use Rattle.certify3.specs.Numbers.{number_of as third_number, place_of as third_place};
+ghost use Rattle.live_safe.specs.Causes.{number_of as live_number, place_of as live_place};
+ghost use Rattle.transforms.specs.Causes.{number_of as transform_number, place_of as transform_place};
+ghost use Rattle.aigmc_files.specs.Stops.{IsAt, IsOfDevice, IsOfFile, IsOfText};
+ghost use Rattle.aigmc_files.specs.declared.command_error.CommandError.TheVariants.{OutOfMemory};
+ghost use Rattle.aigmc_files.specs.declared.stop.Stop.TheVariants.{Fault, Refused as IsRefused};
+
 use crate::command_error::CommandError;
 use base::Refused;
 use certify::CertifyError;
@@ -98,18 +111,24 @@ pub enum Stop {
 }
 
 impl From<CommandError> for Stop {
+    ghost from_gives = { λ e s. s ≡ IsRefused e };
+
     fn from(e: CommandError) -> Stop {
         Stop::Refused(e)
     }
 }
 
 impl From<Refused> for Stop {
+    ghost from_gives = { λ _ s. s ≡ IsRefused (OutOfMemory witness) };
+
     fn from(refused: Refused) -> Stop {
         Stop::Refused(CommandError::from(refused))
     }
 }
 
 impl From<InvariantError> for Stop {
+    ghost from_gives = { λ e s. s ≡ Fault (invariant_number e) (invariant_place e) };
+
     fn from(e: InvariantError) -> Stop {
         Stop::Fault {
             number: e.number(),
@@ -119,6 +138,8 @@ impl From<InvariantError> for Stop {
 }
 
 impl From<WitnessError> for Stop {
+    ghost from_gives = { λ e s. s ≡ Fault (witness_number e) (witness_place e) };
+
     fn from(e: WitnessError) -> Stop {
         Stop::Fault {
             number: e.number(),
@@ -128,6 +149,8 @@ impl From<WitnessError> for Stop {
 }
 
 impl From<CertifyError> for Stop {
+    ghost from_gives = { λ e s. s ≡ Fault (certify_number e) (certify_place e) };
+
     fn from(e: CertifyError) -> Stop {
         Stop::Fault {
             number: e.number(),
@@ -137,6 +160,8 @@ impl From<CertifyError> for Stop {
 }
 
 impl From<ThirdError> for Stop {
+    ghost from_gives = { λ e s. s ≡ Fault (third_number e) (third_place e) };
+
     fn from(e: ThirdError) -> Stop {
         Stop::Fault {
             number: e.number(),
@@ -146,6 +171,8 @@ impl From<ThirdError> for Stop {
 }
 
 impl From<LiveError> for Stop {
+    ghost from_gives = { λ e s. s ≡ Fault (live_number e) (live_place e) };
+
     fn from(e: LiveError) -> Stop {
         Stop::Fault {
             number: e.number(),
@@ -155,6 +182,8 @@ impl From<LiveError> for Stop {
 }
 
 impl From<TransformError> for Stop {
+    ghost from_gives = { λ e s. s ≡ Fault (transform_number e) (transform_place e) };
+
     fn from(e: TransformError) -> Stop {
         Stop::Fault {
             number: e.number(),
@@ -182,6 +211,8 @@ impl From<PairError> for Stop {
 }
 
 impl From<ReadError> for Stop {
+    ghost from_gives = { λ e s. s ≡ Fault (read_number e) (read_place e) };
+
     fn from(e: ReadError) -> Stop {
         Stop::Fault {
             number: e.number(),
@@ -202,7 +233,9 @@ pub fn finished<T>(given: io::Result<T>) -> Result<T, Stop> {
 }
 
 /// A refusal of the file with this role.
-fn refused_at(role: Role, number: u8, place: u64) -> Stop {
+fn refused_at(role: Role, number: u8, place: u64) -> Stop
+    ensures { IsAt role number place result }
+{
     Stop::At {
         role,
         number,
@@ -212,13 +245,17 @@ fn refused_at(role: Role, number: u8, place: u64) -> Stop {
 }
 
 /// Whether a refusal with this number is about what a file has.
-fn is_of_text(number: u8) -> bool {
+fn is_of_text(number: u8) -> bool
+    ensures { IsTrue result ↔ IsOfText number }
+{
     number != OUT_OF_MEMORY && number != DEVICE
 }
 
 impl Stop {
     /// The same, where it is the system's, as that of the file with this role.
-    fn of_device(self, role: Role) -> Stop {
+    fn of_device(self, role: Role) -> Stop
+        ensures { IsOfDevice role self.entry result }
+    {
         match self {
             Stop::System(word) => Stop::At {
                 role,
@@ -232,7 +269,9 @@ impl Stop {
     }
 
     /// The same, where it is a refusal of what a file has, as that of the file with this role.
-    fn of_text(self, role: Role) -> Stop {
+    fn of_text(self, role: Role) -> Stop
+        ensures { IsOfFile role self.entry result }
+    {
         match self {
             Stop::Refused(error) if is_of_text(error.number()) => {
                 refused_at(role, error.number(), error.place())
@@ -244,7 +283,10 @@ impl Stop {
 }
 
 /// What was given, or a fault of the system at the file with this role.
-pub fn at<T>(role: Role, given: Result<T, Stop>) -> Result<T, Stop> {
+pub fn at<T>(role: Role, given: Result<T, Stop>) -> Result<T, Stop>
+    ensures ok { IfOk given.entry (λ x. result ≡ Ok x) }
+    ensures refused { IfErr given.entry (λ s. IsErr result × IfErr result (IsOfDevice role s)) }
+{
     match given {
         Ok(value) => Ok(value),
         Err(stop) => Err(stop.of_device(role)),
@@ -252,7 +294,10 @@ pub fn at<T>(role: Role, given: Result<T, Stop>) -> Result<T, Stop> {
 }
 
 /// What was given, or a refusal of what the file with this role has.
-pub fn about<T>(role: Role, given: Result<T, Stop>) -> Result<T, Stop> {
+pub fn about<T>(role: Role, given: Result<T, Stop>) -> Result<T, Stop>
+    ensures ok { IfOk given.entry (λ x. result ≡ Ok x) }
+    ensures refused { IfErr given.entry (λ s. IsErr result × IfErr result (IsOfFile role s)) }
+{
     match given {
         Ok(value) => Ok(value),
         Err(stop) => Err(stop.of_text(role)),

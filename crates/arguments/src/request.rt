@@ -1,5 +1,11 @@
 //! What the words of a command line ask for.
 
+ghost use Rattle.std.specs.Prelude.{◌≡◌, Some, None, IfSome, codes, option_map};
+ghost use Rattle.arguments.specs.Engines.{asks_bounded, asks_inductive};
+ghost use Rattle.arguments.specs.Places.{folder_of, name_of};
+ghost use Rattle.arguments.specs.declared.request.EngineKind.TheVariants.{All, Bounded, Inductive, Corresponding, Random};
+ghost use Rattle.arguments.specs.declared.request.Kept.TheVariants.{Nowhere, Certificate, Folder};
+
 use crate::adopting::{
     Adoption, Claim, Extraction, Recertification, Shadow, WitnessCircuit, asked_adopt_witness,
     asked_certify, asked_extract, asked_recertify, asked_to_safety, asked_to_witness,
@@ -29,12 +35,16 @@ pub enum EngineKind {
 
 impl EngineKind {
     /// Whether bounded search is asked.
-    pub fn has_bounded(self) -> bool {
+    pub fn has_bounded(self) -> bool
+        ensures { result ≡ asks_bounded self }
+    {
         matches!(self, EngineKind::All | EngineKind::Bounded)
     }
 
     /// Whether IC3 is asked.
-    pub fn has_inductive(self) -> bool {
+    pub fn has_inductive(self) -> bool
+        ensures { result ≡ asks_inductive self }
+    {
         matches!(self, EngineKind::All | EngineKind::Inductive)
     }
 }
@@ -73,7 +83,9 @@ pub enum Kept<'a> {
 
 impl<'a> Kept<'a> {
     /// The folder, where it is one.
-    pub fn folder(self) -> Option<&'a str> {
+    pub fn folder(self) -> Option<&'a str>
+        ensures { option_map (λ name. name.now) result ≡ folder_of self.entry }
+    {
         match self {
             Kept::Folder(folder) => Some(folder),
             _ => None,
@@ -81,7 +93,9 @@ impl<'a> Kept<'a> {
     }
 
     /// The name of the file or the folder, where there is one.
-    pub fn name(self) -> Option<&'a str> {
+    pub fn name(self) -> Option<&'a str>
+        ensures { option_map (λ name. name.now) result ≡ name_of self.entry }
+    {
         match self {
             Kept::Nowhere => None,
             Kept::Certificate(name) | Kept::Folder(name) => Some(name),
@@ -178,15 +192,26 @@ pub enum Request<'a> {
     },
 }
 
-/// The engine that the words name.
-fn engine_kind(words: &ArgMatches<'_>) -> EngineKind {
-    match words.get_str("engine") {
-        Some("bmc") => EngineKind::Bounded,
-        Some("ic3") => EngineKind::Inductive,
-        Some("corr") => EngineKind::Corresponding,
-        Some("random") => EngineKind::Random,
+/// The engine of this name.
+fn engine_called(name: &str) -> EngineKind
+    ensures all { name.now ≡ codes "all" → result ≡ All }
+    ensures bounded { name.now ≡ codes "bmc" → result ≡ Bounded }
+    ensures inductive { name.now ≡ codes "ic3" → result ≡ Inductive }
+    ensures corresponding { name.now ≡ codes "corr" → result ≡ Corresponding }
+    ensures random { name.now ≡ codes "random" → result ≡ Random }
+{
+    match name {
+        "bmc" => EngineKind::Bounded,
+        "ic3" => EngineKind::Inductive,
+        "corr" => EngineKind::Corresponding,
+        "random" => EngineKind::Random,
         _ => EngineKind::All,
     }
+}
+
+/// The engine that the words name.
+fn engine_kind(words: &ArgMatches<'_>) -> EngineKind {
+    engine_called(words.get_str("engine").unwrap_or("all"))
 }
 
 /// What the words say of the search.
@@ -206,18 +231,27 @@ fn asked_search(words: &ArgMatches<'_>) -> Search {
     }
 }
 
+/// Where evidence is kept: in the file of a certificate or in a folder, where one is named, and nothing where both are.
+fn kept_in<'a>(certificate: Option<&'a str>, folder: Option<&'a str>) -> Option<Kept<'a>>
+    ensures nowhere { certificate.entry ≡ None → folder.entry ≡ None → result ≡ Some Nowhere }
+    ensures certificate { folder.entry ≡ None → IfSome certificate.entry (λ name. result ≡ Some (Certificate name)) }
+    ensures folder { certificate.entry ≡ None → IfSome folder.entry (λ name. result ≡ Some (Folder name)) }
+    ensures both { IfSome certificate.entry (λ _. IfSome folder.entry (λ _. result ≡ None)) }
+{
+    match (certificate, folder) {
+        (None, None) => Some(Kept::Nowhere),
+        (Some(file), None) => Some(Kept::Certificate(file)),
+        (None, Some(folder)) => Some(Kept::Folder(folder)),
+        (Some(_), Some(_)) => None,
+    }
+}
+
 /// What `check` asks for, or nothing where it asks for a file and a folder.
 fn asked_check<'a>(words: &ArgMatches<'a>) -> Option<Request<'a>> {
-    let kept = match (words.get_str("cert"), words.get_str("out")) {
-        (None, None) => Kept::Nowhere,
-        (Some(file), None) => Kept::Certificate(file),
-        (None, Some(folder)) => Kept::Folder(folder),
-        (Some(_), Some(_)) => return None,
-    };
     Some(Request::Check {
         file: word(words, "FILE"),
         property: word(words, "property"),
-        kept,
+        kept: kept_in(words.get_str("cert"), words.get_str("out"))?,
         search: asked_search(words),
     })
 }

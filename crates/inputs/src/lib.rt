@@ -1,12 +1,14 @@
 //! What the programs read: a file by its name, or the standard input, whose name is `-`.
 #![tactic(auto)]
 
+ghost use Rattle.std.specs.Prelude.{◌≡◌, ◌↔◌, IsTrue, codes};
+
 use std::fs::File;
 use std::io;
 use std::io::{Read, Stdin};
 
 /// The name of the standard input, and of the standard output.
-static STANDARD: &str = "-";
+const STANDARD: &str = "-";
 
 /// A file, or the standard input. It has no buffer.
 #[derive(Drop)]
@@ -18,7 +20,9 @@ pub enum Input {
 }
 
 /// Whether the name is that of the standard input, or of the standard output. A file that is called so is `./-`.
-pub fn is_standard(name: &str) -> bool {
+pub fn is_standard(name: &str) -> bool
+    ensures { IsTrue result ↔ (name.now ≡ codes "-") }
+{
     name == STANDARD
 }
 

@@ -4,6 +4,9 @@ use Rattle.graph.specs.declared.circuit.Property.{Property}
 use Rattle.graph.specs.declared.circuit.Property.TheVariants.{Bad, Justice, Output}
 use Rattle.graph.specs.declared.symbol.SymbolKind.TheVariants as kind
 use Rattle.graph.specs.declared.symbol.Symbol.{Symbol}
+use Rattle.graph.specs.Circuits.{property_text}
+use Rattle.property_names.specs.declared.symbols.Asked.{Asked}
+use Rattle.property_names.specs.declared.symbols.Asked.TheVariants as asked
 
 -- the symbol is of the property
 abbrev pub IsOf : Symbol → Property → Type 0
@@ -17,3 +20,13 @@ pub record IsCalled (symbols : List Symbol) (name : List ℕ) (p : Property) : T
   pub among : Contains symbols symbol
   pub of : IsOf symbol p
   pub named : symbol.name ≡ name
+
+-- what the word asks for: the property that it names, or one by the word itself
+abbrev pub IsAskedBy : List ℕ → Asked → Type 0
+IsAskedBy word (asked.Property p) = word ≡ property_text p
+IsAskedBy word (asked.Symbol name) = name.now ≡ word
+
+-- the property that is asked for, where one of these symbols gives it its name
+abbrev pub IsAskedFor : List Symbol → Asked → Property → Type 0
+IsAskedFor symbols (asked.Property p) q = q ≡ p
+IsAskedFor symbols (asked.Symbol name) q = IsCalled symbols name.now q

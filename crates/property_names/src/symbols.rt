@@ -1,7 +1,10 @@
 //! Properties by their names in a circuit's symbol table.
 
-ghost use Rattle.std.specs.Prelude.{◌≡◌, IfOk, IfSome};
-ghost use Rattle.property_names.specs.Symbols.{IsCalled, IsOf};
+ghost use Rattle.std.specs.Prelude.{◌≡◌, ◌<◌, ◌^◌, Some, IfOk, IfSome};
+ghost use Rattle.graph.specs.Circuits.{position_of, property_text};
+ghost use Rattle.graph.specs.declared.circuit.Property.{Property as AProperty};
+ghost use Rattle.property_names.specs.Symbols.{IsAskedBy, IsCalled, IsOf};
+ghost use Rattle.property_names.specs.declared.symbols.Asked.TheVariants.{Property as AsksProperty};
 
 use crate::property_name::property_named;
 use graph::{AigerFile, Property, Symbol, SymbolKind};
@@ -35,7 +38,10 @@ fn is_numbered(word: &[u8]) -> bool {
 
 /// What the word asks for. A word of digits, behind `b`, `j` or `o` or alone, is no symbol's name, and it asks for
 /// nothing where it names no property.
-pub fn asked_by(word: &str) -> Option<Asked<'_>> {
+pub fn asked_by(word: &str) -> Option<Asked<'_>>
+    ensures asks { IfSome result (IsAskedBy word.now) }
+    ensures named { (p : AProperty) → word.now ≡ property_text p → position_of p < 2 ^ 32 → result ≡ Some (AsksProperty p) }
+{
     match property_named(word) {
         Some(property) => Some(Asked::Property(property)),
         None if is_numbered(word.as_bytes()) => None,
