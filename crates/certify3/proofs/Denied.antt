@@ -1,5 +1,5 @@
 -- Denied literals.
-use Rattle.std.proofs.Common.{◌≡◌, ◌≢◌, ℕ, ℤ, ◌+◌, ◌≤◌, List, All, map, get_or, not, arith, sym, subst}
+use Rattle.std.proofs.Common.{ℕ, ◌+◌, ◌≤◌, List, All, map, get_or, not, arith}
 use Rattle.std.proofs.lemmas.List.Elements.{All-map}
 use Rattle.graph.specs.declared.circuit.Lit.{Lit}
 use Rattle.graph.specs.Circuits.{variable}
@@ -14,7 +14,3 @@ denial_below n o top a range high =
 
 pub denials_below : (n o top : ℕ) (c : List Lit) → All (IsInRange n) c → o + n + 1 ≤ top → All (IsLiteral top) (map (denial n o) c)
 denials_below n o top c over high = All-map (IsFrom (λ u. u ≤ top)) (denial n o) c (λ i e i_in. denial_below n o top (get_or c i e) (over i e i_in) high)
-
--- literals of the variables up to a number are literals of those up to a greater one
-pub literals_wider : (n o : ℕ) (ls : List ℤ) → n ≤ o → All (IsLiteral n) ls → All (IsLiteral o) ls
-literals_wider n o ls le all = λ k d lt. let p = all k d lt in (p.0, omega (arith, p.1, le))

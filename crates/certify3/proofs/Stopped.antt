@@ -1,5 +1,5 @@
 -- What it says that no further case is proved.
-use Rattle.std.proofs.Common.{◌≡◌, ◌≢◌, ◌+◌, ◌*◌, ◌<◌, ℕ, ℤ, List, [], map, length, Result, Ok, Err, IfOk, IfErr, refl, sym, subst, ap, arith}
+use Rattle.std.proofs.Common.{◌≡◌, ◌+◌, List, [], map, Result, Ok, Err, IfOk, sym, subst}
 use Rattle.base.specs.Budget.{Steps}
 use Rattle.graph.specs.declared.circuit.Lit.{Lit}
 use Rattle.graph.specs.declared.circuit.Latch.{Latch}
@@ -7,19 +7,17 @@ use Rattle.graph.specs.declared.circuit.Gate.{Gate}
 use Rattle.graph.specs.declared.parts.Parts.{Parts}
 use Rattle.lrat.specs.declared.formula.Formula.{Formula}
 use Rattle.cnf.specs.Clauses.{denial}
-use Rattle.cnf.specs.Formulas.{bad_formula, clause_at}
+use Rattle.cnf.specs.Formulas.{clause_at}
 use Rattle.cnf.specs.Invariants.{AreContradictory}
 use Rattle.cnf.specs.declared.time_frame.TimeFrame.{TimeFrame}
 use Rattle.cdcl_log.specs.Logged.{with_units}
 use Rattle.solver.specs.Answers.{values}
-use Rattle.solver.specs.declared.sat_error.SatError.{SatError}
-use Rattle.solver.specs.declared.sat_error.SatError.TheVariants as solver
 use Rattle.extension.specs.Accepted.{bad_of, begin_formula, circuit_of, pair_formula}
 use Rattle.extension.specs.Extended.{extended}
 use Rattle.extension.specs.Inductive.{IsInductiveOver}
 use Rattle.certificate3.specs.declared.claim.Claim.{Claim}
 use Rattle.certify3.specs.Counterexamples.{formula_of, IsCase, IsCounterexample, Satisfies}
-use Rattle.certify3.specs.Halts.{IsFoundAt, IsHalt, IsHaltAt, IsHaltOf, case_of, of_solver}
+use Rattle.certify3.specs.Halts.{IsHalt, IsHaltAt}
 use Rattle.certify3.specs.Outcomes.{IsCertified, of_halt}
 use Rattle.certify3.specs.Subjects.{IsSubject}
 use Rattle.certify3.specs.declared.subject.Subject.{Subject}
@@ -31,36 +29,9 @@ use Rattle.certify3.specs.declared.counterexample.Case.TheVariants as case
 use Rattle.certify3.specs.declared.counterexample.Counterexample.{Counterexample}
 use Rattle.certify3.specs.declared.halt.Halt.{Halt}
 use Rattle.certify3.specs.declared.halt.Halt.TheVariants.{NotInvariant, Spent, IdsTaken, OutOfMemory}
-use Rattle.certify3.specs.declared.showing.Kind.{Kind}
 use Rattle.certify3.specs.declared.showing.Kind.TheVariants.{First, Step}
 
--- a refusal can stop anything
-pub solver_halt : (f : Formula) (x : Case) (after : Steps) (e : SatError) → IsHaltOf f x after (of_solver e)
-solver_halt f x after (solver.Limit used_up) = tt
-solver_halt f x after (solver.OutOfMemory refused) = tt
-
-pub solver_halt_at : (f : Formula) (kind : Kind) (time : TimeFrame) (cs : List (List Lit)) (after : Steps) (e : SatError) → IsHaltAt f kind time cs after (of_solver e)
-solver_halt_at f kind time cs after (solver.Limit used_up) = tt
-solver_halt_at f kind time cs after (solver.OutOfMemory refused) = tt
-
-pub solver_halt_all : (m : Parts) (inv : List (List Lit)) (a : Lit) (after : Steps) (e : SatError) → IsHalt m inv a after (of_solver e)
-solver_halt_all m inv a after (solver.Limit used_up) = tt
-solver_halt_all m inv a after (solver.OutOfMemory refused) = tt
-
--- what stopped a clause's case stopped one of the clauses' at the time
-pub halt_at : (f : Formula) (kind : Kind) (time : TimeFrame) (cs : List (List Lit)) (k : ℕ) (us : List ℤ) (x : Case) (after : Steps) (h : Halt) → k < length cs → us ≡ map (denial time.max_var time.offset) (clause_at cs k) → x ≡ case_of kind k →
-    IsHaltOf (with_units f us) x after h → IsHaltAt f kind time cs after h
-halt_at f kind time cs k us x after (NotInvariant c) lt is named found = record {
-  clause = k;
-  stands = lt;
-  case = subst (λ y. c.case ≡ y) named found.0;
-  satisfied = subst (λ vs. Satisfies c.values.items (with_units f vs)) is found.1;
-}
-halt_at f kind time cs k us x after Spent lt is named none = none
-halt_at f kind time cs k us x after (IdsTaken used_up) lt is named any = tt
-halt_at f kind time cs k us x after (OutOfMemory refused) lt is named any = tt
-
--- of all clauses at a first time
+-- what stopped one of the clauses at a first time
 pub first_halt : (m : Parts) (inv : List (List Lit)) (a : Lit) (f : Formula) (time : TimeFrame) (after : Steps) (h : Halt) → f ≡ begin_formula m → time.max_var ≡ m.max_var → time.offset ≡ 0 →
     IsHaltAt f First time inv after h → IsHalt m inv a after h
 first_halt m inv a f time after (NotInvariant c) is n o found = record {
@@ -75,7 +46,7 @@ first_halt m inv a f time after Spent is n o none = none
 first_halt m inv a f time after (IdsTaken used_up) is n o any = tt
 first_halt m inv a f time after (OutOfMemory refused) is n o any = tt
 
--- and at the time behind one at which they hold
+-- or at a time behind one at which they hold
 pub step_halt : (m : Parts) (inv : List (List Lit)) (a : Lit) (f : Formula) (time : TimeFrame) (after : Steps) (h : Halt) → f ≡ pair_formula m inv → time.max_var ≡ m.max_var → time.offset ≡ m.max_var + 1 →
     IsHaltAt f Step time inv after h → IsHalt m inv a after h
 step_halt m inv a f time after (NotInvariant c) is n o found = record {
@@ -89,13 +60,6 @@ step_halt m inv a f time after (NotInvariant c) is n o found = record {
 step_halt m inv a f time after Spent is n o none = none
 step_halt m inv a f time after (IdsTaken used_up) is n o any = tt
 step_halt m inv a f time after (OutOfMemory refused) is n o any = tt
-
--- values that satisfy the last formula
-pub last_halt : (m : Parts) (inv : List (List Lit)) (a : Lit) (f : Formula) (c : Counterexample) → f ≡ bad_formula m inv a → c.case ≡ case.Last → Satisfies c.values.items f → IsCounterexample m inv a c
-last_halt m inv a f c is named found = record {
-  case = subst (IsCase inv) (sym named) tt;
-  satisfied = subst (λ x. Satisfies c.values.items (formula_of m inv a x)) (sym named) (subst (Satisfies c.values.items) is found);
-}
 
 -- nothing satisfies a case of inductive clauses
 unsatisfied : (m : Parts) (inv : List (List Lit)) (a : Lit) (x : Case) → IsInductiveOver m inv a → IsCase inv x → AreContradictory (formula_of m inv a x).clauses

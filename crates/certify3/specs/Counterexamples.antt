@@ -1,5 +1,5 @@
 -- What satisfies a case of clauses that are to be inductive.
-use Rattle.std.specs.Prelude.{ℕ, ◌+◌, ◌*◌, ◌<◌, Bool, List, [], length, ℤ}
+use Rattle.std.specs.Prelude.{◌+◌, ◌*◌, ◌<◌, Bool, List, [], length}
 use Rattle.graph.specs.declared.circuit.Lit.{Lit}
 use Rattle.graph.specs.declared.parts.Parts.{Parts}
 use Rattle.lrat.specs.declared.formula.Formula.{Formula}

@@ -1,5 +1,5 @@
 -- Why no further case is proved.
-use Rattle.std.specs.Prelude.{◌≡◌, ℕ, ◌<◌, List, length, map, ℤ}
+use Rattle.std.specs.Prelude.{◌≡◌, ℕ, ◌<◌, List, length, map}
 use Rattle.base.specs.Budget.{Steps}
 use Rattle.base.specs.Witness.{witness}
 use Rattle.graph.specs.declared.circuit.Lit.{Lit}

@@ -1,5 +1,5 @@
 -- Entries that cannot be propagated from a level, in front of a place.
-use Rattle.std.proofs.Common.{◌≡◌, ◌⊎◌, ◌+◌, ◌<◌, ◌≤◌, ℕ, List, take, length, get_or, All, Contains, inl, inr, arith}
+use Rattle.std.proofs.Common.{◌⊎◌, ◌+◌, ◌<◌, ◌≤◌, ℕ, List, take, length, get_or, All, Contains, inl, inr, arith}
 use Rattle.std.proofs.lemmas.List.Elements.{All-contains, All-contains_itself, All-more, All-weaker}
 use Rattle.base.specs.Budget.{Steps}
 use Rattle.graph.specs.declared.parts.Parts.{Parts}

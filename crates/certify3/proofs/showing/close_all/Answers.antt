@@ -1,7 +1,6 @@
 use Rattle.std.proofs.Common.{rules, ◌≡◌, ℤ, ◌+◌, ◌<◌, ◌≤◌, List, [], All, map, length, get_or, arith, sym, subst, ◌∙◌}
 use Rattle.std.proofs.lemmas.List.Elements.{All-push}
 use Rattle.base.specs.Budget.{Spends}
-use Rattle.graph.specs.declared.circuit.Lit.{Lit}
 use Rattle.lrat.specs.declared.formula.Formula.{Formula}
 use Rattle.lrat.specs.Literals.{IsLiteral}
 use Rattle.cnf.specs.Clauses.{denial}

@@ -1,8 +1,7 @@
-use Rattle.std.proofs.Common.{rules, subst, sym, List, ◌∙◌}
+use Rattle.std.proofs.Common.{rules, subst, sym}
 use Rattle.ic3.specs.Answers.{IsRelative}
 use Rattle.cnf.specs.Formulas.{bad_literal}
 use Rattle.ic3_frames.specs.Frames.{IsFalseAfter}
-use Rattle.ic3_step.specs.declared.state.StateLit.{StateLit}
 use Rattle.ic3.proofs.Inductions.{onward_by}
 use Rattle.ic3.proofs.Joining.{noted_sound}
 use Rattle.ic3.proofs.Tried.{false_after}

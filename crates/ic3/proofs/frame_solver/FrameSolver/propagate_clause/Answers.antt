@@ -1,9 +1,8 @@
-use Rattle.std.proofs.Common.{◌≡◌, ◌⊎◌, ◌+◌, ◌<◌, get_or, take, List, All, Contains, inl, inr, refl, arith, sym, ap, subst, ◌∙◌}
+use Rattle.std.proofs.Common.{◌≡◌, ◌⊎◌, ◌+◌, ◌<◌, get_or, take, List, All, Contains, inl, refl, arith, sym, ap, subst, ◌∙◌}
 use Rattle.std.proofs.lemmas.List.Elements.{All-contains}
 use Rattle.cnf.specs.Formulas.{bad_literal}
 use Rattle.ic3_frames.specs.declared.frames.Entry.{Entry}
 use Rattle.ic3_frames.specs.Frames.{IsFalseAfter, IsStateClause, HoldsAfter}
-use Rattle.ic3_step.specs.declared.state.StateLit.{StateLit}
 use Rattle.ic3.specs.Answers.{CannotPropagate, IsAfter}
 use Rattle.ic3.specs.Sound.{HasFrames, IsSound}
 use Rattle.ic3.proofs.Guarding.{item_has, has_within}

@@ -1,4 +1,4 @@
-use Rattle.std.proofs.Common.{rules, ◌≤◌, List, length, All, Contains, inr, take, arith, ap, subst}
+use Rattle.std.proofs.Common.{rules, ◌≤◌, List, length, All, inr, take, arith, ap, subst}
 use Rattle.std.proofs.lemmas.List.{take_all}
 use Rattle.ic3_frames.specs.declared.frames.Entry.{Entry}
 use Rattle.ic3.specs.Answers.{CannotPropagate}
