@@ -15,7 +15,7 @@ use Rattle.graph.specs.File.{File}
 use Rattle.graph.specs.Circuits.{variable, defined, defining, HasReset, justice_literals}
 use Rattle.graph.specs.WellFormed.{IsInLimits, IsWellFormed}
 use Rattle.aag.specs.Lines.{greatest}
-use Rattle.aag.specs.Spelling.{IsLiteral, IsDefining, IsSizeLine, IsInputLine, IsLiteralLine, IsLatchLine, IsGateLine, counts_of, SpellsCircuit}
+use Rattle.aag.specs.Spelling.{IsCircuitLiteral, IsDefining, IsSizeLine, IsInputLine, IsLiteralLine, IsLatchLine, IsGateLine, counts_of, SpellsCircuit}
 use Rattle.aag.specs.Tail.{symbol_line, IsSymbolLine, IsComment}
 use Rattle.graph.specs.declared.symbol.Symbol.{Symbol}
 use Rattle.graph.specs.Symbols.{symbol_counts, AreSymbols}
@@ -71,7 +71,7 @@ each_written P R line one [] all = refl
 each_written P R line one (x ∷ xs) all =
     (line x, flat_map line xs, one x (All-head P x xs all), each_written P R line one xs (All-tail P x xs all), flat_map-cons line x xs)
 
-pub latch_written : (max : ℕ) (l : Latch) → IsDefining max l.lit → IsLiteral max l.next → HasReset l → IsLatchLine max (latch_line l) l
+pub latch_written : (max : ℕ) (l : Latch) → IsDefining max l.lit → IsCircuitLiteral max l.next → HasReset l → IsLatchLine max (latch_line l) l
 latch_written max l own next reset = elim (cases_Bool (eqb l.reset.0 0)) [
   | inl y ↦ rw y (record { spells = inr (eqb-true l.reset.0 0 y, refl); latch = own; next = next; reset = reset })
   | inr n ↦ rw n (record { spells = inl refl; latch = own; next = next; reset = reset })
@@ -209,19 +209,19 @@ counts_written m l =
 input_written : (max : ℕ) (a : Lit) → IsDefining max a → IsInputLine max (literal_line a) a
 input_written max a fine = record { spells = refl; input = fine }
 
-pub literal_written : (max : ℕ) (a : Lit) → IsLiteral max a → IsLiteralLine max (literal_line a) a
+pub literal_written : (max : ℕ) (a : Lit) → IsCircuitLiteral max a → IsLiteralLine max (literal_line a) a
 literal_written max a within = record { spells = refl; literal = within }
 
 -- what a line of a latch, and of a gate, has to keep
 pub record IsFineLatch (max : ℕ) (l : Latch) : Type 0 where
   pub own : IsDefining max l.lit
-  pub next : IsLiteral max l.next
+  pub next : IsCircuitLiteral max l.next
   pub reset : HasReset l
 
 pub record IsFineGate (max : ℕ) (g : Gate) : Type 0 where
   pub own : IsDefining max g.lhs
-  pub left : IsLiteral max g.rhs0
-  pub right : IsLiteral max g.rhs1
+  pub left : IsCircuitLiteral max g.rhs0
+  pub right : IsCircuitLiteral max g.rhs1
 
 gate_written : (max : ℕ) (g : Gate) → IsFineGate max g → IsGateLine max (gate_line g) g
 gate_written max g fine = record { spells = refl; gate = fine.own; left = fine.left; right = fine.right }
@@ -238,16 +238,16 @@ symbols_written (x ∷ xs) = (symbol_line x, flat_map symbol_line xs, refl, symb
 pub record FineLists (m : Parts) : Type 0 where
   pub inputs : All (IsDefining m.max_var) m.inputs
   pub latches : All (IsFineLatch m.max_var) m.latches
-  pub outputs : All (IsLiteral m.max_var) m.outputs
-  pub bad : All (IsLiteral m.max_var) m.bad
-  pub constraints : All (IsLiteral m.max_var) m.constraints
-  pub justice : All (IsLiteral m.max_var) (justice_literals m.justice)
-  pub fairness : All (IsLiteral m.max_var) m.fairness
+  pub outputs : All (IsCircuitLiteral m.max_var) m.outputs
+  pub bad : All (IsCircuitLiteral m.max_var) m.bad
+  pub constraints : All (IsCircuitLiteral m.max_var) m.constraints
+  pub justice : All (IsCircuitLiteral m.max_var) (justice_literals m.justice)
+  pub fairness : All (IsCircuitLiteral m.max_var) m.fairness
   pub gates : All (IsFineGate m.max_var) m.gates
 
 pub fine_lists : (m : Parts) → IsWellFormed m → FineLists m
 fine_lists m w =
-    let R = IsLiteral m.max_var in
+    let R = IsCircuitLiteral m.max_var in
     let D = IsDefining m.max_var in
     let nexts = map (λ l. l.next) m.latches in
     let rights0 = map (λ g. g.rhs0) m.gates in
@@ -305,12 +305,12 @@ circuit_written m w =
       counts = counts_written m w.limits;
       each_input = each_written (IsDefining max) (IsInputLine max) literal_line (input_written max) m.inputs fine.inputs;
       each_latch = each_written (IsFineLatch max) (IsLatchLine max) latch_line (λ l f. latch_written max l f.own f.next f.reset) m.latches fine.latches;
-      each_output = each_written (IsLiteral max) (IsLiteralLine max) literal_line (literal_written max) m.outputs fine.outputs;
-      each_bad = each_written (IsLiteral max) (IsLiteralLine max) literal_line (literal_written max) m.bad fine.bad;
-      each_constraint = each_written (IsLiteral max) (IsLiteralLine max) literal_line (literal_written max) m.constraints fine.constraints;
+      each_output = each_written (IsCircuitLiteral max) (IsLiteralLine max) literal_line (literal_written max) m.outputs fine.outputs;
+      each_bad = each_written (IsCircuitLiteral max) (IsLiteralLine max) literal_line (literal_written max) m.bad fine.bad;
+      each_constraint = each_written (IsCircuitLiteral max) (IsLiteralLine max) literal_line (literal_written max) m.constraints fine.constraints;
       each_size = sizes_written m.justice;
-      each_justice = each_written (IsLiteral max) (IsLiteralLine max) literal_line (literal_written max) (justice_literals m.justice) fine.justice;
-      each_fairness = each_written (IsLiteral max) (IsLiteralLine max) literal_line (literal_written max) m.fairness fine.fairness;
+      each_justice = each_written (IsCircuitLiteral max) (IsLiteralLine max) literal_line (literal_written max) (justice_literals m.justice) fine.justice;
+      each_fairness = each_written (IsCircuitLiteral max) (IsLiteralLine max) literal_line (literal_written max) m.fairness fine.fairness;
       each_gate = each_written (IsFineGate max) (IsGateLine max) gate_line (gate_written max) m.gates fine.gates;
       room = room_for m w;
       justice_room = w.limits.justice_sum;

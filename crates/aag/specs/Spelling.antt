@@ -8,12 +8,12 @@ use Rattle.graph.specs.declared.parts.Parts.{Parts}
 use Rattle.graph.specs.Circuits.{HasReset, justice_literals}
 
 -- a literal of a variable up to max
-abbrev pub IsLiteral : ℕ → Lit → Type 0
-IsLiteral max a = a.0 ≤ 2 * max + 1
+abbrev pub IsCircuitLiteral : ℕ → Lit → Type 0
+IsCircuitLiteral max a = a.0 ≤ 2 * max + 1
 
 -- a literal that can define its variable: not negated, and not the constant
 pub record IsDefining (max : ℕ) (a : Lit) : Type 0 where
-  pub literal : IsLiteral max a
+  pub literal : IsCircuitLiteral max a
   pub even : a.0 % 2 ≡ 0
   pub least : 2 ≤ a.0
 
@@ -27,7 +27,7 @@ pub record IsInputLine (max : ℕ) (text : List ℕ) (a : Lit) : Type 0 where
 
 pub record IsLiteralLine (max : ℕ) (text : List ℕ) (a : Lit) : Type 0 where
   pub spells : text ≡ decimal a.0 ++ 10 ∷ []
-  pub literal : IsLiteral max a
+  pub literal : IsCircuitLiteral max a
 
 -- a latch with its reset, and without it
 abbrev pub long_latch : Latch → List ℕ
@@ -40,14 +40,14 @@ short_latch l = decimal l.lit.0 ++ 32 ∷ decimal l.next.0 ++ 10 ∷ []
 pub record IsLatchLine (max : ℕ) (text : List ℕ) (l : Latch) : Type 0 where
   pub spells : (text ≡ long_latch l) ⊎ ((l.reset.0 ≡ 0) × (text ≡ short_latch l))
   pub latch : IsDefining max l.lit
-  pub next : IsLiteral max l.next
+  pub next : IsCircuitLiteral max l.next
   pub reset : HasReset l
 
 pub record IsGateLine (max : ℕ) (text : List ℕ) (g : Gate) : Type 0 where
   pub spells : text ≡ decimal g.lhs.0 ++ 32 ∷ decimal g.rhs0.0 ++ 32 ∷ decimal g.rhs1.0 ++ 10 ∷ []
   pub gate : IsDefining max g.lhs
-  pub left : IsLiteral max g.rhs0
-  pub right : IsLiteral max g.rhs1
+  pub left : IsCircuitLiteral max g.rhs0
+  pub right : IsCircuitLiteral max g.rhs1
 
 -- how many there are of each kind, in the order of a header
 abbrev pub counts_of : Parts → List ℕ

@@ -1,6 +1,6 @@
 //! The circuit that a text begins with.
 
-ghost use Rattle.std.specs.Prelude.{◌≡◌, ◌≤◌};
+ghost use Rattle.std.specs.Prelude.{◌≤◌};
 ghost use Rattle.scan.specs.Reading.{Gives};
 ghost use Rattle.aag.specs.Sections.{lists_at, circuit_at};
 

@@ -1,7 +1,6 @@
 //! Where the symbols end, and the comment behind them.
 
 ghost use Rattle.std.specs.Prelude.{◌≡◌, IfOk};
-ghost use Rattle.scan.specs.Reading.{Gives};
 ghost use Rattle.aag.specs.Symbols.{ends_symbols, comment_of};
 
 use base::{Refused, Seq};

@@ -1,6 +1,6 @@
 //! The header of a circuit.
 
-ghost use Rattle.std.specs.Prelude.{◌≡◌, ◌≤◌, IfOk};
+ghost use Rattle.std.specs.Prelude.{◌≤◌, IfOk};
 ghost use Rattle.scan.specs.Reading.{Gives};
 ghost use Rattle.aag.specs.Sections.{header_at};
 

@@ -1,6 +1,6 @@
 //! Justice properties: all their sizes, and then all their literals.
 
-ghost use Rattle.std.specs.Prelude.{◌≡◌, ◌≤◌};
+ghost use Rattle.std.specs.Prelude.{◌≤◌};
 ghost use Rattle.scan.specs.Reading.{Gives};
 ghost use Rattle.aag.specs.Justice.{sizes_at, properties_at, justice_at};
 

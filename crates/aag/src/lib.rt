@@ -40,7 +40,7 @@ pub use aag_write_error::AagWriteError;
 pub use header::{Header, read_header};
 pub use lines::{LiteralLine, next, reset};
 pub use pieces::{Piece, ShortPiece, put_blocks, put_each, put_number};
-pub use reading::{LONGEST, read, with_tail};
+pub use reading::{read, with_tail};
 pub use refusal::{LayoutRefusal, Refusal, told};
 pub use uses::{Uses, read_uses};
 pub use writing::{put_file, put_header, put_uses, write};

@@ -1,18 +1,18 @@
 //! The lines of a circuit.
 
-ghost use Rattle.std.specs.Prelude.{◌≡◌, ◌≤◌};
+ghost use Rattle.std.specs.Prelude.{◌≤◌};
 ghost use Rattle.scan.specs.Reading.{Gives};
 ghost use Rattle.scan.specs.Words.{any};
 ghost use Rattle.graph.specs.declared.error.ReadError.TheVariants.{Defining};
 ghost use Rattle.aag.specs.Lines.{greatest, literal_at, defines, next_at, reset_at, latch_at, gate_at};
 
 use crate::refusal::{LayoutRefusal, Refusal};
-use graph::{Gate, Latch, Lit, ReadError};
+use graph::{Gate, Latch, Lit, MOST_VARIABLES, ReadError};
 use scan::{Fault, Kinds, LineKind, byte, field, number, word};
 use std::alloc::Global;
 
 /// The greatest variable and the greatest count.
-pub const GREATEST: u32 = 4_194_303;
+pub const GREATEST: u32 = MOST_VARIABLES;
 
 /// A literal that defines nothing.
 #[derive(Clone, Copy, PartialEq, Eq)]

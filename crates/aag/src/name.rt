@@ -1,6 +1,6 @@
 //! Names of symbols.
 
-ghost use Rattle.std.specs.Prelude.{◌≡◌, IfOk};
+ghost use Rattle.std.specs.Prelude.{IfOk};
 ghost use Rattle.scan.specs.Reading.{Gives};
 ghost use Rattle.graph.specs.Symbols.{IsName};
 ghost use Rattle.aag.specs.Symbols.{named_at};

@@ -1,6 +1,6 @@
 //! Reading a whole text.
 
-ghost use Rattle.std.specs.Prelude.{◌≡◌, ◌<◌, ◌↔◌, Contains, length, Err, IfOk, IfErr, Some};
+ghost use Rattle.std.specs.Prelude.{◌≡◌, ◌<◌, ◌↔◌, Contains, length, Err, IfOk, IfErr};
 ghost use Rattle.graph.specs.declared.error.ReadError.TheVariants.{TooLong};
 ghost use Rattle.graph.specs.File.{File};
 ghost use Rattle.graph.specs.Refusals.{number_of};
@@ -15,12 +15,9 @@ use crate::lines::NotDefining;
 use crate::refusal::{Refusal, told};
 use crate::symbol::symbols;
 use base::Seq;
-use graph::{AigerFile, Model, Parts, ReadError, Symbols};
+use graph::{AigerFile, LONGEST_TEXT, Model, Parts, ReadError, Symbols};
 use scan::Fault;
 use std::alloc::Global;
-
-/// How many bytes a text may have, in either layout.
-pub const LONGEST: usize = 67_108_864;
 
 /// The symbols and the comment that follow the parts. The symbols are those of the parts, of which
 /// nothing else is asked yet.
@@ -76,7 +73,7 @@ pub fn read(alloc: Global, text: &[u8]) -> Result<AigerFile, ReadError>
     ensures refusals { IfErr result (λ e. Contains refusal_numbers (number_of e)) }
     ensures too_long { (result ≡ Err TooLong) ↔ (67108864 < length text.now) }
 {
-    if text.len() > LONGEST {
+    if text.len() > LONGEST_TEXT {
         return Err(ReadError::TooLong);
     }
     match parse(alloc, text) {

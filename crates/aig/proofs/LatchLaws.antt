@@ -10,12 +10,12 @@ use Rattle.graph.specs.declared.circuit.Latch.{Latch}
 use Rattle.aag.specs.Lines.{greatest, lit}
 use Rattle.aag.proofs.LineLaws.{IsNext, next_reads, IsResetOf, OfEnd, end_reads, reset_small, no_reset, both}
 use Rattle.aig.specs.Lines.{latch_at}
-use Rattle.aig.specs.Binary.{IsLatchLine}
+use Rattle.aig.specs.Binary.{IsBinaryLatchLine}
 
 -- the latch with this literal
 pub record IsLatchOf (max : ℕ) (own : Lit) (t : List ℕ) (l : Latch) : Type 0 where
   pub same : l.lit ≡ own
-  pub line : IsLatchLine max t l
+  pub line : IsBinaryLatchLine max t l
 
 abbrev OfLatch : ℕ → Lit → List ℕ → Latch → Type 0
 OfLatch max own = Then (IsNext max) (λ next. OfEnd own next.0 next.1)
@@ -53,7 +53,7 @@ latch_to max own t l (w, a, b, word, rest, p1) =
           latch_long max own w t a b l word space p1 (rw e at rest)
     ]
 
-latch_parts : (max : ℕ) (t : List ℕ) (l : Latch) → l.lit.0 ≤ 2 ^ 31 → IsLatchLine max t l → OfLatch max l.lit t l
+latch_parts : (max : ℕ) (t : List ℕ) (l : Latch) → l.lit.0 ≤ 2 ^ 31 → IsBinaryLatchLine max t l → OfLatch max l.lit t l
 latch_parts max t l small r = elim r.spells [
   | inl long ↦ (
     (l.next, 32),

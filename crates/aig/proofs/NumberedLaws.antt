@@ -12,7 +12,7 @@ use Rattle.graph.specs.declared.circuit.Gate.{Gate}
 use Rattle.graph.specs.Circuits.{IsNumbered, IsDescending}
 use Rattle.aag.specs.Lines.{lit}
 use Rattle.aig.specs.Lines.{numbered_at}
-use Rattle.aig.specs.Binary.{IsLatchLine, IsGateDeltas}
+use Rattle.aig.specs.Binary.{IsBinaryLatchLine, IsGateDeltas}
 use Rattle.aig.proofs.DeltaLaws.{IsGateOf}
 use Rattle.aig.proofs.LatchLaws.{IsLatchOf}
 
@@ -90,13 +90,13 @@ inputs_from first (x ∷ xs) h = ([], [], (refl, numbered_head first x xs h), in
 
 -- ---- latches
 
-pub latches_to : (max first : ℕ) (t : List ℕ) (ls : List Latch) → EachFrom (IsLatchOf max) first t ls → Each (IsLatchLine max) t ls × IsNumbered first (map (λ l. l.lit) ls)
+pub latches_to : (max first : ℕ) (t : List ℕ) (ls : List Latch) → EachFrom (IsLatchOf max) first t ls → Each (IsBinaryLatchLine max) t ls × IsNumbered first (map (λ l. l.lit) ls)
 latches_to max first t [] e = (e, numbered_nil first)
 latches_to max first t (l ∷ ls) (a, b, one, others, p) =
     let h = latches_to max (suc first) b ls others in
     ((a, b, one.line, h.0, p), numbered_cons first l.lit (map (λ l. l.lit) ls) one.same h.1)
 
-pub latches_from : (max first : ℕ) (t : List ℕ) (ls : List Latch) → Each (IsLatchLine max) t ls → IsNumbered first (map (λ l. l.lit) ls) → EachFrom (IsLatchOf max) first t ls
+pub latches_from : (max first : ℕ) (t : List ℕ) (ls : List Latch) → Each (IsBinaryLatchLine max) t ls → IsNumbered first (map (λ l. l.lit) ls) → EachFrom (IsLatchOf max) first t ls
 latches_from max first t [] e h = e
 latches_from max first t (l ∷ ls) (a, b, one, others, p) h =
     (a, b, record { same = numbered_head first l.lit (map (λ l. l.lit) ls) h; line = one }, latches_from max (suc first) b ls others (numbered_tail first l.lit (map (λ l. l.lit) ls) h), p)

@@ -10,9 +10,9 @@ use Rattle.graph.specs.Circuits.{defining, justice_literals, HasReset, IsDescend
 use Rattle.graph.specs.WellFormed.{used, IsInLimits, IsWellFormed}
 use Rattle.graph.proofs.Ordered.{defined_once, is_defined, no_cycle_below}
 use Rattle.aag.specs.Lines.{greatest}
-use Rattle.aag.specs.Spelling.{IsLiteral, IsLiteralLine, counts_of}
+use Rattle.aag.specs.Spelling.{IsCircuitLiteral, IsLiteralLine, counts_of}
 use Rattle.aag.proofs.WritingLaws.{all_right, all_of_map}
-use Rattle.aig.specs.Binary.{IsLatchLine, SpellsOrdered}
+use Rattle.aig.specs.Binary.{IsBinaryLatchLine, SpellsOrdered}
 
 -- ---- limits
 
@@ -42,30 +42,30 @@ limits_of t c s =
 
 -- ---- literals
 
-all_literals : (max : ℕ) (t : List ℕ) (xs : List Lit) → Each (IsLiteralLine max) t xs → All (IsLiteral max) xs
-all_literals max t [] e = All-nil (IsLiteral max)
-all_literals max t (x ∷ xs) (a, b, one, others, p) = All-cons (IsLiteral max) x xs one.literal (all_literals max b xs others)
+all_literals : (max : ℕ) (t : List ℕ) (xs : List Lit) → Each (IsLiteralLine max) t xs → All (IsCircuitLiteral max) xs
+all_literals max t [] e = All-nil (IsCircuitLiteral max)
+all_literals max t (x ∷ xs) (a, b, one, others, p) = All-cons (IsCircuitLiteral max) x xs one.literal (all_literals max b xs others)
 
-all_nexts : (max : ℕ) (t : List ℕ) (ls : List Latch) → Each (IsLatchLine max) t ls → All (IsLiteral max) (map (λ l. l.next) ls)
-all_nexts max t [] e = All-nil (IsLiteral max)
-all_nexts max t (l ∷ ls) (a, b, one, others, p) = All-cons (IsLiteral max) l.next (map (λ l. l.next) ls) one.next (all_nexts max b ls others)
+all_nexts : (max : ℕ) (t : List ℕ) (ls : List Latch) → Each (IsBinaryLatchLine max) t ls → All (IsCircuitLiteral max) (map (λ l. l.next) ls)
+all_nexts max t [] e = All-nil (IsCircuitLiteral max)
+all_nexts max t (l ∷ ls) (a, b, one, others, p) = All-cons (IsCircuitLiteral max) l.next (map (λ l. l.next) ls) one.next (all_nexts max b ls others)
 
-all_resets : (max : ℕ) (t : List ℕ) (ls : List Latch) → Each (IsLatchLine max) t ls → All HasReset ls
+all_resets : (max : ℕ) (t : List ℕ) (ls : List Latch) → Each (IsBinaryLatchLine max) t ls → All HasReset ls
 all_resets max t [] e = All-nil HasReset
 all_resets max t (l ∷ ls) (a, b, one, others, p) = All-cons HasReset l ls one.reset (all_resets max b ls others)
 
-low_left : (max : ℕ) (g : Gate) → IsLiteral max g.lhs → IsDescending g → IsLiteral max g.rhs0
+low_left : (max : ℕ) (g : Gate) → IsCircuitLiteral max g.lhs → IsDescending g → IsCircuitLiteral max g.rhs0
 low_left max g le d = omega (arith, le, d.0)
 
-low_right : (max : ℕ) (g : Gate) → IsLiteral max g.lhs → IsDescending g → IsLiteral max g.rhs1
+low_right : (max : ℕ) (g : Gate) → IsCircuitLiteral max g.lhs → IsDescending g → IsCircuitLiteral max g.rhs1
 low_right max g le d = omega (arith, le, d.0, d.1)
 
-defining_within : (c : Parts) → IsOrdered c → All (IsLiteral c.max_var) (defining c)
+defining_within : (c : Parts) → IsOrdered c → All (IsCircuitLiteral c.max_var) (defining c)
 defining_within c o = λ k d lt. omega (arith, o.numbered k d lt, o.all_defined, lt)
 
-used_within : (t : List ℕ) (c : Parts) → SpellsOrdered t c → All (IsLiteral c.max_var) (used c)
+used_within : (t : List ℕ) (c : Parts) → SpellsOrdered t c → All (IsCircuitLiteral c.max_var) (used c)
 used_within t c s =
-    let P = IsLiteral c.max_var in
+    let P = IsCircuitLiteral c.max_var in
     let lefts = all_of_map P (λ g. g.lhs) c.gates (all_right P (c.inputs ++ map (λ l. l.lit) c.latches) (map (λ g. g.lhs) c.gates) (defining_within c s.ordered)) in
     let descend = s.ordered.descending in
     let nexts = map (λ l. l.next) c.latches in

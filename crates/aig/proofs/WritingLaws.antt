@@ -11,16 +11,16 @@ use Rattle.graph.specs.Symbols.{symbol_counts, AreSymbols}
 use Rattle.graph.specs.Circuits.{justice_literals, IsOrdered}
 use Rattle.graph.specs.WellFormed.{IsWellFormed}
 use Rattle.aag.specs.Lines.{greatest}
-use Rattle.aag.specs.Spelling.{IsLiteral, IsLiteralLine}
+use Rattle.aag.specs.Spelling.{IsCircuitLiteral, IsLiteralLine}
 use Rattle.aag.specs.Tail.{symbol_line}
 use Rattle.aag.specs.Writing.{trimmed, literal_line, size_line, comment_lines}
 use Rattle.aag.proofs.WritingLaws.{IsFineLatch, IsFineGate, fine_lists, each_written, literal_written, sizes_written, symbols_written, comment_written, counts_written}
-use Rattle.aig.specs.Binary.{IsLatchLine, IsGateDeltas, SpellsOrdered, SpellsBinary}
+use Rattle.aig.specs.Binary.{IsBinaryLatchLine, IsGateDeltas, SpellsOrdered, SpellsBinary}
 use Rattle.aig.specs.Delta.{delta_text}
 use Rattle.aig.specs.Writing.{latch_line, gate_text, circuit_text, written_text}
 use Rattle.aig.proofs.PieceLaws.{delta_spells}
 
-latch_written : (max : ℕ) (l : Latch) → IsFineLatch max l → IsLatchLine max (latch_line l) l
+latch_written : (max : ℕ) (l : Latch) → IsFineLatch max l → IsBinaryLatchLine max (latch_line l) l
 latch_written max l fine = elim (cases_Bool (eqb l.reset.0 0)) [
   | inl y ↦ rw y (record { spells = inr (eqb-true l.reset.0 0 y, refl); next = fine.next; reset = fine.reset })
   | inr n ↦ rw n (record { spells = inl refl; next = fine.next; reset = fine.reset })
@@ -42,7 +42,7 @@ pub circuit_written : (m : Parts) → IsWellFormed m → IsOrdered m → SpellsO
 circuit_written m w ordered =
     let fine = fine_lists m w in
     let max = m.max_var in
-    let P = IsLiteral max in
+    let P = IsCircuitLiteral max in
     let R = IsLiteralLine max in
     let counts : List ℕ = length m.inputs ∷ length m.latches ∷ length m.outputs ∷ length m.gates ∷ trimmed (length m.bad ∷ length m.constraints ∷ length m.justice ∷ length m.fairness ∷ []) in
     record {
@@ -60,7 +60,7 @@ circuit_written m w ordered =
       max_var = w.limits.max_var;
       counts = counts_written m w.limits;
       ordered = ordered;
-      each_latch = each_written (IsFineLatch max) (IsLatchLine max) latch_line (latch_written max) m.latches fine.latches;
+      each_latch = each_written (IsFineLatch max) (IsBinaryLatchLine max) latch_line (latch_written max) m.latches fine.latches;
       each_output = each_written P R literal_line (literal_written max) m.outputs fine.outputs;
       each_bad = each_written P R literal_line (literal_written max) m.bad fine.bad;
       each_constraint = each_written P R literal_line (literal_written max) m.constraints fine.constraints;

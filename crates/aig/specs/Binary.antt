@@ -7,7 +7,7 @@ use Rattle.graph.specs.declared.parts.Parts.{Parts}
 use Rattle.graph.specs.Circuits.{HasReset, IsOrdered, justice_literals}
 use Rattle.graph.specs.File.{File}
 use Rattle.graph.specs.Symbols.{symbol_counts, AreSymbols}
-use Rattle.aag.specs.Spelling.{IsLiteral, IsLiteralLine, IsSizeLine, counts_of}
+use Rattle.aag.specs.Spelling.{IsCircuitLiteral, IsLiteralLine, IsSizeLine, counts_of}
 use Rattle.aag.specs.Tail.{IsSymbolLine, IsComment}
 
 -- a number in groups of seven bits, the lowest first, with the high bit set on all bytes but the last; the last of several
@@ -25,12 +25,14 @@ abbrev pub short_latch : Latch → List ℕ
 short_latch l = decimal l.next.0 ++ 10 ∷ []
 
 -- a latch without its literal; its reset may be left out where it is 0
-pub record IsLatchLine (max : ℕ) (text : List ℕ) (l : Latch) : Type 0 where
+pub record IsBinaryLatchLine (max : ℕ) (text : List ℕ) (l : Latch) : Type 0 where
   pub spells : (text ≡ long_latch l) ⊎ ((l.reset.0 ≡ 0) × (text ≡ short_latch l))
-  pub next : IsLiteral max l.next
+  pub next : IsCircuitLiteral max l.next
   pub reset : HasReset l
 
 -- a gate by the difference of its left side and the first right side, and that of its right sides
+-- (subtraction stops at 0, which is never reached so: SpellsOrdered asks beside it that the literals are ordered, each right side
+-- at most what it is taken from)
 pub record IsGateDeltas (text : List ℕ) (g : Gate) : Type 0 where
   pub first : List ℕ
   pub second : List ℕ
@@ -54,7 +56,7 @@ pub record SpellsOrdered (text : List ℕ) (c : Parts) : Type 0 where
   pub max_var : c.max_var ≤ 4194303
   pub counts : IsCounts 4194303 head (counts_of c)
   pub ordered : IsOrdered c
-  pub each_latch : Each (IsLatchLine c.max_var) latches c.latches
+  pub each_latch : Each (IsBinaryLatchLine c.max_var) latches c.latches
   pub each_output : Each (IsLiteralLine c.max_var) outputs c.outputs
   pub each_bad : Each (IsLiteralLine c.max_var) bad c.bad
   pub each_constraint : Each (IsLiteralLine c.max_var) constraints c.constraints

@@ -31,7 +31,8 @@ latch_at max own bytes = do
   next ← next_at max bytes
   latch_end_at own next.0.0 next.0.1 next.1
 
--- a gate by the differences of its literals
+-- a gate by the differences of its literals; one that is greater than the literal that it is taken from is refused before
+-- (delta_at), so no subtraction stops at 0
 unfoldable pub gate_at : Lit → List ℕ → Read Gate
 gate_at own bytes = do
   first ← delta_at 1 own.0 bytes

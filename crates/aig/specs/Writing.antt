@@ -13,7 +13,8 @@ use Rattle.aig.specs.Binary.{long_latch, short_latch}
 abbrev pub latch_line : Latch → List ℕ
 latch_line l = if l.reset.0 == 0 then short_latch l else long_latch l
 
--- the differences of a gate's literals
+-- the differences of a gate's literals; subtraction stops at 0, so it is their text only where they descend, which the
+-- writer's contract asks (IsOrdered)
 abbrev pub gate_text : Gate → List ℕ
 gate_text g = delta_text (g.lhs.0 - g.rhs0.0) ++ delta_text (g.rhs0.0 - g.rhs1.0)
 

@@ -1,7 +1,5 @@
 //! What defines a variable: inputs, latches and gates.
 
-ghost use Rattle.std.specs.Prelude.{◌≡◌};
-ghost use Rattle.scan.specs.Reading.{Gives};
 ghost use Rattle.aig.specs.Lines.{input_at, latch_at, gate_at};
 
 use crate::delta::{NoDelta, delta};

@@ -1,7 +1,7 @@
 //! Lists of what defines variables in their order.
 
 ghost use Rattle.std.specs.Mem.{type_size};
-ghost use Rattle.std.specs.Prelude.{◌≡◌, ◌+◌, ◌≤◌};
+ghost use Rattle.std.specs.Prelude.{◌+◌, ◌≤◌};
 ghost use Rattle.base.specs.Sizes.{IsItemSize};
 ghost use Rattle.scan.specs.Reading.{Gives};
 ghost use Rattle.aig.specs.Lines.{numbered_at};

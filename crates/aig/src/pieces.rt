@@ -1,7 +1,6 @@
 //! What is written item by item.
 
-ghost use Rattle.std.specs.Prelude.{◌≡◌, ◌^◌, ◌+◌, ◌<◌, ◌≤◌, ◌-◌, ◌++◌, ◌∷◌, drop, length};
-ghost use Rattle.base.specs.Devices.{CountsFailure, Puts};
+ghost use Rattle.std.specs.Prelude.{◌≡◌, ◌+◌, ◌<◌, ◌≤◌, ◌++◌, ◌∷◌, drop, length};
 ghost use Rattle.aig.specs.Delta.{delta_text};
 ghost use Rattle.aig.specs.Writing.{gate_text, latch_line};
 

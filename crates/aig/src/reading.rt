@@ -13,9 +13,9 @@ ghost use Rattle.aig.specs.Whole.{text_at};
 
 use crate::circuit::circuit;
 use crate::delta::NoDelta;
-use aag::{LONGEST, Refusal, told, with_tail};
+use aag::{Refusal, told, with_tail};
 use base::Seq;
-use graph::{AigerFile, Model, Parts, ReadError, Symbols};
+use graph::{AigerFile, LONGEST_TEXT, Model, Parts, ReadError, Symbols};
 use scan::Fault;
 use std::alloc::Global;
 
@@ -42,7 +42,7 @@ pub fn read(alloc: Global, text: &[u8]) -> Result<AigerFile, ReadError>
     ensures refusals { IfErr result (λ e. Contains refusal_numbers (number_of e)) }
     ensures too_long { (result ≡ Err TooLong) ↔ (67108864 < length text.now) }
 {
-    if text.len() > LONGEST {
+    if text.len() > LONGEST_TEXT {
         return Err(ReadError::TooLong);
     }
     match parse(alloc, text) {

@@ -15,7 +15,7 @@ use checker::{
     RunError, run_of_readers, run_safe, run_safe_for, run_stimulus, run_stimulus_for,
     safe_of_readers,
 };
-use graph::{AigerFile, Property, ReadError};
+use graph::{AigerFile, LONGEST_TEXT, Property, ReadError};
 use inputs::{Input, open};
 use properties::Evidence;
 use property_names::{Asked, property_called};
@@ -24,7 +24,7 @@ use std::io;
 use std::io::Read;
 
 /// One byte more than the text of a circuit may have: a longer one is refused as too long by that.
-const MOST: u64 = 67_108_865;
+const MOST: u64 = LONGEST_TEXT as u64 + 1;
 
 /// What the two files of a command are called, of which the second may be a folder.
 #[derive(Clone, Copy)]

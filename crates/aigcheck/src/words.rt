@@ -2,10 +2,8 @@
 
 use clap::builder::ValueParser;
 use clap::{Arg, ArgAction, Command};
+use explanations::VERSION;
 use std::alloc::{AllocError, Global};
-
-/// What `--version` prints behind the program's name.
-static VERSION: &str = "0.1.0 (rattle-kit-13f)";
 
 static STATUSES: &str = "Status: 0 yes, 1 no, 3 no answer.
 Of all: 0 each property is safe, 1 one is violated, else 2 one is without accepted

@@ -8,12 +8,8 @@ ghost use Rattle.aiger.specs.declared.load_error.LoadError.TheVariants.{Device};
 use crate::load_error::LoadError;
 use crate::reading::read;
 use base::{ReadAllError, Source, read_all};
-use graph::{AigerFile, ReadError};
+use graph::{AigerFile, LONGEST_TEXT, ReadError};
 use std::alloc::Global;
-
-/// The most bytes that the text of a circuit may have (AIGER 1.9 sets no limit; this one is the
-/// project's).
-const LONGEST: usize = 67_108_864;
 
 /// The file that the bytes of a source spell (AIGER 1.9), binary where the second byte is `i`, and
 /// else ASCII. Of a text that is longer than a circuit's may be, no more is read than shows it.
@@ -28,7 +24,7 @@ pub fn load<S: Source>(alloc: Global, source: &mut S) -> Result<AigerFile, LoadE
     ensures failed { IsErrOf result Device → S.failed source.new ≡ S.failed source.old + 1 }
     ensures kept { (IsErrOf result Device → ⊥) → S.failed source.new ≡ S.failed source.old }
 {
-    let text = match read_all(alloc, source, LONGEST) {
+    let text = match read_all(alloc, source, LONGEST_TEXT) {
         Ok(text) => text,
         Err(ReadAllError::OutOfMemory(refused)) => {
             return Err(LoadError::Refused(ReadError::OutOfMemory(refused)));

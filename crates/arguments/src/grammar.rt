@@ -2,6 +2,7 @@
 
 use crate::words::{Argument, FILE, FLAG, OPTION, PROPERTY, Takes};
 use clap::Command;
+use explanations::VERSION;
 use std::alloc::{AllocError, Global};
 
 /// A command: its name, what `--help` says of it before and behind its arguments, and these in their order.
@@ -12,9 +13,6 @@ struct Row {
     behind: &'static str,
     words: &'static [Argument],
 }
-
-/// What `--version` prints behind the program's name.
-static VERSION: &str = "0.1.0 (rattle-kit-13f)";
 
 static STATUSES: &str =
     "Status: 0 done, 1 a violation (check, all), a difference (equal), no run (cover), no invariant (certify, recertify), no witness (adopt-witness) or none shown (witness), 2 nothing is known (check, all, equal, cover, certify, recertify, adopt-witness), 3 failed.

@@ -2,7 +2,7 @@
 use mathlib.Core.Path.{refl, sym}
 use mathlib.Core.List.{append-nil}
 use mathlib.Core.Bool.{true≢false}
-use Rattle.std.specs.Prelude.{◌≡◌, ℕ, List, [], ◌++◌, Bool, true, false, IsTrue, Option, None, Some, IfSome}
+use Rattle.std.specs.Prelude.{ℕ, List, [], ◌++◌, Bool, true, false, Option, None, Some}
 use Rattle.base.specs.Devices.{IsLeft}
 
 -- there is always such a text

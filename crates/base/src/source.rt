@@ -1,6 +1,6 @@
 //! Where bytes come from.
 
-ghost use Rattle.std.specs.Prelude.{◌≡◌, ℕ, ◌+◌, ◌-◌, ◌^◌, ◌<◌, List, [], false, Ok, length};
+ghost use Rattle.std.specs.Prelude.{◌≡◌, ℕ, ◌-◌, ◌^◌, ◌<◌, List, [], false, Ok, length};
 ghost use Rattle.base.specs.Devices.{FitsSlice, CountsFailure, LowersMost, TakeMoves, IsLeft};
 ghost use Rattle.std.proofs.Common.{refl, sym, ◌∙◌};
 ghost use Rattle.std.proofs.lemmas.List.{append_cancel_left};

@@ -1,6 +1,6 @@
 //! The cone of influence: all that the bad literals and the constraints depend on at any time.
 
-ghost use Rattle.std.specs.Prelude.{◌≡◌, ℕ, false, ◌+◌, ◌<◌, ◌≤◌, ◌∷◌, [], ◌++◌, length, map, slice_index, All, IfOk, OnOk};
+ghost use Rattle.std.specs.Prelude.{◌≡◌, ℕ, false, ◌+◌, ◌<◌, ◌≤◌, ◌∷◌, [], length, map, slice_index, All, IfOk, OnOk};
 ghost use Rattle.graph.specs.Circuits.{variable, place};
 ghost use Rattle.cnf.specs.Tables.{IsTableOf};
 ghost use Rattle.cones.specs.Reach.{Grows};

@@ -3,7 +3,7 @@
 ghost use Rattle.std.specs.Prelude.{◌≡◌, ◌<◌, ◌≤◌, [], ℕ, pos, None, OnOk, IfOk, length};
 ghost use Rattle.std.specs.HashMap.{get};
 ghost use Rattle.lrat.specs.Literals.{IsLiteral};
-ghost use Rattle.bmc.specs.Encodings.{AreLeaves, IsFunctionIn, IsEncoding, IsGrown, no_function, function_at, same_function};
+ghost use Rattle.bmc.specs.Encodings.{AreLeaves, IsFunctionIn, IsEncoding, IsGrown, function_at, same_function};
 
 use crate::clauses::{negated, positive};
 use crate::function::{Function, Simplified};

@@ -1,6 +1,6 @@
 //! Runs, read from the values of a model.
 
-ghost use Rattle.std.specs.Prelude.{◌≡◌, ◌+◌, ◌<◌, ◌≤◌, length, map, All, IfOk, unsigned_abs};
+ghost use Rattle.std.specs.Prelude.{◌≡◌, ◌+◌, ◌<◌, length, map, All, IfOk, unsigned_abs};
 ghost use Rattle.lrat.specs.Literals.{IsLiteral, is_true};
 ghost use Rattle.solver.specs.Answers.{values as values_of};
 ghost use Rattle.bmc.specs.Cones.{IsConeOf};

@@ -1,7 +1,7 @@
 //! Lines of a log that several refutations share, and the sections behind them.
 
 ghost use Rattle.base.specs.Witness.{witness};
-ghost use Rattle.std.specs.Prelude.{◌≡◌, ◌≤◌, ◌+◌, ◌⊎◌, ℕ, All, IfErr, IfOk, List, length};
+ghost use Rattle.std.specs.Prelude.{◌≡◌, ◌≤◌, ◌+◌, ◌⊎◌, ℕ, All, IfErr, IfOk, length};
 ghost use Rattle.std.specs.List.{flat_map};
 ghost use Rattle.lrat.specs.Stages.{Stage, GoAlong};
 ghost use Rattle.cdcl_log.specs.Closings.{IsClosingOf, hints_of, section_of};

@@ -9,7 +9,7 @@ use crate::levels::backtrack_after_call;
 use base::{Refused, extend};
 
 /// The most clauses of one literal that wait for level 0.
-const WAITING: usize = 32;
+const MOST_PENDING_UNITS: usize = 32;
 
 /// Backtracks to where the assumptions are no longer those of the call before, and takes note of them. It
 /// backtracks to level 0 where many clauses of one literal wait for that, and where either call is about a
@@ -19,7 +19,7 @@ pub fn reuse_trail(guide: &mut Guide, is_part: bool, assume: &[i32]) -> Result<(
     if is_new {
         guide.decisions.empty_heap();
     }
-    let level = if is_new || guide.pending_units.len() > WAITING {
+    let level = if is_new || guide.pending_units.len() > MOST_PENDING_UNITS {
         0
     } else {
         shared_levels(guide, assume)

@@ -5,12 +5,12 @@ ghost use Rattle.certificate.specs.Reading.{first_line_at, version_at, property_
 
 use crate::refusal::{IN_LINE, IN_PROPERTY, IN_VERSION, Refusal};
 use base::Seq;
-use graph::{Lit, Property};
+use graph::{Lit, MOST_VARIABLES, Property};
 use scan::{Fault, LineKind, byte, field, lines_into, number, tag};
 use std::alloc::Global;
 
 /// The greatest count of clauses, and of literals in a clause.
-pub const GREATEST: u32 = 4_194_303;
+pub const GREATEST: u32 = MOST_VARIABLES;
 
 /// The version of a text.
 #[derive(Clone, Copy, PartialEq, Eq)]

@@ -1,6 +1,6 @@
 //! Which certificates have a text.
 
-ghost use Rattle.std.specs.Prelude.{◌≡◌, ◌<◌, ◌≤◌, ◌↔◌, All, IsTrue, length};
+ghost use Rattle.std.specs.Prelude.{◌≡◌, ◌<◌, ◌↔◌, All, IsTrue, length};
 ghost use Rattle.lrat.specs.Limits.{IsLine};
 ghost use Rattle.certificate3.specs.Limits.{IsInLimits};
 ghost use Rattle.certificate3.specs.Texts.{AreGateWords, AreHints, AreLatchWords, AreLiterals, IsClaim, IsWord};

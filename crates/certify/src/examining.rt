@@ -9,11 +9,11 @@ use crate::certify_error::CertifyError;
 use base::Seq;
 use checker::{ClauseError, check_clauses};
 use cnf::NextTable;
-use graph::{Lit, Model};
+use graph::{Lit, MOST_VARIABLES, Model};
 use std::alloc::Global;
 
 /// The most clauses that a certificate may have.
-const MOST_CLAUSES: usize = 4_194_303;
+const MOST_CLAUSES: usize = MOST_VARIABLES as usize;
 
 /// Whether the clauses are no more than a certificate may have, each over the latches and without a
 /// literal that is repeated or opposed. A refusal has the first cause. It costs the literals and the

@@ -1,7 +1,7 @@
 //! Whether there is anything wrong with the clauses.
 
-ghost use Rattle.std.specs.Prelude.{◌≡◌, ◌+◌, ◌≤◌, ◌<◌, ◌^◌, ◌↔◌, ℕ, false, All, IfErr, IfNone, IfOk, IfSome, IsTrue, OnOk, length, map};
-ghost use Rattle.lrat.specs.Literals.{IsLiteral, IsProper};
+ghost use Rattle.std.specs.Prelude.{◌≡◌, ◌+◌, ◌≤◌, ◌↔◌, ℕ, false, All, IfErr, IfNone, IfOk, IfSome, IsTrue, OnOk, length, map};
+ghost use Rattle.lrat.specs.Literals.{IsProper};
 ghost use Rattle.cnf.specs.Clauses.{literal};
 ghost use Rattle.cnf.specs.Formulas.{IsInRange};
 ghost use Rattle.extension.specs.Inductive.{IsOverAll};
@@ -12,12 +12,12 @@ use crate::certify_error::CertifyError;
 use base::{Lists, Refused};
 use checker3::Refusal;
 use cnf::TimeFrame;
-use graph::{Lit, Model};
+use graph::{Lit, MOST_VARIABLES, Model};
 use lrat::Trail;
 use std::alloc::Global;
 
 /// The most clauses that a certificate may have.
-const MOST_CLAUSES: usize = 4_194_303;
+const MOST_CLAUSES: usize = MOST_VARIABLES as usize;
 
 /// Whether each literal is one of the circuit's, or constant.
 fn is_over(circuit: &Model, clause: &[Lit]) -> bool

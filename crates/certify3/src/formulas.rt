@@ -1,10 +1,10 @@
 //! The formulas of the three proofs.
 
 ghost use Rattle.base.specs.Witness.{witness};
-ghost use Rattle.std.specs.Prelude.{◌≡◌, ◌+◌, ◌≤◌, ◌<◌, ◌^◌, ◌++◌, ◌∷◌, [], All, IfOk, OnOk, length, map};
+ghost use Rattle.std.specs.Prelude.{◌≡◌, ◌+◌, ◌≤◌, ◌<◌, ◌^◌, ◌++◌, All, IfOk, OnOk, length, map};
 ghost use Rattle.lrat.specs.Limits.{IsFormula};
 ghost use Rattle.cnf.specs.Clauses.{literal, time_clauses};
-ghost use Rattle.cnf.specs.Formulas.{IsInRange, bad_formula as bad_of, formula_of};
+ghost use Rattle.cnf.specs.Formulas.{IsInRange, bad_formula as bad_of};
 ghost use Rattle.extension.specs.Accepted.{begin_formula as begin_of, pair_formula as pair_of};
 ghost use Rattle.extension.specs.Inductive.{IsOverAll};
 ghost use Rattle.cnf.specs.Unrolled.{times_from};

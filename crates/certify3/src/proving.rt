@@ -1,6 +1,6 @@
 //! The three proofs of clauses.
 
-ghost use Rattle.std.specs.Prelude.{◌≡◌, ◌+◌, ◌≤◌, ◌<◌, ◌^◌, All, IfErr, IfOk, length};
+ghost use Rattle.std.specs.Prelude.{◌≤◌, All, IfErr, length};
 ghost use Rattle.base.specs.Budget.{Spends};
 ghost use Rattle.cnf.specs.Formulas.{IsInRange};
 ghost use Rattle.extension.specs.Inductive.{IsOverAll};

@@ -3,7 +3,6 @@
 ghost use Rattle.std.specs.Prelude.{◌≡◌, ◌+◌, ◌^◌, ◌≤◌, length, IfErr, IfOk, MatchResult};
 ghost use Rattle.graph.specs.Circuits.{HasProperty, position_of};
 ghost use Rattle.graph.specs.declared.circuit.Property.TheVariants.{Justice};
-ghost use Rattle.cnf.specs.Formulas.{IsInRange};
 ghost use Rattle.extension.specs.Extended.{IsExtension};
 ghost use Rattle.checker3.specs.Judged.{IsNoExtension};
 ghost use Rattle.certify3.specs.Subjects.{HasNoSubject, IsGrownFor, IsNoClaim, IsNoGrowthFor, IsSubject};
@@ -13,12 +12,12 @@ use crate::certify_error::CertifyError;
 use certificate3::Claim;
 use checker3::Refusal;
 use extension::{are_few_rounds, count_rounds, extended_parts, is_extension};
-use graph::{Lit, Model, Property, ReadError};
+use graph::{Lit, MOST_VARIABLES, Model, Property, ReadError};
 use live_safe::LiveError;
 use std::alloc::Global;
 
 /// The greatest variable that a circuit may have.
-const MAX_VAR: usize = 4_194_303;
+const MAX_VAR: usize = MOST_VARIABLES as usize;
 
 /// A circuit, and its literal that no run is to set.
 #[derive(Drop)]

@@ -14,12 +14,12 @@ use crate::invariant::check_clauses;
 use crate::sections::check_sections;
 use certificate::Certificate;
 use cnf::NextTable;
-use graph::{Lit, Model, Property};
+use graph::{Lit, MOST_VARIABLES, Model, Property};
 use live_safe::{LiveError, to_safety};
 use std::alloc::Global;
 
 /// The most clauses that an invariant may have.
-const MOST_CLAUSES: usize = 4_194_303;
+const MOST_CLAUSES: usize = MOST_VARIABLES as usize;
 
 /// Looks for the first cause for this one of the circuit's literals, which no run is to set.
 fn examine(

@@ -1,6 +1,6 @@
 //! The cases of an invariant, checked while their sections are read.
 
-ghost use Rattle.std.specs.Prelude.{◌≡◌, ◌+◌, ◌-◌, ◌<◌, ◌^◌, ◌↔◌, ℕ, List, ◌++◌, map, length, Contains, None, Some, IfNone, IfOk, IsErrOf};
+ghost use Rattle.std.specs.Prelude.{◌≡◌, ◌+◌, ◌-◌, ◌<◌, ◌^◌, ◌↔◌, ◌++◌, map, length, Contains, None, IfNone, IfOk, IsErrOf};
 ghost use Rattle.base.specs.Devices.{Reads};
 ghost use Rattle.scan.specs.Lists.{many_at};
 ghost use Rattle.graph.specs.WellFormed.{used};

@@ -1,7 +1,7 @@
 //! A certificate's text, checked while it is read.
 
 ghost use Rattle.base.specs.Witness.{witness};
-ghost use Rattle.std.specs.Prelude.{◌≡◌, ◌≢◌, ◌+◌, ◌-◌, ◌<◌, ◌≤◌, ◌^◌, ◌↔◌, ℕ, List, ◌++◌, All, length, Contains, None, Some, IfErr, IfNone, IfOk, IsErrOf, MatchResult, OnOk};
+ghost use Rattle.std.specs.Prelude.{◌≡◌, ◌≢◌, ◌+◌, ◌-◌, ◌<◌, ◌≤◌, ◌^◌, ◌↔◌, List, ◌++◌, All, length, Contains, None, Some, IfErr, IfNone, IfOk, IsErrOf, MatchResult, OnOk};
 ghost use Rattle.base.specs.Devices.{IsAtEnd, Reads};
 ghost use Rattle.graph.specs.WellFormed.{used};
 ghost use Rattle.graph.specs.declared.circuit.Lit.{Lit as ALit};

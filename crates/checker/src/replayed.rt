@@ -1,6 +1,6 @@
 //! From the bytes of a circuit and a stimulus to an answer.
 
-ghost use Rattle.std.specs.Prelude.{◌≡◌, ◌+◌, ◌-◌, ◌<◌, ◌^◌, ℕ, List, Some, IfOk, IsErrOf, IsTrue, MatchResult, OnErr, false};
+ghost use Rattle.std.specs.Prelude.{◌≡◌, ◌+◌, ◌-◌, ◌<◌, ◌^◌, ℕ, List, IfOk, IsErrOf, IsTrue, MatchResult, OnErr, false};
 ghost use Rattle.std.specs.Io.KnownBytes.{Appends};
 ghost use Rattle.base.specs.Devices.{IsAtEnd, Reads};
 ghost use Rattle.aiger.specs.Layouts.{SpellsFile};

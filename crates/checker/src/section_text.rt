@@ -1,7 +1,7 @@
 //! The sections of a certificate's text, checked line by line.
 
 ghost use Rattle.base.specs.Witness.{witness};
-ghost use Rattle.std.specs.Prelude.{◌≡◌, ◌≢◌, ◌+◌, ◌-◌, ◌<◌, ◌^◌, ◌↔◌, ℕ, List, ◌++◌, All, None, Some, IfOk, IfNone, IsErrOf};
+ghost use Rattle.std.specs.Prelude.{◌≡◌, ◌≢◌, ◌+◌, ◌-◌, ◌<◌, ◌^◌, ◌↔◌, ◌++◌, All, None, Some, IfOk, IfNone, IsErrOf};
 ghost use Rattle.base.specs.Devices.{Reads};
 ghost use Rattle.scan.specs.Lists.{items_at};
 ghost use Rattle.lrat.specs.Literals.{IsLiteral};

@@ -1,7 +1,6 @@
 //! The clauses of a certificate.
 
-ghost use Rattle.std.specs.Prelude.{◌≡◌, ◌≤◌, ◌↔◌, All, IfNone, IfSome, IsTrue};
-ghost use Rattle.cnf.specs.Formulas.{IsInRange};
+ghost use Rattle.std.specs.Prelude.{◌↔◌, All, IfNone, IfSome, IsTrue};
 ghost use Rattle.extension.specs.Inductive.{IsOverAll};
 ghost use Rattle.checker3.specs.Judged.{IsOutside};
 

@@ -1,6 +1,6 @@
 //! What is behind the property, checked while it is read.
 
-ghost use Rattle.std.specs.Prelude.{◌≡◌, ◌+◌, ◌-◌, ◌<◌, ◌≤◌, ◌^◌, ◌↔◌, ℕ, List, ◌++◌, length, IsErrOf};
+ghost use Rattle.std.specs.Prelude.{◌≡◌, ◌+◌, ◌-◌, ◌<◌, ◌≤◌, ◌^◌, ◌↔◌, List, ◌++◌, length, IsErrOf};
 ghost use Rattle.base.specs.Devices.{Reads};
 ghost use Rattle.graph.specs.declared.circuit.Latch.{Latch as ALatch};
 ghost use Rattle.graph.specs.declared.circuit.Gate.{Gate as AGate};

@@ -9,11 +9,11 @@ ghost use Rattle.checker3.specs.declared.growing.GrowError.TheVariants.{OutOfMem
 use crate::refusal::Refusal;
 use base::Refused;
 use extension::{extended_parts, is_extension};
-use graph::{Gate, Latch, Model, ReadError};
+use graph::{Gate, Latch, MOST_VARIABLES, Model, ReadError};
 use std::alloc::Global;
 
 /// The greatest variable that a circuit may have.
-const MAX_VAR: usize = 4_194_303;
+const MAX_VAR: usize = MOST_VARIABLES as usize;
 
 /// Why a circuit is not extended.
 #[derive(Clone, Copy, PartialEq, Eq)]

@@ -17,8 +17,6 @@ mod lines;
 mod refusal;
 mod sections;
 mod text;
-#[cfg(test)]
-mod worked;
 
 pub use laws::refused_law;
 pub use refusal::Refusal;

@@ -2,7 +2,7 @@
 
 ghost use Rattle.base.specs.Witness.{witness};
 ghost use Rattle.std.specs.FinMap as fin;
-ghost use Rattle.std.specs.Prelude.{◌≡◌, ◌≢◌, ◌+◌, ◌-◌, ◌<◌, ◌≤◌, ◌^◌, ◌↔◌, ℕ, List, ◌++◌, All, map, length, None, Some, IfOk, IfNone, IsErrOf};
+ghost use Rattle.std.specs.Prelude.{◌≡◌, ◌≢◌, ◌+◌, ◌-◌, ◌<◌, ◌≤◌, ◌^◌, ◌↔◌, ◌++◌, All, map, length, None, Some, IfOk, IfNone, IsErrOf};
 ghost use Rattle.base.specs.Devices.{Reads};
 ghost use Rattle.scan.specs.Lists.{items_at, many_at};
 ghost use Rattle.lrat.specs.declared.fault.Fault.TheVariants.{OutOfMemory};

@@ -1,6 +1,6 @@
 //! The three sections, checked while they are read.
 
-ghost use Rattle.std.specs.Prelude.{◌≡◌, ◌+◌, ◌-◌, ◌<◌, ◌≤◌, ◌^◌, ◌↔◌, ℕ, List, ◌++◌, All, map, length, None, IfOk, IsErrOf};
+ghost use Rattle.std.specs.Prelude.{◌≡◌, ◌+◌, ◌-◌, ◌<◌, ◌≤◌, ◌^◌, ◌↔◌, ◌++◌, All, map, length, None, IfOk, IsErrOf};
 ghost use Rattle.base.specs.Devices.{Reads};
 ghost use Rattle.lrat.specs.Courses.{at_formula};
 ghost use Rattle.lrat.specs.declared.formula.Formula.{Formula as AFormula};

@@ -1,6 +1,6 @@
 //! A certificate's text, checked while it is read.
 
-ghost use Rattle.std.specs.Prelude.{◌≡◌, ◌+◌, ◌-◌, ◌<◌, ◌≤◌, ◌^◌, ◌↔◌, ℕ, List, ◌++◌, length, None, Some, IfOk, IfNone, IfSome, IsErrOf, MatchResult};
+ghost use Rattle.std.specs.Prelude.{◌≡◌, ◌+◌, ◌-◌, ◌<◌, ◌≤◌, ◌^◌, ◌↔◌, ◌++◌, length, None, IfOk, IfNone, IfSome, IsErrOf, MatchResult};
 ghost use Rattle.base.specs.Devices.{IsAtEnd, Reads};
 ghost use Rattle.graph.specs.Circuits.{HasProperty, IsUpheld};
 ghost use Rattle.graph.specs.declared.circuit.Property.TheVariants.{Justice};

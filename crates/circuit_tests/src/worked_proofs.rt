@@ -1,6 +1,6 @@
 //! Worked proofs as texts: the accepted one, and edited copies with their answers.
 
-ghost use Rattle.std.specs.Prelude.{◌≡◌, IfOk};
+ghost use Rattle.std.specs.Prelude.{IfOk};
 ghost use Rattle.lrat.specs.Limits.{IsFormula};
 
 mod pigeons;

@@ -1,11 +1,10 @@
 //! Marks that lead on from literals: to all that they are made of, or to what gives them their values.
 
 ghost use Rattle.std.specs.Prelude.{◌≡◌, ◌+◌, ◌<◌, ◌≤◌, List, Bool, [], ◌∷◌, length, map, slice_index, All, OnOk, IfOk};
-ghost use Rattle.graph.specs.declared.parts.Parts.{Parts};
 ghost use Rattle.graph.specs.Circuits.{variable};
 ghost use Rattle.cones.specs.Marks.{IsMarked, IsCone};
 ghost use Rattle.cones.specs.Reach.{IsGateTable, IsSettled, IsClosed, Serves, Grows, IsDomain, IsInside, IsFrom, IsExtended};
-ghost use Rattle.cones.specs.declared.reach.Reach.TheVariants.{Cone, Justification};
+ghost use Rattle.cones.specs.declared.reach.Reach.TheVariants.{Justification};
 
 use crate::table::GateTable;
 use base::{Refused, push};

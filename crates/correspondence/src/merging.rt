@@ -1,6 +1,6 @@
 //! Asking an engine about a circuit with merged latches.
 
-ghost use Rattle.std.specs.Prelude.{◌≡◌, ◌++◌, IfOk, OnOk, Ok};
+ghost use Rattle.std.specs.Prelude.{◌≡◌, ◌++◌, IfOk, OnOk};
 ghost use Rattle.base.specs.Budget.{Spends};
 ghost use Rattle.engine.specs.Findings.{IsForBad, IsSo};
 ghost use Rattle.merged.specs.Laws.{AreInductive, AreLaws};

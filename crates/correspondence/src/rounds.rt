@@ -24,14 +24,14 @@ use crate::sweeping::sweep_pairs;
 use base::{Budget, Refused, Seq, push};
 use cnf::{NextTable, bad_unit, shared_base, step_units};
 use engine::Progress;
-use graph::{Lit, Model};
+use graph::{Lit, MOST_VARIABLES, Model};
 use lrat::Clause;
 use solver::{Answer, Part, PartSat, Sat, SatError};
 use std::alloc::Global;
 use sweep::{Near, ask};
 
 /// The greatest number of clauses of an invariant.
-const GREATEST: usize = 4_194_303;
+const GREATEST: usize = MOST_VARIABLES as usize;
 
 /// How many steps a question may cost before signals are swept.
 const SOON: u64 = 300_000;

@@ -1,8 +1,8 @@
 //! A gate's cut, of cuts of its right sides.
 
-ghost use Rattle.std.specs.Prelude.{◌≡◌, IfSome};
+ghost use Rattle.std.specs.Prelude.{IfSome};
 ghost use Rattle.graph.specs.Circuits.{variable};
-ghost use Rattle.cuts.specs.Joining.{Adds, AreAmong, IsUnion, IsJoined, trivial};
+ghost use Rattle.cuts.specs.Joining.{Adds, IsUnion, IsJoined, trivial};
 
 use crate::cut::{Cut, Leaves};
 use graph::Gate;

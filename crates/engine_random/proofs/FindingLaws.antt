@@ -1,11 +1,11 @@
 -- What a finding of a batch says.
-use Rattle.std.proofs.Common.{◌≡◌, ℕ, ◌<◌, true, false, List, Option, Some, None, Result, Ok, Err, IsSome, IfSome, IfOk, sym, ◌∙◌, arith}
+use Rattle.std.proofs.Common.{◌≡◌, ℕ, true, false, List, Option, Some, None, Result, Ok, Err, IsSome, IfSome, IfOk, sym, ◌∙◌, arith}
 use Rattle.base.specs.Budget.{Steps}
 use Rattle.graph.specs.declared.parts.Parts.{Parts}
 use Rattle.engine.specs.declared.finding.Finding.{Finding}
 use Rattle.engine.specs.Findings.{IsSo}
 use Rattle.engine.specs.declared.engine_error.EngineError.{EngineError}
-use Rattle.simulate.specs.Lanes.{IsLowest, value_in}
+use Rattle.simulate.specs.Lanes.{IsLowest}
 use Rattle.engine_random.specs.Batches.{Played, Marks}
 use Rattle.engine_random.specs.Findings.{IsLowestOf, IsRunOf, IsRunOrSpent}
 use Rattle.engine_random.proofs.SettingLaws.{some_is, if_some_at}

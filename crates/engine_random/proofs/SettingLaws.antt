@@ -4,7 +4,7 @@ use Rattle.graph.specs.declared.circuit.Lit.{Lit}
 use Rattle.graph.specs.Circuits.{Valuation, value_of}
 use Rattle.simulate.specs.Lanes.{value_in, row_of}
 use Rattle.simulate.specs.Wides.{WideReplayed, AllStep, valuation_of}
-use Rattle.engine_random.specs.Batches.{AreSet, Marks}
+use Rattle.engine_random.specs.Batches.{Marks}
 
 -- of these runs those are marked that set the first n literals
 abbrev pub MarksUpTo : List Lit → List (List ℕ) → List ℕ → List ℕ → ℕ → Type 0

@@ -6,7 +6,6 @@ use Rattle.graph.specs.declared.parts.Parts.{Parts}
 use Rattle.graph.specs.Circuits.{Valuation, value_of}
 use Rattle.simulate.specs.Lanes.{value_in, row_of}
 use Rattle.simulate.specs.Wides.{WideReplayed, AllStep}
-use Rattle.stimulus.specs.Causes.{KeepsAt}
 use Rattle.engine_random.specs.Words.{draws}
 
 -- a circuit, the latches' first values in their order, the inputs' values at each time, the runs as they are replayed,

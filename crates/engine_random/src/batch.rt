@@ -1,6 +1,6 @@
 //! 256 runs at once.
 
-ghost use Rattle.std.specs.Prelude.{◌≡◌, ◌≢◌, ◌⊎◌, [], true, ◌<◌, ◌≤◌, ℕ, ◌↔◌, IsTrue, false, length, All, Some, IsSome, IfOk, IfErr, IfSome};
+ghost use Rattle.std.specs.Prelude.{◌≡◌, ◌⊎◌, [], true, ◌<◌, ◌≤◌, ℕ, ◌↔◌, IsTrue, false, length, All, IsSome, IfOk, IfErr, IfSome};
 ghost use Rattle.base.specs.Budget.{Spends};
 ghost use Rattle.base.specs.Witness.{witness};
 ghost use Rattle.graph.specs.declared.circuit.Property.TheVariants.{Bad};

@@ -2,7 +2,7 @@
 //! `robustness/again` one growth is refused in each run, one after the other: the call that is then made again has to answer as
 //! one that was never refused, with what was there before, and so have the calls behind it.
 
-ghost use Rattle.std.specs.Prelude.{◌≡◌, ◌≤◌, OnOk, IfOk, All};
+ghost use Rattle.std.specs.Prelude.{◌≡◌, OnOk, IfOk, All};
 ghost use Rattle.engine.specs.Findings.{IsForBad};
 ghost use Rattle.lrat.specs.Limits.{IsFormula};
 ghost use Rattle.lrat.specs.Literals.{IsLiteral};

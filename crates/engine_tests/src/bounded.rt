@@ -1,7 +1,7 @@
 //! Worked circuits: bounded search by backtracking finds the shortest runs, or none. `cases/texts.tsv` has
 //! the same by the solver of `aigmc`.
 
-ghost use Rattle.std.specs.Prelude.{◌≤◌, IfOk};
+ghost use Rattle.std.specs.Prelude.{IfOk};
 ghost use Rattle.engine.specs.Findings.{IsForBad};
 
 use aag::read;

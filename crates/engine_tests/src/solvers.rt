@@ -1,6 +1,6 @@
 //! Worked formulas: both solvers answer them rightly, and what is refuted has an accepted proof.
 
-ghost use Rattle.std.specs.Prelude.{◌≡◌, ◌≤◌, ◌↔◌, length, OnOk, IfOk};
+ghost use Rattle.std.specs.Prelude.{◌≡◌, ◌≤◌, length, OnOk, IfOk};
 ghost use Rattle.lrat.specs.Limits.{IsFormula};
 
 mod formulas;

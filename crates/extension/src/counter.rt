@@ -3,13 +3,13 @@
 ghost use Rattle.std.specs.Prelude.{◌≡◌, ℕ, ◌+◌, ◌*◌, ◌^◌, ◌<◌, ◌≤◌, ◌++◌, ◌↔◌, length, All, IfOk, IfErr, IsTrue, OnOk};
 ghost use Rattle.graph.specs.Circuits.{wanted_of};
 ghost use Rattle.graph.specs.WellFormed.{IsWellFormed};
-ghost use Rattle.live_safe.specs.Shadow.{chain_gates, chain_end, negative as negative_of};
-ghost use Rattle.extension.specs.Rounds.{always, missing_gates, met_literals, open_gates, seen_latches, stage_gates, stage_latches, ended_literal, rounds_of};
+ghost use Rattle.live_safe.specs.Shadow.{chain_gates, chain_end};
+ghost use Rattle.extension.specs.Rounds.{always, missing_gates, met_literals, open_gates, seen_latches, stage_gates, stage_latches, rounds_of};
 ghost use Rattle.extension.specs.Rows.{AreSpaced, HasCause, IsCountable};
 
 use crate::rows::{Rows, count_out};
 use base::{Refused, Seq, copied, push};
-use graph::{Gate, Latch, Lit, Model, Parts, ReadError};
+use graph::{Gate, Latch, Lit, MOST_VARIABLES, Model, Parts, ReadError};
 use live_safe::{
     LiveError, cleared, joins, negation, negative, positive, push_chain, wanted_count,
     wanted_literals,
@@ -17,7 +17,7 @@ use live_safe::{
 use std::alloc::Global;
 
 /// The greatest variable that a circuit may have.
-const MAX_VAR: usize = 4_194_303;
+const MAX_VAR: usize = MOST_VARIABLES as usize;
 
 /// Adds the latches that say which wanted literals have been set; the gates of their next literals
 /// begin at the variable.

@@ -8,7 +8,7 @@ use Rattle.std.proofs.lemmas.List.Elements.{Contains-append_left, Contains-push,
 use Rattle.std.proofs.lemmas.List.Quantifiers.{all_pairs_push}
 use Rattle.graph.specs.declared.circuit.Gate.{Gate}
 use Rattle.graph.specs.Circuits.{variable}
-use Rattle.graph.specs.WellFormed.{Reads, Needs, Leads}
+use Rattle.graph.specs.WellFormed.{Reads, Needs, LeadsTo}
 use Rattle.graph.specs.declared.ordering.Mark.{Mark}
 use Rattle.graph.specs.declared.ordering.Mark.TheVariants.{Waiting, Open, Ordered, Stuck}
 use Rattle.graph.specs.declared.ordering.Step.TheVariants.{Enter, Finish, Stick}
@@ -167,15 +167,15 @@ finished gates marks order rest u p h u_in p_in is_u reads_ordered =
     }
 
 -- chains from the stack
-leads_one : (gates : List Gate) (u v : ℕ) → Needs gates u v → Leads gates u v
+leads_one : (gates : List Gate) (u v : ℕ) → Needs gates u v → LeadsTo gates u v
 leads_one gates u v needs = ([], (needs, tt))
 
-leads_more : (gates : List Gate) (u v w : ℕ) → Needs gates u v → Leads gates v w → Leads gates u w
+leads_more : (gates : List Gate) (u v w : ℕ) → Needs gates u v → LeadsTo gates v w → LeadsTo gates u w
 leads_more gates u v w needs (vs, chain) = (v ∷ vs, (needs, chain))
 
 -- each variable on the stack leads to what the top needs
 climb : (gates : List Gate) (stack : List ℕ) (w n k : ℕ) → ((i : ℕ) → i + 1 < length stack → Needs gates (get_or stack i 0) (get_or stack (i + 1) 0)) → k + n + 1 ≡ length stack →
-    Needs gates (get_or stack (length stack - 1) 0) w → Leads gates (get_or stack k 0) w
+    Needs gates (get_or stack (length stack - 1) 0) w → LeadsTo gates (get_or stack k 0) w
 climb gates stack w zero k linked above needs =
     let is_last : k ≡ length stack - 1 = omega arith in leads_one gates (get_or stack k 0) w (rw is_last needs)
 climb gates stack w (suc n) k linked above needs =
@@ -193,7 +193,7 @@ top_stuck gates marks order rest u v h needs (inl is_open) =
     let at_top : get_or stack (length stack - 1) 0 ≡ u = ap (λ q. get_or stack q 0) is_last ∙ get_or_push rest u 0 (length rest) refl in (
       v,
       leads_one gates u v needs,
-      subst (λ q. Leads gates q v) is_v
+      subst (λ q. LeadsTo gates q v) is_v
           (climb gates stack v (length stack - 1 - on.0) on.0 h.linked (omega arith) (rw at_top needs)),
     )
 top_stuck gates marks order rest u v h needs (inr stuck) =

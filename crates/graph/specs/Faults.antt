@@ -8,7 +8,7 @@ use Rattle.graph.specs.declared.parts.Parts.{Parts}
 use Rattle.graph.specs.declared.error.ReadError.{ReadError}
 use Rattle.graph.specs.declared.error.ReadError.TheVariants.{TooLong, Header, Number, Limit, Byte, Truncated, LiteralRange, Defining, DefinedTwice, Undefined, Cyclic, Reset, Delta, Symbol, Counts, NoProperty, OutOfMemory}
 use Rattle.graph.specs.Circuits.{variable, defined}
-use Rattle.graph.specs.WellFormed.{IsInLimits, Leads, used}
+use Rattle.graph.specs.WellFormed.{IsInLimits, LeadsTo, used}
 use Rattle.graph.specs.Uses.{uses_of, IsFine, IsFirst, IsOutOfRange, IsNotDefining, IsWrongReset}
 
 -- the numbers that have a limit: the header's counts M I L O A B C J F, then the literals of all justice properties
@@ -62,7 +62,7 @@ IsUndefined lits vs v = (v ≢ 0) × Contains (map variable lits) v × (Contains
 
 -- right sides lead from v to a variable that they lead back to
 abbrev pub LeadsIntoCycle : List Gate → ℕ → Type 0
-LeadsIntoCycle gates v = (u : ℕ) × Leads gates v u × Leads gates u u
+LeadsIntoCycle gates v = (u : ℕ) × LeadsTo gates v u × LeadsTo gates u u
 
 -- limits and literals are as they should be
 pub record HasFineLiterals (m : Parts) : Type 0 where

@@ -27,12 +27,12 @@ IsChain gates (u ∷ []) = Unit {0}
 IsChain gates (u ∷ v ∷ vs) = Needs gates u v × IsChain gates (v ∷ vs)
 
 -- right sides lead from u to v, in one step or more
-abbrev pub Leads : List Gate → ℕ → ℕ → Type 0
-Leads gates u v = (vs : List ℕ) × IsChain gates (u ∷ vs ++ v ∷ [])
+abbrev pub LeadsTo : List Gate → ℕ → ℕ → Type 0
+LeadsTo gates u v = (vs : List ℕ) × IsChain gates (u ∷ vs ++ v ∷ [])
 
 -- no variable is led back to
 abbrev pub HasNoCycle : List Gate → Type 0
-HasNoCycle gates = (v : ℕ) → Leads gates v v → ⊥
+HasNoCycle gates = (v : ℕ) → LeadsTo gates v v → ⊥
 
 -- no count is over the limit
 pub record IsInLimits (m : Parts) : Type 0 where

@@ -5,6 +5,7 @@ ghost use Rattle.std.specs.List.{range_with_len};
 ghost use Rattle.graph.specs.WellFormed.{IsInLimits, IsModel};
 ghost use Rattle.graph.specs.Faults.{counts_of, IsFirstOver, HasCause};
 
+use crate::bounds::MOST_VARIABLES;
 use crate::circuit::Lit;
 use crate::definitions::{definitions_of, first_twice, first_undefined, mentions_of};
 use crate::error::ReadError;
@@ -16,7 +17,7 @@ use base::{Refused, Seq, push};
 use std::alloc::Global;
 
 /// The greatest variable, and the greatest count of anything.
-const LIMIT: u64 = 4_194_303;
+const LIMIT: u64 = MOST_VARIABLES as u64;
 
 /// How many literals the justice properties have in all.
 fn justice_sum(justice: &[Seq<Lit>]) -> u64

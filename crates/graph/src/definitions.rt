@@ -1,6 +1,6 @@
 //! Which variables are defined, and which are used: one table each, filled in one pass.
 
-ghost use Rattle.std.specs.Prelude.{◌≡◌, ◌≢◌, ◌+◌, ◌++◌, ◌∷◌, [], ◌<◌, ◌≤◌, ◌^◌, ℕ, List, length, map, All, AllPairs, IfOk, MatchOption};
+ghost use Rattle.std.specs.Prelude.{◌≡◌, ◌≢◌, ◌+◌, ◌∷◌, [], ◌<◌, ◌≤◌, ◌^◌, ℕ, List, length, map, All, AllPairs, IfOk, MatchOption};
 ghost use Rattle.graph.specs.Circuits.{variable, defined, defining, justice_literals};
 ghost use Rattle.graph.specs.WellFormed.{used};
 ghost use Rattle.graph.specs.Faults.{IsLeast, IsTwice, IsUndefined};

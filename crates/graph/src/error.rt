@@ -3,9 +3,13 @@
 ghost use Rattle.std.specs.Prelude.{◌≡◌};
 ghost use Rattle.graph.specs.Refusals.{number_of, place_of};
 
+use crate::bounds::LONGEST_TEXT;
 use base::Refused;
 use std::fmt;
 use thiserror::Error;
+
+/// The place of a text that is too long.
+const TOO_LONG_AT: u64 = LONGEST_TEXT as u64;
 
 /// Why parts, or a text, make no circuit. Each refusal has a number and a place. In a text the
 /// place is a byte; where parts are built it is what the variant says.
@@ -89,7 +93,7 @@ impl ReadError {
         ensures { result ≡ place_of self.now }
     {
         match self {
-            ReadError::TooLong => 67_108_864,
+            ReadError::TooLong => TOO_LONG_AT,
             ReadError::Header(place)
             | ReadError::Number(place)
             | ReadError::Limit(place)

@@ -1,6 +1,6 @@
 //! A whole AIGER file.
 
-ghost use Rattle.std.specs.Prelude.{◌≡◌, ◌⊎◌, ℕ, MatchOption, option_map, Option, IfOk, IfErr, OnOk};
+ghost use Rattle.std.specs.Prelude.{◌≡◌, ◌⊎◌, ℕ, option_map, IfOk, IfErr, OnOk};
 ghost use Rattle.base.specs.Witness.{witness};
 ghost use Rattle.graph.specs.Symbols.{symbol_counts, AreSymbols, IsFirstWrong};
 

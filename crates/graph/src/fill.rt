@@ -1,6 +1,6 @@
 //! The steps of an evaluation, over plain slices.
 
-ghost use Rattle.std.specs.Prelude.{◌≡◌, ℕ, ◌<◌, ◌%◌, ◌≢◌, ◌⊎◌, ◌&&◌, length, map, false, All, AllPairs, Contains, EachIndex, slice_index_or, ◌+◌, List, Bool};
+ghost use Rattle.std.specs.Prelude.{◌≡◌, ℕ, ◌<◌, ◌%◌, ◌≢◌, ◌⊎◌, ◌&&◌, length, map, false, All, AllPairs, Contains, slice_index_or, ◌+◌, List, Bool};
 ghost use Rattle.graph.specs.Circuits.{variable, place, value_of, Fires, Agrees, state_of, inputs_of};
 ghost use Rattle.graph.specs.WellFormed.{IsOrder, IsModel};
 

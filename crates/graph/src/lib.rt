@@ -12,6 +12,7 @@
 //! neither stack nor time beyond its length.
 #![tactic(auto)]
 
+mod bounds;
 mod check;
 mod circuit;
 mod definitions;
@@ -25,6 +26,7 @@ mod ordering;
 mod parts;
 mod symbol;
 
+pub use bounds::{LONGEST_TEXT, MOST_VARIABLES};
 pub use circuit::{Gate, Latch, Lit, Property};
 pub use error::ReadError;
 pub use file::AigerFile;

@@ -1,6 +1,6 @@
 //! The tests of single literals, in the order of the lists.
 
-ghost use Rattle.std.specs.Prelude.{◌≡◌, ◌+◌, ◌^◌, ◌++◌, ◌∷◌, [], ◌<◌, ◌≤◌, length, map, flat_map};
+ghost use Rattle.std.specs.Prelude.{◌+◌, ◌^◌, ◌++◌, ◌∷◌, [], ◌<◌, ◌≤◌, length, map, flat_map};
 ghost use Rattle.graph.specs.Circuits.{justice_literals};
 ghost use Rattle.graph.specs.WellFormed.{IsInLimits};
 ghost use Rattle.graph.specs.Uses.{latch_uses, gate_uses, uses_of};

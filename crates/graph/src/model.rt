@@ -1,6 +1,6 @@
 //! Well-formed circuits.
 
-ghost use Rattle.std.specs.Prelude.{◌≡◌, ◌≢◌, ◌+◌, ◌≤◌, ◌⊎◌, ◌↔◌, ◌∷◌, [], List, Bool, length, slice_get, IsTrue, IfOk, IfErr, IsErrOf};
+ghost use Rattle.std.specs.Prelude.{◌≡◌, ◌≢◌, ◌+◌, ◌⊎◌, ◌↔◌, List, Bool, length, slice_get, IsTrue, IfOk, IfErr};
 ghost use Rattle.base.specs.Witness.{witness};
 ghost use Rattle.graph.specs.Faults.{HasCause};
 ghost use Rattle.graph.specs.Circuits.{HasProperty, IsWatched, Agrees, state_of, inputs_of, IsOrdered};

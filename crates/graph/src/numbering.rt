@@ -1,6 +1,6 @@
 //! The numbering of the binary layout.
 
-ghost use Rattle.std.specs.Prelude.{◌≡◌, ◌+◌, ◌^◌, ◌<◌, ◌↔◌, length, map, All, IsTrue};
+ghost use Rattle.std.specs.Prelude.{◌+◌, ◌^◌, ◌<◌, ◌↔◌, length, map, All, IsTrue};
 ghost use Rattle.graph.specs.WellFormed.{IsInLimits};
 ghost use Rattle.graph.specs.Circuits.{IsOrdered, IsNumbered, IsDescending, defining};
 

@@ -4,12 +4,12 @@
 //! becomes stuck, and the search goes on, so that in the end exactly these are stuck. Each gate
 //! enters and leaves the stack once, and is looked at three times at most.
 
-ghost use Rattle.std.specs.Prelude.{◌≡◌, ℕ, ◌+◌, ◌<◌, ◌≤◌, ◌≢◌, ◌++◌, ◌∷◌, [], length, map, All, AllPairs, Contains, ◌-◌, ◌^◌, IfOk, OnOk, MatchResult, MatchOption, IsTrue, ◌↔◌, slice_index, slice_index_or, slice_set, take, sum_by, List, vec_len};
+ghost use Rattle.std.specs.Prelude.{◌≡◌, ℕ, ◌+◌, ◌<◌, ◌≤◌, ◌≢◌, ◌++◌, ◌∷◌, [], length, All, AllPairs, ◌-◌, ◌^◌, IfOk, OnOk, MatchResult, MatchOption, IsTrue, ◌↔◌, slice_index, slice_set, take, sum_by};
 ghost use Rattle.graph.specs.Circuits.{variable};
 ghost use Rattle.graph.specs.WellFormed.{IsOrder};
 ghost use Rattle.graph.specs.Faults.{IsLeast, LeadsIntoCycle};
 ghost use Rattle.graph.specs.Search.{lefts, mark_of, weight, ArePlaces, IsSearch, StepIs, Asks};
-ghost use Rattle.graph.specs.declared.ordering.Mark.TheVariants.{Waiting, Open, Ordered, Stuck};
+ghost use Rattle.graph.specs.declared.ordering.Mark.TheVariants.{Waiting, Open, Stuck};
 
 use crate::circuit::{Gate, Lit};
 use base::{Refused, filled, push};

@@ -1,6 +1,6 @@
 //! Clauses that are propagated to the next frame.
 
-ghost use Rattle.std.specs.Prelude.{◌≡◌, ◌⊎◌, ◌<◌, ◌≤◌, length, take, None, All, Contains, IfOk, IfSome, OnOk};
+ghost use Rattle.std.specs.Prelude.{◌≡◌, ◌⊎◌, ◌<◌, length, take, None, All, Contains, IfOk, IfSome, OnOk};
 ghost use Rattle.base.specs.Budget.{Spends};
 ghost use Rattle.cnf.specs.Formulas.{bad_literal};
 ghost use Rattle.engine.specs.Findings.{IsInvariant};

@@ -7,7 +7,7 @@ ghost use Rattle.cnf.specs.Formulas.{bad_literal};
 ghost use Rattle.engine.specs.Findings.{IsInvariant};
 ghost use Rattle.ic3_step.specs.States.{Holds, IsPartOf};
 ghost use Rattle.ic3_frames.specs.declared.frames.Entry.{Entry};
-ghost use Rattle.ic3_frames.specs.Frames.{InFrame, AreFrames, AreWithin, Excludes, IsRising, IsStateClause, HoldsInitially, HoldsAfter, HoldsOnward, IsFalseAfter, IsNotSubsumed};
+ghost use Rattle.ic3_frames.specs.Frames.{InFrame, AreFrames, AreWithin, Excludes, IsStateClause, HoldsInitially, HoldsAfter, HoldsOnward, IsFalseAfter, IsNotSubsumed};
 ghost use Rattle.ic3_frames.specs.Resets.{IsInitialState};
 
 use crate::activities::Activities;

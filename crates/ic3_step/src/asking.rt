@@ -6,7 +6,7 @@ ghost use Rattle.cnf.specs.Clauses.{literal};
 ghost use Rattle.cnf.specs.Formulas.{IsInRange};
 ghost use Rattle.ic3_step.specs.States.{Guarded};
 ghost use Rattle.ic3_step.specs.Replies.{IsReply, IsUsable};
-ghost use Rattle.ic3_step.specs.Contents.{Contents, IsLoaded, HasGuards, guard_literal as guard_literal_of};
+ghost use Rattle.ic3_step.specs.Contents.{IsLoaded, HasGuards, guard_literal as guard_literal_of};
 ghost use Rattle.ic3_step.specs.Readings.{assumptions_of};
 
 use crate::cone::{Cone, grow};

@@ -1,7 +1,7 @@
 //! A solver that has the circuit at one time, and guarded clauses.
 
 ghost use Rattle.std.specs.Prelude.{◌≡◌, ◌+◌, ◌<◌, ◌≤◌, ◌^◌, ◌++◌, ◌∷◌, [], Some, length, All, IfOk, OnOk, OnErr};
-ghost use Rattle.ic3_step.specs.Contents.{Contents, IsLoaded, guard_literal as guard_literal_of, guarded_clause, state_literal as state_literal_of};
+ghost use Rattle.ic3_step.specs.Contents.{IsLoaded, guard_literal as guard_literal_of, guarded_clause, state_literal as state_literal_of};
 
 use crate::cone::{Cone, add_constraints, grow};
 use crate::state::StateLit;

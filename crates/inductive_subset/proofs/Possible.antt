@@ -10,7 +10,6 @@ use Rattle.lrat.specs.Literals.{is_true, IsSatisfied}
 use Rattle.lrat.specs.Shared.{unit_clauses}
 use Rattle.cnf.specs.Clauses.{literal, time_clauses, shared_clauses, bad_units}
 use Rattle.cnf.specs.Formulas.{clause_at}
-use Rattle.cnf.specs.Invariants.{IsInductive}
 use Rattle.cnf.specs.Meaning.{AreSatisfied}
 use Rattle.cnf.proofs.Listed.{units-satisfied}
 use Rattle.solver.specs.Answers.{IsModel, values}

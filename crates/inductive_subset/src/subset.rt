@@ -1,6 +1,6 @@
 //! The clauses that are needed, by a work list.
 
-ghost use Rattle.std.specs.Prelude.{◌≡◌, ◌<◌, ◌≤◌, ◌+◌, ◌⊎◌, ℕ, false, IsTrue, None, length, All, Contains, IfOk, IfSome};
+ghost use Rattle.std.specs.Prelude.{◌≡◌, ◌≤◌, ◌+◌, ◌⊎◌, ℕ, false, IsTrue, None, length, All, Contains, IfOk, IfSome};
 ghost use Rattle.base.specs.Budget.{Spends};
 ghost use Rattle.graph.specs.WellFormed.{used};
 ghost use Rattle.cnf.specs.Formulas.{IsOverLatches};

@@ -1,5 +1,5 @@
 -- A violation of the shadow circuit's bad literal gives a lasso.
-use Rattle.std.proofs.Common.{◌≡◌, ℕ, zero, suc, ◌-◌, ◌<◌, Bool, false, IsTrue, ◌↔◌, List, [], ◌∷◌, ◌++◌, length, map, take, get_or, All, Some, refl, arith, ◌∙◌, sym, ap, ap₂, subst}
+use Rattle.std.proofs.Common.{◌≡◌, ℕ, ◌-◌, ◌<◌, Bool, false, IsTrue, ◌↔◌, List, [], ◌∷◌, ◌++◌, length, map, take, get_or, All, Some, refl, arith, ◌∙◌, sym, ap, ap₂, subst}
 use Rattle.std.specs.Prelude.{slice_get}
 use Rattle.std.proofs.Math.Seq.{take-append_seam}
 use Rattle.std.proofs.lemmas.Bool.{true≢false}

@@ -1,6 +1,6 @@
 //! The gates of the shadow circuit.
 
-ghost use Rattle.std.specs.Prelude.{◌≡◌, ℕ, ◌+◌, ◌*◌, ◌^◌, ◌<◌, ◌++◌, ◌∷◌, [], List, length, All, IfOk, OnOk};
+ghost use Rattle.std.specs.Prelude.{◌≡◌, ◌+◌, ◌*◌, ◌^◌, ◌<◌, ◌++◌, ◌∷◌, [], List, length, All, IfOk, OnOk};
 ghost use Rattle.graph.specs.declared.circuit.Lit.{Lit as LitOf};
 ghost use Rattle.graph.specs.declared.circuit.Latch.{Latch as LatchOf};
 ghost use Rattle.live_safe.specs.Numbers.{AreSpaced};

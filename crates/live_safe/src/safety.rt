@@ -10,11 +10,11 @@ use crate::error::LiveError;
 use crate::shadow::shadow_parts;
 use crate::wanted::{wanted_count, wanted_literals};
 use base::Refused;
-use graph::{Model, Parts, ReadError};
+use graph::{MOST_VARIABLES, Model, Parts, ReadError};
 use std::alloc::Global;
 
 /// The greatest variable that a circuit may have.
-const MAX_VAR: usize = 4_194_303;
+const MAX_VAR: usize = MOST_VARIABLES as usize;
 
 /// Whether the property is there, and its shadow circuit within the limit. It takes no memory.
 fn check(parts: &Parts, position: u32) -> Result<(), LiveError>

@@ -1,6 +1,6 @@
 //! Reading the lines of proofs.
 
-ghost use Rattle.std.specs.Prelude.{◌≡◌, nat_lt};
+ghost use Rattle.std.specs.Prelude.{nat_lt};
 ghost use Rattle.scan.specs.Reading.{Gives};
 ghost use Rattle.scan.specs.Words.{field_at};
 ghost use Rattle.lrat.specs.Reading.{added_at, deleted_at, line_at};

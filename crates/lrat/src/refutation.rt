@@ -1,7 +1,7 @@
 //! Whole proofs.
 
 ghost use Rattle.base.specs.Witness.{witness};
-ghost use Rattle.std.specs.Prelude.{◌≡◌, ◌≢◌, ℕ, Bool, IfErr, OnOk};
+ghost use Rattle.std.specs.Prelude.{◌≢◌, ℕ, Bool, IfErr, OnOk};
 ghost use Rattle.lrat.specs.Limits.{IsFormula};
 ghost use Rattle.lrat.specs.Proofs.{IsAcceptedProof, IsRefusedProof, Solves};
 ghost use Rattle.lrat.specs.declared.fault.Fault.TheVariants.{OutOfMemory};

@@ -12,7 +12,7 @@ ghost use Rattle.lrat.specs.Refusals.{IsRefusedLine};
 ghost use Rattle.std.specs.FinMap as fin;
 ghost use Rattle.lrat.specs.Literals.{IsLiteral};
 ghost use Rattle.lrat.specs.Stages.{Stage, Goes, IsPositive, TakesOut};
-ghost use Rattle.lrat.specs.declared.fault.Fault.TheVariants.{OutOfMemory, NegativeHint, NoEmptyClause, NoIds, UnknownId};
+ghost use Rattle.lrat.specs.declared.fault.Fault.TheVariants.{OutOfMemory, NoEmptyClause, NoIds, UnknownId};
 ghost use Rattle.lrat.specs.declared.line.Line.TheVariants.{Add};
 
 use crate::clause_row::ClauseRow;

@@ -1,6 +1,6 @@
 //! Clauses in one flat list, by rising ids.
 
-ghost use Rattle.std.specs.Prelude.{◌≡◌, ◌≤◌, ◌<◌, ◌++◌, ◌∷◌, [], true, false, All, Contains, MatchOption, OnOk, OnErr, get_or, if◌then◌else◌, is_ok, length, set, take};
+ghost use Rattle.std.specs.Prelude.{◌≡◌, ◌<◌, ◌++◌, ◌∷◌, [], true, false, All, Contains, MatchOption, OnOk, OnErr, get_or, if◌then◌else◌, is_ok, length, set, take};
 ghost use Rattle.lrat.specs.Literals.{IsLiteral};
 ghost use Rattle.lrat.specs.Places.{kept_at, AreInside};
 ghost use Rattle.lrat.specs.Slots.{IsRising, IsTidied, blank, ids_in, live_slots, live_slots_from};

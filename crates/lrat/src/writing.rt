@@ -1,6 +1,6 @@
 //! Writing the texts of proofs.
 
-ghost use Rattle.std.specs.Prelude.{◌≡◌, ◌-◌, ◌^◌, ◌<◌, ◌++◌, OnOk, OnErr};
+ghost use Rattle.std.specs.Prelude.{◌-◌, ◌^◌, ◌<◌, ◌++◌, OnOk, OnErr};
 ghost use Rattle.std.specs.Io.KnownBytes.{Appends};
 ghost use Rattle.base.specs.Devices.{CountsFailure, PutsBeginning};
 ghost use Rattle.lrat.specs.Texts.{Puts, SpellsProof, line_text, proof_text, spaced};

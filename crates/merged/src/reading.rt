@@ -1,7 +1,6 @@
 //! A circuit's lists with each literal read as the table says.
 
-ghost use Rattle.std.specs.Prelude.{◌≡◌, ◌<◌, ℕ, Option, Some, IfOk, map};
-ghost use Rattle.graph.specs.declared.circuit.Lit.{Lit};
+ghost use Rattle.std.specs.Prelude.{◌≡◌, IfOk, map};
 ghost use Rattle.merged.specs.Reading.{entry as entry_of, read_as, IsRoomy};
 ghost use Rattle.merged.specs.Merged.{merged_gate, merged_latch, merged_parts};
 

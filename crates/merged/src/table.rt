@@ -1,8 +1,7 @@
 //! What each variable is read as.
 
-ghost use Rattle.std.specs.Prelude.{◌≡◌, ◌+◌, ◌<◌, All, IfOk, Option, length};
+ghost use Rattle.std.specs.Prelude.{◌≡◌, ◌+◌, ◌<◌, All, IfOk, length};
 ghost use Rattle.graph.specs.Circuits.{variable};
-ghost use Rattle.graph.specs.declared.circuit.Lit.{Lit};
 ghost use Rattle.cnf.specs.Formulas.{IsOverLatches, clause_at as clause_of};
 ghost use Rattle.merged.specs.Reading.{IsTable, IsTableTo};
 

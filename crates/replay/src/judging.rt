@@ -1,6 +1,6 @@
 //! A stimulus, judged while it is read.
 
-ghost use Rattle.std.specs.Prelude.{◌≡◌, ◌+◌, ◌-◌, ◌^◌, ◌<◌, ◌≤◌, ◌↔◌, ℕ, List, ◌++◌, Some, IfOk, IsErrOf, MatchResult};
+ghost use Rattle.std.specs.Prelude.{◌≡◌, ◌+◌, ◌-◌, ◌^◌, ◌<◌, ◌≤◌, ◌↔◌, ◌++◌, IfOk, IsErrOf, MatchResult};
 ghost use Rattle.base.specs.Devices.{IsAtEnd, Reads};
 ghost use Rattle.graph.specs.Circuits.{IsWatched, variable};
 ghost use Rattle.graph.specs.declared.circuit.Property.{Property as AProperty};
@@ -19,7 +19,7 @@ ghost use Rattle.replay.specs.declared.text_error.TextError.TheVariants.{Device}
 use crate::kinds::Status;
 use crate::lines::{Lengths, read_lines, refuse_lines, skip_lines};
 use crate::numbers::{INITIAL_RESET, LINE_LENGTH, NO_PROPERTY, NOT_VIOLATED};
-use crate::playing::play_lines;
+use crate::playing::{Watched, play_lines};
 use crate::reader::LineReader;
 use crate::text_error::TextError;
 use base::{Refused, Seq, Source};
@@ -52,16 +52,12 @@ fn judge_bad<S: Source>(
     match Replay::new(alloc, circuit, initial) {
         Ok(mut replay) => {
             let constraints = parts.constraints.as_slice();
-            play_lines(
-                alloc,
-                &mut replay,
+            let watched = Watched {
                 constraints,
                 long,
                 bad,
-                line,
-                reader,
-                from,
-            )
+            };
+            play_lines(alloc, &mut replay, watched, line, reader, from)
         }
         Err(ReplayError::InitialReset { latch: _ }) => {
             refuse_lines(

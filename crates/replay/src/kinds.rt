@@ -1,6 +1,5 @@
 //! The kinds of lines in the text of a stimulus.
 
-ghost use Rattle.std.specs.Prelude.{◌≡◌};
 ghost use Rattle.scan.specs.Reading.{Gives};
 ghost use Rattle.stimulus.specs.Reading.{line_at, property_at};
 ghost use Rattle.replay.specs.Reading.{digit_at, dot_at, line_where, status_at};

@@ -1,6 +1,6 @@
 //! Input lines, replayed while they are read.
 
-ghost use Rattle.std.specs.Prelude.{◌≡◌, ◌+◌, ◌-◌, ◌^◌, ◌<◌, ◌≤◌, ◌↔◌, ℕ, Bool, List, ◌++◌, All, length, true, IsTrue, IsSome, Some, IsErrOf};
+ghost use Rattle.std.specs.Prelude.{◌≡◌, ◌+◌, ◌-◌, ◌^◌, ◌<◌, ◌≤◌, ◌↔◌, Bool, List, ◌++◌, All, length, true, IsTrue, IsSome, Some, IsErrOf};
 ghost use Rattle.base.specs.Devices.{Reads};
 ghost use Rattle.graph.specs.Circuits.{IsWatched, Valuation, value_of, variable};
 ghost use Rattle.graph.specs.declared.circuit.Property.{Property as AProperty};
@@ -21,6 +21,17 @@ use base::Source;
 use graph::Lit;
 use simulate::Replay;
 use std::alloc::Global;
+
+/// What is looked at while lines are played.
+#[derive(Clone, Copy)]
+pub struct Watched<'a> {
+    /// the constraints
+    pub constraints: &'a [Lit],
+    /// how many inputs there are
+    pub long: usize,
+    /// the literal that has to be set at the last time
+    pub bad: Lit,
+}
 
 /// Whether every constraint is true at the time stepped last.
 fn keeps(replay: &Replay<'_>, constraints: &[Lit]) -> bool
@@ -58,19 +69,17 @@ fn found_at_end(replay: &Replay<'_>, bad: Lit, some: bool) -> Option<u8>
 pub fn play_lines<S: Source>(
     alloc: Global,
     replay: &mut Replay<'_>,
-    constraints: &[Lit],
-    long: usize,
-    bad: Lit,
+    watched: Watched,
     line: &mut Vec<bool>,
     reader: &mut LineReader,
     from: &mut S,
 ) -> Result<Option<u8>, TextError>
     requires source { S.failed from.old < 2 ^ 64 - 1 }
-    requires constraints { constraints.now ≡ replay.old.circuit.constraints }
-    requires long { long ≡ length replay.old.circuit.inputs }
-    requires in_range { All (λ a. variable a ≤ replay.old.circuit.max_var) constraints.now }
-    requires bad { variable bad ≤ replay.old.circuit.max_var }
-    ensures says { Reads (S.leaves from.old) (S.leaves from.new) (λ ys zs. (p : AProperty) (initial : List Bool) → IsWatched replay.old.circuit p bad → replay.old ≡ begun replay.old.circuit initial → Starts replay.old.circuit.latches initial → length initial ≡ length replay.old.circuit.latches → FindsWith (AreFound replay.old.circuit p initial) (items_at line_at (reader.old ++ ys)) result reader.new zs) }
+    requires constraints { watched.constraints.now ≡ replay.old.circuit.constraints }
+    requires long { watched.long ≡ length replay.old.circuit.inputs }
+    requires in_range { All (λ a. variable a ≤ replay.old.circuit.max_var) watched.constraints.now }
+    requires bad { variable watched.bad ≤ replay.old.circuit.max_var }
+    ensures says { Reads (S.leaves from.old) (S.leaves from.new) (λ ys zs. (p : AProperty) (initial : List Bool) → IsWatched replay.old.circuit p watched.entry.bad → replay.old ≡ begun replay.old.circuit initial → Starts replay.old.circuit.latches initial → length initial ≡ length replay.old.circuit.latches → FindsWith (AreFound replay.old.circuit p initial) (items_at line_at (reader.old ++ ys)) result reader.new zs) }
     ensures device { IsErrOf result Device ↔ (S.failed from.new ≡ S.failed from.old + 1) }
     ensures others { (IsErrOf result Device → ⊥) → S.failed from.new ≡ S.failed from.old }
 {
@@ -78,17 +87,17 @@ pub fn play_lines<S: Source>(
     'playing: loop {
         let there = reader.line_into(alloc, line, from)?;
         if !there {
-            return Ok(found_at_end(replay, bad, some));
+            return Ok(found_at_end(replay, watched.bad, some));
         }
-        if line.len() != long {
+        if line.len() != watched.long {
             return skip_lines(alloc, LINE_LENGTH, line, reader, from);
         }
         replay.step(line.as_slice());
-        if !keeps(replay, constraints) {
+        if !keeps(replay, watched.constraints) {
             return refuse_lines(
                 alloc,
                 CONSTRAINT_BROKEN,
-                long,
+                watched.long,
                 Lengths::Fit,
                 line,
                 reader,

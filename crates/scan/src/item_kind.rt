@@ -2,7 +2,7 @@
 
 ghost use Rattle.base.specs.Sizes.{IsItemSize};
 ghost use Rattle.std.specs.Mem.{type_size};
-ghost use Rattle.std.specs.Prelude.{◌≡◌, ◌<◌, length, IfOk};
+ghost use Rattle.std.specs.Prelude.{◌<◌, length, IfOk};
 ghost use Rattle.scan.specs.Reading.{Gives};
 ghost use Rattle.scan.specs.Lists.{items_at};
 

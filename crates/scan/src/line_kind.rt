@@ -2,7 +2,6 @@
 
 ghost use Rattle.base.specs.Sizes.{IsItemSize};
 ghost use Rattle.std.specs.Mem.{type_size};
-ghost use Rattle.std.specs.Prelude.{◌≡◌};
 ghost use Rattle.scan.specs.Reading.{Gives};
 ghost use Rattle.scan.specs.Lists.{many_at};
 

@@ -1,6 +1,6 @@
 //! Carrying a circuit's gates over, one after the other.
 
-ghost use Rattle.std.specs.Prelude.{◌≡◌, ◌+◌, ◌*◌, ◌<◌, ◌≤◌, length, OnOk};
+ghost use Rattle.std.specs.Prelude.{◌≡◌, ◌+◌, ◌<◌, ◌≤◌, length, OnOk};
 ghost use Rattle.std.specs.HashMap.{get};
 ghost use Rattle.graph.specs.Circuits.{variable};
 ghost use Rattle.graph.specs.WellFormed.{IsModel};

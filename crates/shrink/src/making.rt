@@ -1,9 +1,8 @@
 //! Gates, made one after another.
 
-ghost use Rattle.std.specs.Prelude.{◌≡◌, ◌≢◌, ◌+◌, ◌*◌, ◌<◌, ◌≤◌, ◌⊎◌, ◌&&◌, ◌++◌, ℕ, List, [], length, IfOk, IfSome, None, OnOk, false};
+ghost use Rattle.std.specs.Prelude.{◌≡◌, ◌≢◌, ◌+◌, ◌*◌, ◌<◌, ◌≤◌, ◌⊎◌, ◌&&◌, ℕ, [], length, IfOk, IfSome, None, OnOk, false};
 ghost use Rattle.std.specs.HashMap.{get};
 ghost use Rattle.graph.specs.Circuits.{Valuation, variable, place, value_of};
-ghost use Rattle.graph.specs.declared.circuit.Gate.{Gate as AGate};
 ghost use Rattle.shrink.specs.Making.{AreMade, Grows, IsConjunction, IsTable, same_sides};
 
 use base::{Refused, Seq, insert_hashed};

@@ -1,7 +1,7 @@
 //! A circuit whose literals are carried over.
 
-ghost use Rattle.std.specs.Prelude.{◌≡◌, ◌≤◌, ◌+◌, ◌<◌, All, IfOk, length, map};
-ghost use Rattle.shrink.specs.Hashed.{carried_latch as carried_latch_of, carried_parts, image_of, renamed};
+ghost use Rattle.std.specs.Prelude.{◌≡◌, ◌≤◌, ◌+◌, All, IfOk, length, map};
+ghost use Rattle.shrink.specs.Hashed.{carried_latch as carried_latch_of, carried_parts, renamed};
 ghost use Rattle.shrink.specs.Carriable.{IsCarriable, AreCarriable};
 
 use crate::carrying::rename;

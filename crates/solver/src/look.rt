@@ -1,6 +1,6 @@
 //! Looks at clauses and assumptions under values of the first variables.
 
-ghost use Rattle.std.specs.Prelude.{◌≡◌, ◌≢◌, ◌++◌, ◌∷◌, [], pos, ◌↔◌, IsTrue, MatchOption, IfOk, All, Contains};
+ghost use Rattle.std.specs.Prelude.{◌≢◌, [], pos, ◌↔◌, IsTrue, MatchOption, IfOk, All, Contains};
 ghost use Rattle.base.specs.Budget.{Spends};
 ghost use Rattle.solver.specs.Branches.{IsFalse, IsDenied, Finds};
 

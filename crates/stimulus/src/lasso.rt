@@ -1,7 +1,7 @@
 //! Whether a run closes a lasso.
 
-ghost use Rattle.std.specs.Prelude.{◌≡◌, ◌≢◌, ◌≤◌, ◌<◌, ℕ, [], ◌∷◌, ◌↔◌, true, IsTrue, IsSome, Some, List, All, length, IfOk, IfErr, MatchOption};
-ghost use Rattle.graph.specs.Circuits.{wanted_of, Valuation, place, value_of, variable};
+ghost use Rattle.std.specs.Prelude.{◌≡◌, ◌≤◌, ◌<◌, ℕ, [], ◌∷◌, ◌↔◌, true, IsTrue, IsSome, Some, List, All, length, IfOk, IfErr, MatchOption};
+ghost use Rattle.graph.specs.Circuits.{wanted_of, Valuation, place, variable};
 ghost use Rattle.stimulus.specs.Courses.{Course, HasRunCause, Marks, MeetsAt, NeverMeets};
 ghost use Rattle.stimulus.specs.Shown.{ClosesLasso};
 

@@ -1,6 +1,6 @@
 //! Whether lines fit a circuit.
 
-ghost use Rattle.std.specs.Prelude.{◌≡◌, ◌≢◌, All, length, IfOk, IfErr, OnOk, MatchOption};
+ghost use Rattle.std.specs.Prelude.{◌≡◌, ◌≢◌, All, length, IfErr, OnOk, MatchOption};
 ghost use Rattle.base.specs.Witness.{witness};
 ghost use Rattle.stimulus.specs.Causes.{HasCauseIn, HasFitLines, IsFirstWrong, IsFit, IsWrongLine};
 

@@ -1,6 +1,6 @@
 //! Tables of the values in a replay.
 
-ghost use Rattle.std.specs.Prelude.{◌≡◌, ◌≢◌, ◌≤◌, ◌+◌, ◌-◌, ◌^◌, ◌<◌, ◌++◌, List, [], All, length, map, Some, IsSome, IfErr, OnOk, OnErr, decimal, flat_map, Option, ℕ};
+ghost use Rattle.std.specs.Prelude.{◌≡◌, ◌≢◌, ◌≤◌, ◌+◌, ◌-◌, ◌^◌, ◌<◌, List, [], All, length, map, Some, IsSome, IfErr, OnOk, OnErr, flat_map, Option, ℕ};
 ghost use Rattle.base.specs.Devices.{CountsFailure, Puts, PutsBeginning};
 ghost use Rattle.graph.specs.Circuits.{Valuation, inputs_of, value_of, variable};
 ghost use Rattle.simulate.specs.Starts.{Starts};
@@ -10,7 +10,6 @@ ghost use Rattle.stimulus.specs.Rows.{PutsReplay, PutsRow, PutsRows};
 ghost use Rattle.stimulus.specs.Shown.{IsReplay};
 ghost use Rattle.stimulus.specs.Tables.{HasSimCause, HasSimCauseIn, PutsTable, digits_text, field_text, row_text, rows_text, table_text, time_text, values_text};
 ghost use Rattle.stimulus.specs.Texts.{value_text};
-ghost use Rattle.stimulus.specs.declared.value.Stimulus.TheVariants.{Violated};
 
 use crate::lines::wrong_line;
 use crate::sim_error::SimError;

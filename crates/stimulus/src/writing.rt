@@ -1,6 +1,6 @@
 //! Writing the texts of stimuli.
 
-ghost use Rattle.std.specs.Prelude.{◌≡◌, ◌-◌, ◌^◌, ◌<◌, ◌++◌, ℕ, List, OnOk, OnErr, codes, decimal, flat_map};
+ghost use Rattle.std.specs.Prelude.{◌≡◌, ◌-◌, ◌^◌, ◌<◌, ◌++◌, OnOk, OnErr, codes, decimal, flat_map};
 ghost use Rattle.std.specs.Io.KnownBytes.{Appends};
 ghost use Rattle.base.specs.Devices.{CountsFailure, Puts, PutsBeginning};
 ghost use Rattle.graph.specs.Circuits.{position_of, property_text};

@@ -1,8 +1,5 @@
 //! Pairs of signals that may be equal.
 
-ghost use Rattle.std.specs.Prelude.{◌≤◌, All, IfOk};
-ghost use Rattle.graph.specs.Circuits.{variable};
-
 use crate::signals::Signals;
 use base::{Refused, insert, push};
 use graph::Lit;

@@ -1,6 +1,6 @@
 //! Whether what is given of a first state and of lines can be replayed.
 
-ghost use Rattle.std.specs.Prelude.{◌≡◌, ◌≢◌, ℕ, ◌<◌, ◌↔◌, IsTrue, [], All, length, IfErr, OnOk, MatchOption};
+ghost use Rattle.std.specs.Prelude.{◌≡◌, ◌≢◌, ◌↔◌, IsTrue, [], All, length, IfErr, OnOk, MatchOption};
 ghost use Rattle.trace.specs.OpenTraces.{AreOpenFine, HasFitRows, HasOpenCause, IsFirstOpenAgainst, IsOpenFine, IsOpenPlayable, IsWrongRow, IsWrongRowOf};
 
 use base::Seq;

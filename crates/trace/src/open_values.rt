@@ -1,6 +1,6 @@
 //! One time of a circuit in three values: false, true and open.
 
-ghost use Rattle.std.specs.Prelude.{◌≡◌, ◌≤◌, ◌<◌, ◌%◌, ◌+◌, ◌≢◌, ℕ, false, List, Bool, All, AllPairs, Contains, None, length, map, slice_index_or, ◌⊎◌};
+ghost use Rattle.std.specs.Prelude.{◌≡◌, ◌<◌, ◌%◌, ◌+◌, ◌≢◌, ℕ, false, List, Bool, All, AllPairs, Contains, None, length, map, slice_index_or, ◌⊎◌};
 ghost use Rattle.graph.specs.declared.circuit.Lit.{Lit as ALit};
 ghost use Rattle.graph.specs.Circuits.{Fires, Valuation, place, variable};
 ghost use Rattle.graph.specs.WellFormed.{IsOrder};

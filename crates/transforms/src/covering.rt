@@ -11,14 +11,12 @@ use crate::error::TransformError;
 use crate::symbols::count;
 use base::{Refused, Seq, push};
 use extension::{extended_parts, extension_laws};
-use graph::{AigerFile, Latch, Lit, Model, Parts, Property, ReadError};
+use graph::{AigerFile, Latch, Lit, MOST_VARIABLES, Model, Parts, Property, ReadError};
 use live_safe::{cleared, positive};
 use std::alloc::Global;
 
 /// The literal that is always true.
 const TRUE: Lit = Lit(1);
-/// The greatest variable that a circuit may have.
-const MAX_VAR: u32 = 4_194_303;
 
 /// The circuit of parts that are well formed.
 fn model_of(alloc: Global, parts: Parts) -> Result<Model, Refused>
@@ -122,7 +120,7 @@ pub fn bad_behind(alloc: Global, circuit: &Model, steps: u8) -> Result<AigerFile
     ensures refused { IfErr result (λ e. (e ≡ TransformError.OutOfMemory witness) ⊎ ((e ≡ TransformError.Circuit (ReadError.Limit 0)) × (4194303 < circuit.now.max_var + steps))) }
 {
     circuit.well_formed();
-    if circuit.max_var() + u32::from(steps) > MAX_VAR {
+    if circuit.max_var() + u32::from(steps) > MOST_VARIABLES {
         return Err(TransformError::Circuit(ReadError::Limit(0)));
     }
     let covered = behind(alloc, circuit, steps)?;

@@ -3,7 +3,6 @@
 ghost use Rattle.std.specs.Prelude.{◌≡◌, [], IfOk, IfErr, MatchOption, OnOk, filter, map};
 ghost use Rattle.graph.specs.declared.circuit.Lit.{Lit};
 ghost use Rattle.graph.specs.Circuits.{IsWatched, position_of, variable, place};
-ghost use Rattle.transforms.specs.Cones.{IsConeOf};
 ghost use Rattle.transforms.specs.Extracted.{HasCause, IsPartOf, IsUnmade, StandsFor, bad_of, extract, kept_latch, outputs_of};
 
 use crate::cone::{cone_of, is_marked};

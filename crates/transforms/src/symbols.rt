@@ -5,8 +5,11 @@ ghost use Rattle.transforms.specs.Extracted.{IsUnmade};
 
 use crate::error::TransformError;
 use base::{Refused, Seq, filled_like, push};
-use graph::{Model, Symbol, SymbolKind};
+use graph::{MOST_VARIABLES, Model, Symbol, SymbolKind};
 use std::alloc::Global;
+
+/// The greatest count of anything.
+const MOST: usize = MOST_VARIABLES as usize;
 
 /// Adds a name.
 pub fn add(
@@ -31,10 +34,10 @@ pub fn add(
 pub fn count(length: usize) -> u32
     ensures { length ≤ 4194303 → result ≡ length }
 {
-    if length < 4_194_303 {
+    if length < MOST {
         length as u32
     } else {
-        4_194_303
+        MOST_VARIABLES
     }
 }
 

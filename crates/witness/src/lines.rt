@@ -1,7 +1,5 @@
 //! The lines of loose texts.
 
-ghost use Rattle.std.specs.Prelude.{◌≤◌, ◌≢◌};
-
 use crate::characters::is_blank;
 use base::{Refused, push};
 use std::alloc::Global;

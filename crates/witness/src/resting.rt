@@ -1,6 +1,6 @@
 //! On which values a time of a run rests.
 
-ghost use Rattle.std.specs.Prelude.{◌≡◌, ◌≤◌, ◌<◌, ◌+◌, ℕ, true, IsTrue, ◌↔◌, false, IfOk, OnOk, Option, Some, None, if◌then◌else◌, IfSome, All, length, map};
+ghost use Rattle.std.specs.Prelude.{◌≡◌, ◌<◌, ◌+◌, ℕ, true, IsTrue, ◌↔◌, false, IfOk, OnOk, IfSome, All, length, map};
 ghost use Rattle.graph.specs.Circuits.{Valuation, Agrees, place, state_of, inputs_of, value_of, variable, next_state};
 ghost use Rattle.stimulus.specs.Causes.{KeepsAt};
 ghost use Rattle.cones.specs.Marks.{IsMarked, IsKnown, IsJustification};

@@ -17,7 +17,7 @@ returns-in_err-model-in-Ok-clause-refusals c =
 pub returns-in_ok-model-in-Ok-clause-found : goal.returns-in_ok-model-in-Ok-clause-found
 returns-in_ok-model-in-Ok-clause-found c =
     let built = c.in_ok-model-in-Ok.ensures.built in
-    is_spelled c.args.text.now c.from_symbols.result c.in_ok-model-in-Ok.model c.in-Ok.parts c.in-Ok.symbols.symbols c.in-Ok.comment c.from_symbols.ensures built.0 c.in-Ok.ensures.value.0 c.in-Ok.ensures.value.1 built.1 (omega (arith, c.if-text-gt-LONGEST.false))
+    is_spelled c.args.text.now c.from_symbols.result c.in_ok-model-in-Ok.model c.in-Ok.parts c.in-Ok.symbols.symbols c.in-Ok.comment c.from_symbols.ensures built.0 c.in-Ok.ensures.value.0 c.in-Ok.ensures.value.1 built.1 (omega (arith, c.if-text-gt-LONGEST_TEXT.false))
 
 pub returns-in_ok-model-in-Ok-clause-only : goal.returns-in_ok-model-in-Ok-clause-only
 returns-in_ok-model-in-Ok-clause-only c =

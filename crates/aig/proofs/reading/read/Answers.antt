@@ -7,20 +7,20 @@ pub returns-in_err-model-in-Ok-clause-only : goal.returns-in_err-model-in-Ok-cla
 returns-in_err-model-in-Ok-clause-only c =
     let p = err_from_is_err_and c.from_residual.result c.from_residual.ensures.1 in
     let e = c.in_err-model-in-Ok.ensures in
-    let memory = refused_memory c.args.text.now c.in-Ok.parts c.in-Ok.symbols.symbols c.in-Ok.comment c.in_err-model-in-Ok.field-0.0 c.in-Ok.ensures.value.0 c.in-Ok.ensures.value.1 (omega (arith, c.if-text-gt-LONGEST.false)) e.refused e.exact in
+    let memory = refused_memory c.args.text.now c.in-Ok.parts c.in-Ok.symbols.symbols c.in-Ok.comment c.in_err-model-in-Ok.field-0.0 c.in-Ok.ensures.value.0 c.in-Ok.ensures.value.1 (omega (arith, c.if-text-gt-LONGEST_TEXT.false)) e.refused e.exact in
     rw (p.1, p.2) (λ f spells. memory)
 
 pub returns-in_err-model-in-Ok-clause-refusals : goal.returns-in_err-model-in-Ok-clause-refusals
 returns-in_err-model-in-Ok-clause-refusals c =
     let p = err_from_is_err_and c.from_residual.result c.from_residual.ensures.1 in
     let e = c.in_err-model-in-Ok.ensures in
-    let memory = refused_memory c.args.text.now c.in-Ok.parts c.in-Ok.symbols.symbols c.in-Ok.comment c.in_err-model-in-Ok.field-0.0 c.in-Ok.ensures.value.0 c.in-Ok.ensures.value.1 (omega (arith, c.if-text-gt-LONGEST.false)) e.refused e.exact in
+    let memory = refused_memory c.args.text.now c.in-Ok.parts c.in-Ok.symbols.symbols c.in-Ok.comment c.in_err-model-in-Ok.field-0.0 c.in-Ok.ensures.value.0 c.in-Ok.ensures.value.1 (omega (arith, c.if-text-gt-LONGEST_TEXT.false)) e.refused e.exact in
     rw (p.1, p.2) (memory_number c.in_err-model-in-Ok.field-0.0 memory)
 
 pub returns-in_ok-model-in-Ok-clause-found : goal.returns-in_ok-model-in-Ok-clause-found
 returns-in_ok-model-in-Ok-clause-found c =
     let built = c.in_ok-model-in-Ok.ensures.built in
-    is_spelled c.args.text.now c.from_symbols.result c.in_ok-model-in-Ok.model c.in-Ok.parts c.in-Ok.symbols.symbols c.in-Ok.comment c.from_symbols.ensures built.0 c.in-Ok.ensures.value.0 c.in-Ok.ensures.value.1 (omega (arith, c.if-text-gt-LONGEST.false))
+    is_spelled c.args.text.now c.from_symbols.result c.in_ok-model-in-Ok.model c.in-Ok.parts c.in-Ok.symbols.symbols c.in-Ok.comment c.from_symbols.ensures built.0 c.in-Ok.ensures.value.0 c.in-Ok.ensures.value.1 (omega (arith, c.if-text-gt-LONGEST_TEXT.false))
 
 pub returns-in_ok-model-in-Ok-clause-only : goal.returns-in_ok-model-in-Ok-clause-only
 returns-in_ok-model-in-Ok-clause-only c =

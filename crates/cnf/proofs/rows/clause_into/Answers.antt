@@ -1,4 +1,4 @@
-use Rattle.std.proofs.Common.{rules, ◌≡◌, ◌≢◌, ◌+◌, ◌≤◌, All, map, pos, sym, subst, arith}
+use Rattle.std.proofs.Common.{rules, ◌≡◌, ◌≢◌, ◌+◌, All, map, pos, sym, subst, arith}
 use Rattle.cnf.specs.Clauses.{literal}
 use Rattle.cnf.proofs.Counted.{clause_below}
 use Rattle.cnf.proofs.rows.clause_into.Goals as goal

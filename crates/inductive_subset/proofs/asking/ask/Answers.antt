@@ -1,4 +1,4 @@
-use Rattle.std.proofs.Common.{◌≡◌, ◌<◌, ℕ, ℤ, inl, inr, List, All, Contains, length, arith, sym, subst}
+use Rattle.std.proofs.Common.{◌≡◌, ◌<◌, ℕ, ℤ, inl, List, All, Contains, length, arith, sym, subst}
 use Rattle.lrat.specs.Literals.{IsLiteral}
 use Rattle.solver.specs.Answers.{IsCore, IsModel}
 use Rattle.inductive_subset.specs.Guards.{guard_of, IsAssumed, IsOfCore, IsMarked}

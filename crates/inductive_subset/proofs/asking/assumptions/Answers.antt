@@ -1,4 +1,4 @@
-use Rattle.std.proofs.Common.{◌≡◌, ◌+◌, true, false, inl, inr, ℕ, ℤ, List, All, Contains, length, get_or, sym, subst}
+use Rattle.std.proofs.Common.{false, inl, inr, ℕ, ℤ, List, All, Contains, length, get_or, sym, subst}
 use Rattle.std.proofs.lemmas.Bool.{cases_Bool}
 use Rattle.std.proofs.lemmas.List.Elements.{All-nil, Contains-append_left, Contains-append_right, Contains-get_or}
 use Rattle.inductive_subset.specs.Guards.{guard_of, IsAssumed}

@@ -1,4 +1,4 @@
-use Rattle.std.proofs.Common.{rules, SFits, w32, ◌≡◌, ◌+◌, ◌∙◌, ◌++◌, ◌∷◌, [], ◌<◌, ℕ, ℤ, inl, inr, List, All, Contains, length, get_or, ap, sym, subst, arith}
+use Rattle.std.proofs.Common.{rules, SFits, w32, ◌≡◌, ◌∙◌, ◌<◌, ℕ, ℤ, inl, inr, List, All, Contains, length, get_or, ap, sym, subst, arith}
 use Rattle.std.proofs.lemmas.Bool.{cases_lt}
 use Rattle.std.proofs.lemmas.List.{get_or_default}
 use Rattle.lrat.proofs.Fit.{read32}

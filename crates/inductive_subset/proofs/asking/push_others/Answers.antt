@@ -1,4 +1,4 @@
-use Rattle.std.proofs.Common.{rules, SFits, w32, ◌≡◌, ◌+◌, ◌∙◌, ◌++◌, ◌∷◌, [], ◌<◌, true, false, inl, inr, ℤ, ℕ, List, All, Contains, length, get_or, ap, sym, subst, arith}
+use Rattle.std.proofs.Common.{rules, SFits, w32, ◌≡◌, ◌∙◌, ◌<◌, true, false, inl, inr, ℤ, ℕ, List, All, Contains, length, get_or, ap, sym, subst, arith}
 use Rattle.std.proofs.lemmas.Bool.{cases_lt, false≢true}
 use Rattle.std.proofs.lemmas.List.{get_or_default}
 use Rattle.lrat.proofs.Fit.{read32}

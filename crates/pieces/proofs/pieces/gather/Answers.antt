@@ -1,4 +1,4 @@
-use Rattle.std.proofs.Common.{rules, ◌≡◌, ◌<◌, ◌≤◌, ◌+◌, ◌++◌, ◌∙◌, ℕ, [], List, length, take, subst, sym, ap, arith, append_assoc}
+use Rattle.std.proofs.Common.{rules, ◌≡◌, ◌<◌, ◌≤◌, ◌+◌, ◌++◌, ◌∙◌, ℕ, List, length, take, subst, sym, ap, arith, append_assoc}
 use Rattle.std.proofs.lemmas.List.{length-append, length-take-le}
 use Rattle.pieces.specs.Pieces.{GoesOn, HoldsPiece, IsReady}
 use Rattle.pieces.proofs.PieceLaws.{goes_append, lies_at, lies_end, ready_behind_others, ready_whole}

@@ -46,8 +46,8 @@ returns-then-not-there-clause-says g c text later left =
           ),
     )
 
-pub returns-then-len-long-clause-says : goal.returns-then-len-long-clause-says
-returns-then-len-long-clause-says g c text later left =
+pub returns-then-len-watched-clause-says : goal.returns-then-len-watched-clause-says
+returns-then-len-watched-clause-says g c text later left =
     let (us, behind, others) = c.skip_lines.ensures.says text later left in
     let (zs, between, next) = c.in_ok-there.ensures.says text us behind in
     let (ys, before, so_far) = c.playing.invariant.reads text zs between in
@@ -55,14 +55,14 @@ returns-then-len-long-clause-says g c text later left =
     let line = c.line_into.new.line.items in
     let read = items_at line_at (c.args.reader.now ++ ys) in
     let same : c.line_into.new.line.len ≡ length line = search rules in
-    let wrong : length line ≢ c.args.long = λ e. c.if-len-long.true (c.len.ensures ∙ same ∙ e) in (
+    let wrong : length line ≢ c.args.watched.long = λ e. c.if-len-watched.true (c.len.ensures ∙ same ∙ e) in (
       ys,
       before,
       λ p initial watched begun starts long.
           let (front, played, still) = so_far initial begun in
           let further = line_goes read front line c.in_ok-there.there c.playing.reader c.line_into.new.self zs us c.if-not-there.false still next in
           others_found (λ lines found. found ≡ Some 66) (AreFound m p initial) read (front ++ line ∷ []) (items_at line_at) c.line_into.new.self c.skip_lines.new.reader us later c.skip_lines.result further others
-          (λ more x found. line_wrong m p initial line c.playing.some front more c.playing.replay c.args.long x c.requires.long (watched_there m p c.args.bad watched) long played wrong found),
+          (λ more x found. line_wrong m p initial line c.playing.some front more c.playing.replay c.args.watched.long x c.requires.long (watched_there m p c.args.watched.bad watched) long played wrong found),
     )
 
 pub returns-then-not-keeps-clause-says : goal.returns-then-not-keeps-clause-says
@@ -74,7 +74,7 @@ returns-then-not-keeps-clause-says g c text later left =
     let line = c.line_into.new.line.items in
     let read = items_at line_at (c.args.reader.now ++ ys) in
     let same : c.line_into.new.line.len ≡ length line = search rules in
-    let one : length line ≡ c.args.long = sym same ∙ sym c.len.ensures ∙ c.if-len-long.false in
+    let one : length line ≡ c.args.watched.long = sym same ∙ sym c.len.ensures ∙ c.if-len-watched.false in
     let steps : Steps c.playing.replay c.step.new.self line = subst (λ l. Steps c.playing.replay c.step.new.self l) c.as_slice.ensures.value c.step.ensures in
     let s = moves_of m c.playing.replay c.step.new.self line c.playing.invariant.circuit steps in
     let breaks : KeepsAt m steps.now → ⊥ = λ kept. let on = (c.keeps.ensures steps.now s.is_now).1 (rw c.requires.constraints kept) in absurd cc in (
@@ -83,9 +83,9 @@ returns-then-not-keeps-clause-says g c text later left =
       λ p initial watched begun starts long.
           let (front, played, still) = so_far initial begun in
           let further = line_goes read front line c.in_ok-there.there c.playing.reader c.line_into.new.self zs us c.if-not-there.false still next in
-          others_found (λ more found. AreRefused 61 c.args.long ((front ++ line ∷ []) ++ more) found) (AreFound m p initial) read (front ++ line ∷ []) (items_at line_at) c.line_into.new.self c.refuse_lines.new.reader us later c.refuse_lines.result further
-          (others (front ++ line ∷ []) (line_fits m initial line c.playing.some front c.playing.replay c.args.long c.requires.long played one))
-          (λ more x refused. line_breaks m p initial line c.playing.some front more c.playing.replay c.step.new.self steps.now c.args.long x c.requires.long (watched_there m p c.args.bad watched) long starts played s breaks refused),
+          others_found (λ more found. AreRefused 61 c.args.watched.long ((front ++ line ∷ []) ++ more) found) (AreFound m p initial) read (front ++ line ∷ []) (items_at line_at) c.line_into.new.self c.refuse_lines.new.reader us later c.refuse_lines.result further
+          (others (front ++ line ∷ []) (line_fits m initial line c.playing.some front c.playing.replay c.args.watched.long c.requires.long played one))
+          (λ more x refused. line_breaks m p initial line c.playing.some front more c.playing.replay c.step.new.self steps.now c.args.watched.long x c.requires.long (watched_there m p c.args.watched.bad watched) long starts played s breaks refused),
     )
 
 pub playing-preserved : goal.playing-preserved
@@ -95,7 +95,7 @@ playing-preserved g c =
     let steps : Steps c.playing.replay c.step.new.self line = subst (λ l. Steps c.playing.replay c.step.new.self l) c.as_slice.ensures.value c.step.ensures in
     let s = moves_of m c.playing.replay c.step.new.self line c.playing.invariant.circuit steps in
     let same : c.line_into.new.line.len ≡ length line = search rules in
-    let one : length line ≡ c.args.long = sym same ∙ sym c.len.ensures ∙ c.if-len-long.false in
+    let one : length line ≡ c.args.watched.long = sym same ∙ sym c.len.ensures ∙ c.if-len-watched.false in
     let kept : KeepsAt m steps.now = let k = (c.keeps.ensures steps.now s.is_now).0 cc in rw c.requires.constraints at k in
     record {
       steady = search rules;
@@ -110,7 +110,7 @@ playing-preserved g c =
             λ initial begun.
                 let (front, played, still) = so_far initial begun in (
                   front ++ line ∷ [],
-                  played_on m initial line c.playing.some front c.playing.replay c.step.new.self steps.now c.args.long c.requires.long played one s kept,
+                  played_on m initial line c.playing.some front c.playing.replay c.step.new.self steps.now c.args.watched.long c.requires.long played one s kept,
                   line_goes read front line c.in_ok-there.there c.playing.reader c.line_into.new.self zs later c.if-not-there.false still next,
                 ),
           );

@@ -1,4 +1,4 @@
-use Rattle.std.proofs.Common.{◌∙◌, ◌-◌, arith}
+use Rattle.std.proofs.Common.{◌∙◌, arith}
 use Rattle.base.proofs.Putting.{puts_err}
 use Rattle.trace.specs.Numbers.{binary_text}
 use Rattle.trace.proofs.NumberLaws.{binary_all, binary_cut, binary_more}

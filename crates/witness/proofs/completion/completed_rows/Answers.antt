@@ -1,4 +1,4 @@
-use Rattle.std.proofs.Common.{◌≡◌, ◌∙◌, [], map, ap, sym, subst}
+use Rattle.std.proofs.Common.{◌∙◌, [], map, ap, sym, subst}
 use Rattle.std.proofs.lemmas.List.{take_all}
 use Rattle.witness.specs.Completions.{CompleteFirst, completion}
 use Rattle.witness.proofs.CompletionLaws.{completions_complete}
