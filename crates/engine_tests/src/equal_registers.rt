@@ -78,7 +78,7 @@ fn is_found(alloc: Global, text: &[u8]) -> Result<bool, Fail> {
 }
 
 /// Whether the circuit is found safe or not, with evidence that stands, by equal latches or by IC3, both by these solvers.
-pub(crate) fn is_decided<S: PartSat>(
+fn is_decided<S: PartSat>(
     alloc: Global,
     first: S,
     behind: S,

@@ -60,7 +60,7 @@ pub(crate) fn is_certified(
 }
 
 /// Whether the replay of the run shows the bad literal.
-pub(crate) fn is_shown(
+fn is_shown(
     alloc: Global,
     circuit: &Model,
     initial: Seq<bool>,

@@ -12,16 +12,10 @@ mod bounded;
 #[cfg(test)]
 mod equal_registers;
 #[cfg(test)]
-mod exhaustive;
-#[cfg(test)]
 mod inductive;
 #[cfg(test)]
 mod literals;
 #[cfg(test)]
-mod random_circuits;
-#[cfg(test)]
 mod random_engine;
-#[cfg(test)]
-mod random_registers;
 #[cfg(test)]
 mod solvers;

@@ -1,9 +1,5 @@
 use Rattle.certificate3.proofs.PieceLaws.{sizes_of_piece}
-<<<<<<<< HEAD:crates/aigmc_certificates/proofs/recertifying/behind_claim/Answers.antt
-use Rattle.aigmc_certificates.proofs.recertifying.behind_claim.Goals as goal
-========
 use Rattle.aigmc_files.proofs.claimed.behind_claim.Goals as goal
->>>>>>>> a9aeab45944c7aa5db810698bc2b5723c16a8c88:crates/aigmc_files/proofs/claimed/behind_claim/Answers.antt
 
 pub line-requires-clause-line : goal.line-requires-clause-line
 line-requires-clause-line c = sizes_of_piece
