@@ -124,27 +124,46 @@ impl Question<'_> {
     /// The same, once the circuit was read for its symbol table, or for the place of its fault.
     fn of_text(self, rt: &HostRuntime, circuit: Input, file: Input) -> Result<bool, NoAnswer> {
         let text = text_of(rt, circuit)?;
-        let (property, fault) = match aiger::read(rt.alloc(), text.as_slice()) {
-            Ok(circuit) => (self.property_in(rt, &circuit)?, None),
-            Err(ReadError::OutOfMemory(refused)) => return Err(NoAnswer::from(refused)),
-            Err(error) => (None, Some(error)),
-        };
-        let circuit = &mut FromBytes::new(text.as_slice());
-        let file = &mut FromRead::new(file);
-        let out = &mut ToVec::new(rt.alloc());
-        let answer = judge(rt.alloc(), self.evidence, property, circuit, file, out);
-        let yes = answer_in_memory(answer, out)?;
-        put_line(
-            rt,
-            out.as_slice(),
-            self.names.evidence,
-            self.verbose && fault.is_none(),
-        )?;
+        let (property, fault) = self.in_text(rt, text.as_slice())?;
+        let yes = self.judged(rt, property, text.as_slice(), file, fault.is_none())?;
         if let Some(error) = fault
             && self.verbose
         {
             tell_circuit(rt, self.names.circuit, text.as_slice(), error);
         }
+        Ok(yes)
+    }
+
+    /// The property of the text's circuit that is asked about alone, where one is named, or why the text is no circuit.
+    fn in_text(
+        self,
+        rt: &HostRuntime,
+        text: &[u8],
+    ) -> Result<(Option<Property>, Option<ReadError>), NoAnswer> {
+        match aiger::read(rt.alloc(), text) {
+            Ok(circuit) => Ok((self.property_in(rt, &circuit)?, None)),
+            Err(ReadError::OutOfMemory(refused)) => Err(NoAnswer::from(refused)),
+            Err(error) => Ok((None, Some(error))),
+        }
+    }
+
+    /// Whether the evidence is accepted for a circuit of this text. It puts the line; where the text is a circuit, standard
+    /// error says why, if that is asked for.
+    fn judged(
+        self,
+        rt: &HostRuntime,
+        property: Option<Property>,
+        text: &[u8],
+        file: Input,
+        is_circuit: bool,
+    ) -> Result<bool, NoAnswer> {
+        let circuit = &mut FromBytes::new(text);
+        let file = &mut FromRead::new(file);
+        let out = &mut ToVec::new(rt.alloc());
+        let answer = judge(rt.alloc(), self.evidence, property, circuit, file, out);
+        let yes = answer_in_memory(answer, out)?;
+        let name = self.names.evidence;
+        put_line(rt, out.as_slice(), name, self.verbose && is_circuit)?;
         Ok(yes)
     }
 
