@@ -19,7 +19,7 @@ _aigmc() {
         ;;
     esac
     case ${COMP_WORDS[1]} in
-    check) options='-p --cert --out --engine --depth --budget --seed --timeout --quiet --json --verbose -v --help -h' ;;
+    check) options='-p --cert --witness --out --engine --depth --budget --seed --timeout --quiet --json --verbose -v --help -h' ;;
     cover) options='--depth --budget --timeout --verbose -v --help -h' ;;
     certify) options='-p --invariant --extension --cert --budget --strengthen --timeout --verbose -v --help -h' ;;
     adopt-witness) options='-p --budget --verbose -v --help -h' ;;

@@ -4,21 +4,31 @@ tries both values of a variable."""
 import sys
 
 
-def reduced(clauses, lit):
-    """The clauses that are left where a literal is true."""
-    return [[it for it in clause if it != -lit] for clause in clauses if lit not in clause]
+def reduced(clauses, lits):
+    """The clauses that are left where these literals are true."""
+    return [[it for it in clause if -it not in lits] for clause in clauses if lits.isdisjoint(clause)]
+
+
+def forced(clauses):
+    """The clauses that are left where all units are true, and these: among them both of a variable where two clash."""
+    found = set()
+    while units := {clause[0] for clause in clauses if len(clause) == 1}:
+        found |= units
+        clauses = reduced(clauses, units)
+    return clauses, found
 
 
 def model_of(clauses):
     """Literals that make clauses true, or nothing (None)."""
-    if not clauses:
-        return []
-    shortest = min(clauses, key=len)
-    for lit in (*shortest[:1], *(-it for it in shortest[:1] if len(shortest) > 1)):
-        found = model_of(reduced(clauses, lit))
+    left, units = forced(clauses)
+    if not all(left) or any(-lit in units for lit in units):
+        return None
+    lit = min(left, key=len)[0] if left else None
+    for choice in (lit, -lit) if left else ():
+        found = model_of(reduced(left, {choice}))
         if found is not None:
-            return [lit, *found]
-    return None
+            return [*units, choice, *found]
+    return None if left else [*units]
 
 
 def main(asked, answer=None):

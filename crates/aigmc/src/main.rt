@@ -25,7 +25,8 @@
 //! steps, then register correspondence, then the two again; or `random`, random simulation from `--seed`.
 //! `--budget` is how many steps the search may cost. With `--cert OUT` the certificate of a property that
 //! holds is written to OUT before anything is printed; OUT may name neither the circuit's file nor the file
-//! that standard output goes to. With `--out DIR` evidence goes to the folder DIR, as with `all`. What is said is
+//! that standard output goes to. With `--witness OUT` OUT gets the certificate's witness circuit, in the layouts of `convert`.
+//! With `--out DIR` evidence goes to the folder DIR, as with `all`. What is said is
 //! `verdict::decide`'s. `--timeout` ends the search after so many seconds, of `all` for all properties together: what is left of
 //! the budget is spent then. `--quiet` leaves out a run, and `--json` prints a line of JSON for each property instead. P may
 //! be a name of the symbol table here and in all other commands, where exactly one property has it.

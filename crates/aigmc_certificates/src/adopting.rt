@@ -4,8 +4,8 @@ use crate::counterexample::tell_counterexample;
 use crate::extending::claimed_over;
 use crate::third::kept;
 use aigmc_files::{
-    DONE, Role, Stop, about, asked_for, circuit, circuit_of, is_taken, keep, property_in, read_of,
-    read_text,
+    DONE, EvidenceFile, Role, Stop, about, asked_for, circuit, circuit_of, is_taken, keep,
+    property_in, read_of, read_text,
 };
 use arguments::Claim;
 use base::{Budget, Seq};
@@ -98,7 +98,8 @@ fn certified(
     let outcome = certify(rt.alloc(), file.model(), property, clauses, &mut budget)?;
     match outcome {
         Certified::Certificate(certificate) => {
-            keep(rt, asked.certificate, property, &Verdict::Safe(certificate))?;
+            let to = EvidenceFile::plain(asked.certificate);
+            keep(rt, to, property, &Verdict::Safe(certificate))?;
             Ok(Some(DONE))
         }
         Certified::NotInvariant(_) if asked.strengthen => Ok(None),

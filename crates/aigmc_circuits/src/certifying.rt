@@ -1,18 +1,17 @@
 //! The command `to-witness`: an accepted certificate becomes a witness circuit.
 
-use crate::making::make_fitting;
 use aiger::Layout;
 use aigmc_files::{
-    Claimed, DONE, Role, Stop, about, circuit, claimed_in, is_same, path_of, refused_text,
+    DONE, Role, Stop, about, circuit, claimed_in, expect_safety, fitted_witness, is_same, make,
+    path_of, refused_text,
 };
 use arguments::WitnessCircuit;
 use base::FromBytes;
 use certificate3::Format;
 use checker::check;
-use graph::{Model, Property};
+use graph::Model;
 use inputs::is_standard;
 use std::alloc::Global;
-use witness_circuits::witness_of;
 
 /// Refuses a certificate of version 1 or 2 that is not accepted for the circuit.
 fn expect_earlier(alloc: Global, circuit: &Model, text: &[u8]) -> Result<(), Stop> {
@@ -62,15 +61,6 @@ fn expect_accepted(
     }
 }
 
-/// Refuses a certificate of a justice property.
-fn expect_safety(rt: &HostRuntime, claimed: &Claimed) -> Result<(), Stop> {
-    if !matches!(claimed.claim.property, Property::Justice(_)) {
-        return Ok(());
-    }
-    let _ = eprintln!(rt; "aigmc: there are no witness circuits of justice properties");
-    Err(Stop::Told)
-}
-
 /// Makes the file of that name with the witness circuit of a certificate that is accepted.
 pub fn make_witness_circuit(rt: &HostRuntime, asked: WitnessCircuit<'_>) -> Result<u8, Stop> {
     let out = asked.out;
@@ -85,18 +75,18 @@ pub fn make_witness_circuit(rt: &HostRuntime, asked: WitnessCircuit<'_>) -> Resu
     let file = circuit(rt, asked.file)?;
     let model = file.model();
     let (text, claimed) = claimed_in(rt, asked.certificate)?;
-    expect_safety(rt, &claimed)?;
+    expect_safety(rt, claimed.claim.property)?;
     let accepted = expect_accepted(alloc, model, claimed.format, text.as_slice());
     about(Role::Invariant, accepted)?;
-    let witness = witness_of(
+    let fitted = fitted_witness(
         alloc,
         model,
         claimed.claim.property,
         claimed.latches.as_slice(),
         claimed.gates.as_slice(),
         &claimed.invariant,
-    );
-    let witness = about(Role::Circuit, witness.map_err(Stop::from))?;
-    make_fitting(rt, out, witness, layout)?;
+        layout,
+    )?;
+    make(rt, out, &fitted.file, layout)?;
     Ok(DONE)
 }

@@ -2,23 +2,14 @@
 
 use aiger::Layout;
 use aigmc_files::{
-    CommandError, DONE, Role, Stop, about, asked_for, circuit, fault_of, is_same, make, path_of,
+    DONE, Fitted, Role, Stop, about, asked_for, circuit, fault_of, is_same, make, path_of,
     property_in,
 };
 use arguments::{Extraction, Shadow};
 use graph::{AigerFile, Property};
 use property_names::Asked;
-use shrink::ready;
 use std::alloc::Global;
 use transforms::{extracted, shadow_file};
-
-/// The circuit as the layout takes it: for the binary one in its numbering.
-fn fitting(alloc: Global, file: AigerFile, layout: Layout) -> Result<AigerFile, CommandError> {
-    match layout {
-        Layout::Ascii => Ok(file),
-        Layout::Binary => ready(alloc, file).map_err(CommandError::from),
-    }
-}
 
 /// Makes the file of that name, in its layout.
 pub fn make_fitting(
@@ -27,8 +18,8 @@ pub fn make_fitting(
     file: AigerFile,
     layout: Layout,
 ) -> Result<(), Stop> {
-    let file = fitting(rt.alloc(), file, layout)?;
-    make(rt, out, &file, layout)
+    let fitted = Fitted::of(rt.alloc(), file, layout)?;
+    make(rt, out, &fitted.file, layout)
 }
 
 /// Whether a justice property may be asked for.

@@ -6,15 +6,17 @@ ghost use Rattle.verdict.specs.Verdicts.{status_of as wanted_status};
 use crate::showing::Found;
 use crate::timing::{ask, begin, is_vacuous, now};
 use aigmc_files::{
-    CommandError, DONE, Role, Stop, UNKNOWN, VIOLATED, about, asked_for, at, circuit,
-    expect_folder, fault_of, is_taken, property_in,
+    CommandError, DONE, EvidenceFile, Fitted, Role, Stop, UNKNOWN, VIOLATED, about, asked_for, at,
+    circuit, expect_folder, expect_safety, expect_witness_file, fault_of, is_taken, property_in,
+    witness_in,
 };
 use arguments::{Kept, Search};
 use base::Seq;
 use engine::Counter;
-use graph::{AigerFile, Lit, Property};
+use graph::{AigerFile, Lit, Model, Property};
 use portfolio::{Answered, Question, Timing};
 use properties::{Evidence, all_properties, evidence_name};
+use std::alloc::Global;
 use std::time::Instant;
 use transforms::relevant_clauses;
 use verdict::Verdict;
@@ -58,7 +60,7 @@ impl<'a> Whole<'a> {
         self,
         property: Property,
         verdict: &'a Verdict,
-        evidence: Option<&'a str>,
+        evidence: Option<EvidenceFile<'a>>,
         spent: Spent<'a>,
     ) -> Found<'a>
         ensures { result.verdict.now ≡ verdict.now }
@@ -79,22 +81,45 @@ impl<'a> Whole<'a> {
     }
 }
 
-/// The file to make of a certificate, where there is one and a file is named.
-fn certificate_in<'a>(verdict: &Verdict, kept: Kept<'a>) -> Option<&'a str> {
+/// The file to make of a certificate or of its witness circuit, where there is one and a file is named.
+fn file_in<'a>(
+    verdict: &Verdict,
+    kept: Kept<'a>,
+    witness: Option<&'a Fitted>,
+) -> Option<EvidenceFile<'a>> {
     match (verdict, kept) {
-        (Verdict::Safe(_), Kept::Certificate(out)) => Some(out),
+        (Verdict::Safe(_), Kept::Certificate(name) | Kept::Witness(name)) => {
+            Some(EvidenceFile { name, witness })
+        }
         _ => None,
     }
 }
 
-/// Prints what was found by a search of this length. Its evidence goes to the file of that name first, where one is
-/// named.
+/// The witness circuit of a property that holds, where one is asked for.
+fn witness_of(
+    alloc: Global,
+    circuit: &Model,
+    property: Property,
+    verdict: &Verdict,
+    kept: Kept<'_>,
+) -> Result<Option<Fitted>, Stop> {
+    match (verdict, kept) {
+        (Verdict::Safe(certificate), Kept::Witness(out)) => {
+            let clauses = certificate.invariant.as_slice();
+            let witness = witness_in(alloc, circuit, property, clauses, out)?;
+            Ok(Some(witness))
+        }
+        _ => Ok(None),
+    }
+}
+
+/// Prints what was found by a search of this length. Its evidence goes to the file first, where there is to be one.
 fn show<'a>(
     rt: &HostRuntime,
     whole: Whole<'a>,
     property: Property,
     verdict: &'a Verdict,
-    evidence: Option<&'a str>,
+    evidence: Option<EvidenceFile<'a>>,
     spent: Spent<'a>,
 ) -> Result<u8, Stop>
     ensures { IfOk result (λ status. status ≡ wanted_status verdict.now) }
@@ -102,8 +127,8 @@ fn show<'a>(
     whole.found(property, verdict, evidence, spent).show(rt)
 }
 
-/// Looks for evidence about the property of the circuit, and prints the verdict. A certificate goes to the
-/// file of that name first, where one is named, or evidence to the folder.
+/// Looks for evidence about the property of the circuit, and prints the verdict. A certificate or its witness circuit goes
+/// to the file of that name first, where one is named, or evidence to the folder.
 fn check_in<'a>(
     rt: &HostRuntime,
     name: &'a str,
@@ -129,8 +154,9 @@ fn check_in<'a>(
     match about(Role::Circuit, ask(rt, question, candidates)) {
         Ok(answered) => {
             let (verdict, spent) = (&answered.verdict, Spent::by(&answered, begun));
-            match certificate_in(verdict, kept) {
-                Some(out) => show(rt, whole, property, verdict, Some(out), spent),
+            let witness = witness_of(rt.alloc(), file.model(), property, verdict, kept)?;
+            match file_in(verdict, kept, witness.as_ref()) {
+                Some(to) => show(rt, whole, property, verdict, Some(to), spent),
                 None => keep_in_and_print(rt, whole, property, verdict, spent),
             }
         }
@@ -138,17 +164,19 @@ fn check_in<'a>(
     }
 }
 
-/// Refuses a file for a certificate that is taken, and a folder for evidence that is none.
+/// Refuses a file for a certificate that is taken, one for a witness circuit that no circuit can be written to, and a folder
+/// for evidence that is none.
 fn expect_place(rt: &HostRuntime, name: &str, kept: Kept<'_>) -> Result<(), Stop> {
     match kept {
         Kept::Certificate(out) if is_taken(rt, name, out) => Err(Stop::Taken),
+        Kept::Witness(out) => expect_witness_file(rt, name, out),
         Kept::Folder(folder) => at(Role::Made, expect_folder(rt, folder)),
         _ => Ok(()),
     }
 }
 
-/// Looks for evidence about the property of this name, and prints the verdict. A certificate goes to the
-/// file of that name first, where one is named, or evidence to the folder.
+/// Looks for evidence about the property of this name, and prints the verdict. A certificate or its witness circuit goes to
+/// the file of that name first, where one is named, or evidence to the folder.
 pub fn check(
     rt: &HostRuntime,
     name: &str,
@@ -161,6 +189,9 @@ pub fn check(
     expect_place(rt, name, kept)?;
     let file = circuit(rt, name)?;
     let property = property_in(rt, name, &file, asked, search.verbose)?;
+    if matches!(kept, Kept::Witness(_)) {
+        expect_safety(rt, property)?;
+    }
     check_in(rt, name, &file, property, kept, timing)
 }
 
@@ -199,7 +230,10 @@ fn keep_in_and_print(
     ensures { IfOk result (λ status. status ≡ wanted_status verdict.now) }
 {
     match evidence_in(rt, whole, property, verdict)? {
-        Some(out) => show(rt, whole, property, verdict, Some(out.as_str()), spent),
+        Some(out) => {
+            let to = EvidenceFile::plain(out.as_str());
+            show(rt, whole, property, verdict, Some(to), spent)
+        }
         None => show(rt, whole, property, verdict, None, spent),
     }
 }

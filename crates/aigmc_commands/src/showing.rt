@@ -5,7 +5,7 @@ ghost use Rattle.verdict.specs.Verdicts.{status_of as wanted_status};
 ghost use Rattle.aigmc_commands.specs.Words.{checked_word, verdict_word};
 
 use crate::telling::{Why, conclude, tell_counters};
-use aigmc_files::{Stop, finished, keep, keep_and_print, print_alone, status_of};
+use aigmc_files::{EvidenceFile, Stop, finished, keep, keep_and_print, print_alone, status_of};
 use arguments::Search;
 use engine::Counter;
 use graph::{AigerFile, Property};
@@ -25,8 +25,8 @@ pub struct Found<'a> {
     pub property: Property,
     /// what was found of it
     pub verdict: &'a Verdict,
-    /// the file to make of the evidence, where one is named
-    pub evidence: Option<&'a str>,
+    /// the file to make of the evidence, where there is to be one
+    pub evidence: Option<EvidenceFile<'a>>,
     /// how the search was to go
     pub search: Search,
     /// how many steps of its budget are spent
@@ -98,7 +98,7 @@ impl Found<'_> {
             property: self.property,
             symbol: symbol_of(self.file, self.property),
             verdict: word_of(self.verdict),
-            evidence: self.evidence,
+            evidence: self.evidence.map(|to| to.name),
             time: self.time(rt),
         };
         let (checked, steps, is_vacuous) = (checked(self.verdict), self.steps, self.is_vacuous);
@@ -121,13 +121,13 @@ impl Found<'_> {
         Ok(status_of(self.verdict))
     }
 
-    /// Makes the file of the evidence, where one is named, and prints the verdict alone or as JSON. Once there is that
+    /// Makes the file of the evidence, where there is to be one, and prints the verdict alone or as JSON. Once there is that
     /// file, nothing takes memory.
     fn keep_and_print_short(self, rt: &HostRuntime) -> Result<u8, Stop>
         ensures { IfOk result (λ status. status ≡ wanted_status self.entry.verdict.now) }
     {
-        if let Some(out) = self.evidence {
-            keep(rt, out, self.property, self.verdict)?;
+        if let Some(to) = self.evidence {
+            keep(rt, to, self.property, self.verdict)?;
         }
         if self.search.json {
             self.print_line(rt)
@@ -136,7 +136,7 @@ impl Found<'_> {
         }
     }
 
-    /// Makes the file of the evidence, where one is named, prints the verdict, and answers its status. Standard error says what
+    /// Makes the file of the evidence, where there is to be one, prints the verdict, and answers its status. Standard error says what
     /// was found where that is asked for.
     pub fn show(self, rt: &HostRuntime) -> Result<u8, Stop>
         ensures { IfOk result (λ status. status ≡ wanted_status self.entry.verdict.now) }

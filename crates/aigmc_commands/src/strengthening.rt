@@ -3,7 +3,7 @@
 use crate::telling::conclude;
 use crate::timing::{ask, begin};
 use aigmc_certificates::{Adopted, NO_INVARIANT, SPENT};
-use aigmc_files::{DONE, Role, Stop, about, keep};
+use aigmc_files::{DONE, EvidenceFile, Role, Stop, about, keep};
 use arguments::{Claim, EngineKind, Search};
 use base::Seq;
 use graph::{AigerFile, Lit, Property};
@@ -46,7 +46,12 @@ fn strengthened(
     }
     match &verdict {
         Verdict::Safe(_) => {
-            keep(rt, asked.certificate, property, &verdict)?;
+            keep(
+                rt,
+                EvidenceFile::plain(asked.certificate),
+                property,
+                &verdict,
+            )?;
             Ok(DONE)
         }
         Verdict::Unsafe(_) => {

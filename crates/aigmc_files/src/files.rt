@@ -4,6 +4,7 @@ ghost use Rattle.std.specs.Prelude.{◌≡◌, ◌≢◌, IfOk, Ok, codes};
 ghost use Rattle.verdict.specs.Verdicts.{status_of as wanted_status};
 
 use crate::command_error::CommandError;
+use crate::fitted::EvidenceFile;
 use crate::making::{Making, is_same};
 use crate::stop::{DONE, Role, Stop, about, at, finished, read_of};
 use aiger::{Layout, load, put_file};
@@ -207,14 +208,17 @@ fn write_evidence(
     settled(out, put.map_err(Stop::from))
 }
 
-/// Makes the file of this name with a verdict's evidence.
+/// Makes the file with a verdict's evidence, or with the witness circuit that it is to get.
 pub fn keep(
     rt: &HostRuntime,
-    name: &str,
+    to: EvidenceFile<'_>,
     property: Property,
     verdict: &Verdict,
 ) -> Result<(), Stop> {
-    let (making, out) = at(Role::Made, Making::begin(rt, name))?;
+    if let Some(witness) = to.witness {
+        return make(rt, to.name, &witness.file, witness.layout);
+    }
+    let (making, out) = at(Role::Made, Making::begin(rt, to.name))?;
     let written = write_evidence(rt, out, property, verdict);
     at(Role::Made, making.end(rt, written))
 }
@@ -322,11 +326,11 @@ pub fn status_of(verdict: &Verdict) -> u8
     }
 }
 
-/// Prints a verdict, and answers its status. Its evidence goes to the file of that name first, where one is named. Once
-/// there is that file, nothing takes memory.
+/// Prints a verdict, and answers its status. Its evidence goes to the file first, where there is to be one. Once there is
+/// that file, nothing takes memory.
 pub fn keep_and_print(
     rt: &HostRuntime,
-    name: Option<&str>,
+    to: Option<EvidenceFile<'_>>,
     property: Property,
     verdict: &Verdict,
 ) -> Result<u8, Stop>
@@ -334,8 +338,8 @@ pub fn keep_and_print(
 {
     let out = buffered(rt.alloc(), io::writer(rt))?;
     let mut out = ToWrite::new(out);
-    let kept = match name {
-        Some(name) => keep(rt, name, property, verdict),
+    let kept = match to {
+        Some(to) => keep(rt, to, property, verdict),
         None => Ok(()),
     };
     let put = match kept {

@@ -7,11 +7,13 @@
 mod claimed;
 mod command_error;
 mod files;
+mod fitted;
 mod making;
 mod missing;
 mod naming;
 mod stop;
 mod terminal;
+mod witnessing;
 
 pub use claimed::{Claimed, claimed_in, listed, refused_text};
 pub use command_error::CommandError;
@@ -20,6 +22,7 @@ pub use files::{
     make_bytes, make_stimulus, make_waveform, path_of, print_alone, print_stimulus, print_table,
     print_trace, read_text, shown_of, status_of, stimulus_of,
 };
+pub use fitted::{EvidenceFile, Fitted};
 pub use making::{expect_folder, is_same};
 pub use missing::fault_of;
 pub use naming::{asked_for, property_in};
@@ -28,3 +31,4 @@ pub use stop::{
     tell,
 };
 pub use terminal::is_terminal;
+pub use witnessing::{expect_safety, expect_witness_file, fitted_witness, witness_in};

@@ -136,6 +136,12 @@ Examples:
                 value: "OUT",
                 ..OPTION
             },
+            Argument {
+                name: "witness",
+                help: "The file to make of its witness circuit: .aag for ASCII, .aig for binary",
+                value: "OUT",
+                ..OPTION
+            },
             FOLDER,
             BUDGET,
             DEPTH,

@@ -4,7 +4,7 @@ ghost use Rattle.std.specs.Prelude.{◌≡◌, Some, None, IfSome, codes, option
 ghost use Rattle.arguments.specs.Engines.{asks_bounded, asks_inductive};
 ghost use Rattle.arguments.specs.Places.{folder_of, name_of};
 ghost use Rattle.arguments.specs.declared.request.EngineKind.TheVariants.{All, Bounded, Inductive, Corresponding, Random};
-ghost use Rattle.arguments.specs.declared.request.Kept.TheVariants.{Nowhere, Certificate, Folder};
+ghost use Rattle.arguments.specs.declared.request.Kept.TheVariants.{Nowhere, Certificate, Witness, Folder};
 
 use crate::adopting::{
     Adoption, Claim, Extraction, Recertification, Shadow, WitnessCircuit, asked_adopt_witness,
@@ -77,6 +77,8 @@ pub enum Kept<'a> {
     Nowhere,
     /// a certificate, in this file
     Certificate(&'a str),
+    /// a certificate's witness circuit, in this file
+    Witness(&'a str),
     /// a certificate or a stimulus, in this folder
     Folder(&'a str),
 }
@@ -98,7 +100,7 @@ impl<'a> Kept<'a> {
     {
         match self {
             Kept::Nowhere => None,
-            Kept::Certificate(name) | Kept::Folder(name) => Some(name),
+            Kept::Certificate(name) | Kept::Witness(name) | Kept::Folder(name) => Some(name),
         }
     }
 }
@@ -246,12 +248,26 @@ fn kept_in<'a>(certificate: Option<&'a str>, folder: Option<&'a str>) -> Option<
     }
 }
 
-/// What `check` asks for, or nothing where it asks for a file and a folder.
+/// Where evidence is kept: a witness circuit in the file, where one is named, and nothing where evidence is kept elsewhere too.
+fn with_witness<'a>(kept: Kept<'a>, witness: Option<&'a str>) -> Option<Kept<'a>>
+    ensures without { witness.entry ≡ None → result ≡ Some kept.entry }
+    ensures witness { kept.entry ≡ Nowhere → IfSome witness.entry (λ name. result ≡ Some (Witness name)) }
+    ensures both { (kept.entry ≡ Nowhere → ⊥) → IfSome witness.entry (λ _. result ≡ None) }
+{
+    match (kept, witness) {
+        (kept, None) => Some(kept),
+        (Kept::Nowhere, Some(file)) => Some(Kept::Witness(file)),
+        (_, Some(_)) => None,
+    }
+}
+
+/// What `check` asks for, or nothing where it asks for two files or a file and a folder.
 fn asked_check<'a>(words: &ArgMatches<'a>) -> Option<Request<'a>> {
+    let kept = kept_in(words.get_str("cert"), words.get_str("out"))?;
     Some(Request::Check {
         file: word(words, "FILE"),
         property: word(words, "property"),
-        kept: kept_in(words.get_str("cert"), words.get_str("out"))?,
+        kept: with_witness(kept, words.get_str("witness"))?,
         search: asked_search(words),
     })
 }

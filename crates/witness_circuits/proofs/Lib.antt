@@ -1,2 +1,3 @@
 pub mod Values
 pub mod Rows
+pub mod Unmade

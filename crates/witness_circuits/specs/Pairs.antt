@@ -22,6 +22,13 @@ place_of (OutOfMemory refused) = 0
 abbrev pub IsAbout : Parts → Lit → Type 0
 IsAbout m a = (AreOutputsBad m × (m.outputs ≡ a ∷ [])) ⊎ (m.bad ≡ a ∷ [])
 
+-- the reason is not the number of bad literals
+abbrev pub IsOther : PairError → Type 0
+IsOther (Bad n) = ⊥
+IsOther (Symbol n) = Unit {0}
+IsOther Limit = Unit {0}
+IsOther (OutOfMemory refused) = Unit {0}
+
 -- another number of bad literals, or of outputs that are taken as some, than one; nothing is said of the other reasons
 abbrev pub IsRefused : Parts → PairError → Type 0
 IsRefused m (Bad n) = (AreOutputsBad m × (n ≡ length m.outputs) × (n ≢ 1)) ⊎ ((n ≡ length m.bad) × (n ≢ 1))

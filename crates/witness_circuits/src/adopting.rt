@@ -2,7 +2,7 @@
 
 ghost use Rattle.std.specs.Prelude.{◌≡◌, ◌≢◌, ◌∷◌, [], List, IfErr, IfOk, length};
 ghost use Rattle.graph.specs.declared.circuit.Lit.{Lit as ALit};
-ghost use Rattle.witness_circuits.specs.Pairs.{IsAbout, IsRefused};
+ghost use Rattle.witness_circuits.specs.Pairs.{IsAbout, IsOther, IsRefused};
 ghost use Rattle.witness_circuits.specs.Renamed.{wanted_clauses};
 ghost use Rattle.witness_circuits.specs.declared.pair_error.PairError.TheVariants.{Bad};
 
@@ -105,7 +105,9 @@ fn names_of(
     model: &Model,
     witness: &Model,
     shared: &Shared,
-) -> Result<Vec<Lit>, PairError> {
+) -> Result<Vec<Lit>, PairError>
+    ensures { IfErr result IsOther }
+{
     witness.well_formed();
     let mut names = filled(alloc, Lit(0), witness.max_var() as usize + 1)?;
     name_inputs(names.as_mut_slice(), witness, &shared.inputs);
@@ -156,14 +158,14 @@ fn clauses_of(
     bad: Lit,
     constraints: &[Lit],
 ) -> Result<Lists<Lit>, Refused>
-    ensures { IfOk result (λ inv. inv ≡ wanted_clauses names.now bad constraints.now) }
+    ensures { IfOk result (λ clauses. clauses ≡ wanted_clauses names.now bad constraints.now) }
 {
-    let mut invariant = Lists::new(alloc);
-    invariant.push(&[denial_of(names, bad)])?;
+    let mut clauses = Lists::new(alloc);
+    clauses.push(&[denial_of(names, bad)])?;
     for lit in constraints {
-        invariant.push(&[literal_of(names, *lit)])?;
+        clauses.push(&[literal_of(names, *lit)])?;
     }
-    Ok(invariant)
+    Ok(clauses)
 }
 
 /// What a witness circuit adds to the model, and what is to be inductive then: latches of its own, its gates, and clauses

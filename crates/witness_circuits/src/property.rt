@@ -36,11 +36,13 @@ fn push_clause(
     let denials = negations(alloc, clause)?;
     let denied = push_chain(gates, &denials, Lit(1), variable)?;
     let behind = variable + clause.len() as u32;
-    push(gates, joins(behind, so_far, negation(denied)))
+    push(gates, joins(behind, so_far, negation(denied)))?;
+    Ok(())
 }
 
 /// Adds the gates of all clauses, from the variable on, and gives the literal that says that the first one and all
 /// clauses are true.
+#[tactic(auto, using(crate::proofs::Rows::count_more))]
 pub fn push_property(
     alloc: Global,
     gates: &mut Vec<Gate>,

@@ -1,5 +1,8 @@
 //! Which inputs and latches a witness circuit shares with the model.
 
+ghost use Rattle.std.specs.Prelude.{IfErr};
+ghost use Rattle.witness_circuits.specs.Pairs.{IsOther};
+
 use crate::pair_error::PairError;
 use base::{Refused, filled, filled_like};
 use graph::{AigerFile, Latch, Lit, Model, Symbol, SymbolKind};
@@ -97,7 +100,9 @@ fn kind_of(kind: SymbolKind) -> Kind {
 }
 
 /// The literal that a symbol of an input or a latch names behind an equals sign, where its name begins with one.
-fn named_by(symbol: &Symbol) -> Result<Option<Lit>, PairError> {
+fn named_by(symbol: &Symbol) -> Result<Option<Lit>, PairError>
+    ensures { IfErr result IsOther }
+{
     let [b'=', behind @ ..] = symbol.name.as_slice() else {
         return Ok(None);
     };
@@ -147,7 +152,9 @@ impl Shared {
     }
 
     /// Shares the model's literal that a symbol of the witness names, where it names one. Answers whether it does.
-    fn take_symbol(&mut self, kinds: &mut [Kind], symbol: &Symbol) -> Result<bool, PairError> {
+    fn take_symbol(&mut self, kinds: &mut [Kind], symbol: &Symbol) -> Result<bool, PairError>
+        ensures { IfErr result IsOther }
+    {
         let kind = kind_of(symbol.kind);
         if kind == Kind::Other {
             return Ok(false);
@@ -163,7 +170,9 @@ impl Shared {
     }
 
     /// Shares what the symbols name. Answers whether they name something.
-    fn take_symbols(&mut self, kinds: &mut [Kind], symbols: &[Symbol]) -> Result<bool, PairError> {
+    fn take_symbols(&mut self, kinds: &mut [Kind], symbols: &[Symbol]) -> Result<bool, PairError>
+        ensures { IfErr result IsOther }
+    {
         let mut is_named = false;
         for symbol in symbols {
             if self.take_symbol(kinds, symbol)? {
@@ -182,7 +191,9 @@ impl Shared {
     /// What a witness shares with the model: what its symbols name, by the model's literals; or, where they name nothing
     /// so, the first inputs and latches of both. Refused is the first symbol that names no input or latch of the model of
     /// its kind, or one that another one names.
-    pub fn of(alloc: Global, model: &Model, witness: &AigerFile) -> Result<Shared, PairError> {
+    pub fn of(alloc: Global, model: &Model, witness: &AigerFile) -> Result<Shared, PairError>
+        ensures { IfErr result IsOther }
+    {
         let mut shared = Shared::none(alloc, witness.model())?;
         let mut kinds = kinds_of(alloc, model)?;
         if !shared.take_symbols(kinds.as_mut_slice(), witness.symbols())? {

@@ -10,6 +10,7 @@ use graph::Lit;
 pub const MAX_VAR: usize = 4_194_303;
 
 /// How many gates say whether all clauses are true, where these are no more than so many.
+#[tactic(auto, using(crate::proofs::Rows::count_more))]
 pub fn gate_count(invariant: &Lists<Lit>, most: usize) -> Option<usize>
     requires { most ≤ 4194303 }
     ensures { MatchOption result (most < gate_count_of invariant.now) (λ n. (n ≡ gate_count_of invariant.now) × (n ≤ most)) }

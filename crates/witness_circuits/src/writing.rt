@@ -86,9 +86,9 @@ fn expect_fitting(
     let Some(left) = variables_left(max_var, latches.len(), gates.len()) else {
         return Err(MakeError::Limit);
     };
-    if gate_count(invariant, left).is_none() {
+    let Some(_count) = gate_count(invariant, left) else {
         return Err(MakeError::Limit);
-    }
+    };
     let greatest = max_var + latches.len() as u32 + gates.len() as u32;
     match first_outside(invariant, greatest) {
         Some(clause) => Err(MakeError::Outside(clause)),
@@ -118,7 +118,7 @@ fn witness_parts(
 ) -> Result<Parts, Refused>
     requires limit { size_of parts.now latches.now gates.now invariant.now ≤ 4194303 }
     requires small { All (All (λ a. a.0 + 1 < 2 ^ 32)) invariant.now }
-    requires bad { bad.0 + 1 < 2 ^ 32 }
+    requires bad { bad.0 + 2 < 2 ^ 32 }
     ensures { IfOk result (λ p. p ≡ witness_parts_of parts.now latches.now gates.now invariant.now bad) }
 {
     let first = parts.max_var + 1 + latches.len() as u32 + gates.len() as u32;
