@@ -50,6 +50,23 @@ class Circuit:
         lines += [f"{left} {a} {b}" for left, a, b in self.gates]
         return "\n".join(lines) + "\n"
 
+    def justice_text(self, wanted, fairness=()):
+        """The circuit with one justice property, of these literals."""
+        counts = (self.variables, len(self.inputs), len(self.latches), 0, len(self.gates), 0, 0, 1, len(fairness))
+        lines = ["aag " + " ".join(map(str, counts))]
+        lines += [str(literal) for literal in self.inputs]
+        lines += [f"{latch} {following} {reset}" for latch, following, reset in self.latches]
+        lines += [str(literal) for literal in (len(wanted), *wanted, *fairness)]
+        lines += [f"{left} {a} {b}" for left, a, b in self.gates]
+        return "\n".join(lines) + "\n"
+
+    def waits(self, asked, served):
+        """A literal that is set from a time on where it is asked then, and is never set again once it is served."""
+        waiting, over = self.add_latch(), self.add_latch()
+        self.set_next(waiting, self.conjunction(waiting ^ 1, asked ^ 1) ^ 1)
+        self.set_next(over, self.conjunction(over ^ 1, self.conjunction(waiting, served) ^ 1) ^ 1)
+        return self.conjunction(waiting, self.conjunction(over ^ 1, served ^ 1))
+
 
 def shift(stages):
     circuit = Circuit()
@@ -191,6 +208,75 @@ def credits(places, properties=1):
     return circuit.text(circuit.conjunction(sends, filled[-1]), *over)
 
 
+def waiting_ring(stations):
+    """A token goes on where the input allows it, again and again; wanted: somebody waits for it at the last station."""
+    circuit = Circuit()
+    moves, asked = circuit.add_input(), circuit.add_input()
+    token = [circuit.add_latch(int(k == 0)) for k in range(stations)]
+    for k, latch in enumerate(token):
+        circuit.set_next(latch, circuit.choice(moves, token[k - 1], latch))
+    return circuit.justice_text([circuit.waits(asked, token[-1])], [moves])
+
+
+def waiting_arbiter(clients):
+    """A token goes round, and stays with who asks until the input lets go, again and again; wanted: the last client waits."""
+    circuit = Circuit()
+    asks = [circuit.add_input() for _ in range(clients)]
+    busy, guessed = circuit.add_input(), circuit.add_input()
+    token = [circuit.add_latch(int(k == 0)) for k in range(clients)]
+    asking = [circuit.add_latch() for _ in range(clients)]
+    here = [circuit.conjunction(token[k], asking[k]) for k in range(clients)]
+    stays = circuit.conjunction(busy, circuit.all_of(literal ^ 1 for literal in here) ^ 1)
+    for k in range(clients):
+        circuit.set_next(token[k], circuit.choice(stays, token[k], token[k - 1]))
+        asked = circuit.conjunction(asking[k] ^ 1, asks[k] ^ 1) ^ 1
+        circuit.set_next(asking[k], circuit.conjunction(asked, circuit.conjunction(here[k], busy ^ 1) ^ 1))
+    served = circuit.conjunction(here[-1], busy ^ 1)
+    asked = circuit.conjunction(circuit.conjunction(guessed, asking[-1]), served ^ 1)
+    return circuit.justice_text([circuit.waits(asked, served)], [busy ^ 1])
+
+
+def waiting_counter(bits):
+    """A counter counts where the input allows it, again and again; wanted: somebody waits for it to be 0."""
+    circuit = Circuit()
+    counts = carry = circuit.add_input()
+    latches = [circuit.add_latch() for _ in range(bits)]
+    for latch in latches:
+        circuit.set_next(latch, circuit.exclusive_or(latch, carry))
+        carry = circuit.conjunction(carry, latch)
+    asked = circuit.add_input()
+    return circuit.justice_text([circuit.waits(asked, is_number(circuit, latches, 0))], [counts])
+
+
+def phases(count):
+    """Latches are set one after the other, each where an input of its own allows it; wanted: one is set now."""
+    circuit = Circuit()
+    allows = [circuit.add_input() for _ in range(count)]
+    latches = [circuit.add_latch() for _ in range(count)]
+    before, sets = 1, []
+    for allowed, latch in zip(allows, latches):
+        sets.append(circuit.conjunction(circuit.conjunction(allowed, before), latch ^ 1))
+        circuit.set_next(latch, circuit.conjunction(latch ^ 1, sets[-1] ^ 1) ^ 1)
+        before = latch
+    return circuit.justice_text([circuit.all_of(literal ^ 1 for literal in sets) ^ 1])
+
+
+def closed_buffer(places):
+    """A buffer is filled until it is closed, and emptied; wanted: it is closed, and something is taken."""
+    circuit = Circuit()
+    puts, takes, closes = circuit.add_input(), circuit.add_input(), circuit.add_input()
+    filled = [circuit.add_latch() for _ in range(places)]  # latch k: more than k places are filled
+    closed = circuit.add_latch()
+    circuit.set_next(closed, circuit.conjunction(closed ^ 1, closes ^ 1) ^ 1)
+    taken = circuit.conjunction(takes, filled[0])
+    put = circuit.conjunction(puts, closed ^ 1)
+    more, less = circuit.conjunction(put, taken ^ 1), circuit.conjunction(taken, put ^ 1)
+    for k, latch in enumerate(filled):
+        raised = circuit.choice(more, filled[k - 1] if k else 1, latch)
+        circuit.set_next(latch, circuit.choice(less, filled[k + 1] if k + 1 < places else 0, raised))
+    return circuit.justice_text([circuit.conjunction(closed, taken)])
+
+
 # Circuits without a violation, by their names.
 SAFE = [
     ("counter of 8 bits, back after 199", safe_counter(8, 199, 220)),
@@ -224,4 +310,13 @@ UNSAFE = [
     ("counter of 32 bits up to 60", counter(32, 60)),
     ("arbiter of 8 clients with a violation", arbiter(8)),
     ("arbiter of 64 clients with a violation", arbiter(64)),
+]
+
+# Families with a justice property that holds, with their sizes.
+JUST = [
+    ("waiting for a token, stations", waiting_ring, (4, 8, 16, 32, 64)),
+    ("waiting at an arbiter, clients", waiting_arbiter, (4, 8, 16, 24, 32)),
+    ("waiting for a counter, bits", waiting_counter, (2, 3, 4, 5, 6)),
+    ("phases, latches", phases, (4, 8, 16, 32, 64)),
+    ("a closed buffer, places", closed_buffer, (4, 8, 16, 32, 64)),
 ]

@@ -9,10 +9,10 @@ _aigmc() {
     fi
     case $before in
     --engine)
-        mapfile -t COMPREPLY < <(compgen -W 'all bmc ic3 corr random' -- "$word")
+        mapfile -t COMPREPLY < <(compgen -W 'all bmc ic3 corr rounds random' -- "$word")
         return
         ;;
-    -p | --depth | --budget | --seed | --timeout) return ;;
+    -p | --depth | --rounds | --budget | --seed | --timeout) return ;;
     --out)
         mapfile -t COMPREPLY < <(compgen -d -- "$word")
         return
@@ -24,7 +24,8 @@ _aigmc() {
     certify) options='-p --invariant --extension --cert --budget --strengthen --timeout --verbose -v --help -h' ;;
     adopt-witness) options='-p --budget --verbose -v --help -h' ;;
     recertify) options='--budget --verbose -v --help -h' ;;
-    to-safety | extract) options='-p --verbose -v --help -h' ;;
+    to-safety) options='-p --rounds --verbose -v --help -h' ;;
+    extract) options='-p --verbose -v --help -h' ;;
     witness) options='-p --clear --verbose -v --help -h' ;;
     all | equal) options='--out --engine --depth --budget --seed --timeout --quiet --json --verbose -v --help -h' ;;
     convert) options='--ascii --binary --verbose -v --help -h' ;;

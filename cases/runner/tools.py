@@ -12,7 +12,7 @@ HOSTILE = ("refused", "devices", "again", "cut")
 PRELOADING = ("refused", "devices", "again")
 
 # The tools of cases/ whose cases count each by itself.
-COUNTING = ("scripts", "library", "large", "witness_judge", "witnesses", "registers")
+COUNTING = ("scripts", "library", "large", "witness_judge", "witnesses", "registers", "justice")
 
 # The programs that a comparison with simulation needs.
 SIMULATING = ("yosys", "iverilog", "vvp")

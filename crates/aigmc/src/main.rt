@@ -94,6 +94,7 @@ use arguments::{AskedLayout, Request, Search, Wrong, parse};
 use base::push;
 use detail::tell_detail;
 use explaining::explain;
+use graph::AigerFile;
 use inputs::is_standard;
 use std::env;
 use std::process::ExitCode;
@@ -115,14 +116,19 @@ fn convert(rt: &HostRuntime, name: &str, out: &str, asked: AskedLayout) -> Resul
     Ok(DONE)
 }
 
+/// The same as `sim` of a circuit that was read.
+fn print_values(rt: &HostRuntime, file: &AigerFile, stimulus: &str) -> Result<(), Stop> {
+    let stimulus = stimulus_of(rt, stimulus)?;
+    print_table(rt, file, &stimulus)
+}
+
 /// Prints the values in the replay of a stimulus.
 fn sim(rt: &HostRuntime, name: &str, stimulus: &str) -> Result<u8, Stop> {
     if is_standard(name) && is_standard(stimulus) {
         return Err(Stop::BadArgument);
     }
     let file = circuit(rt, name)?;
-    let stimulus = stimulus_of(rt, stimulus)?;
-    print_table(rt, &file, &stimulus)?;
+    print_values(rt, &file, stimulus)?;
     Ok(DONE)
 }
 
@@ -141,8 +147,8 @@ fn compare(
         verbose: search.verbose,
     };
     let timing = begin(rt, search)?;
-    let miter = pair.made(rt)?;
     let name = pair.name(rt.alloc())?;
+    let miter = pair.made(rt)?;
     check_miter(rt, name.as_str(), &miter, pair.folder, timing)
 }
 

@@ -133,6 +133,20 @@ fn certified_clauses(
     }
 }
 
+/// Makes a certificate of version 3 of the clauses in the file that is named, over the extended circuit.
+fn keep_over(
+    rt: &HostRuntime,
+    asked: Claim<'_>,
+    property: Property,
+    circuit: &Model,
+    extended: &AigerFile,
+) -> Result<u8, Stop> {
+    let clauses = clauses_of(rt, asked.invariant, extended, property)?;
+    let claimed = claimed_over(rt, circuit, extended.model(), property, clauses)?;
+    let out = asked.certificate;
+    kept(rt, out, circuit, extended.model(), claimed, asked.budget)
+}
+
 /// Makes a certificate of version 3 of the clauses in the file that is named, over the circuit in the file of the
 /// extension's name.
 fn certified_over(
@@ -152,16 +166,7 @@ fn certified_over(
         return Err(Stop::Taken);
     }
     let extended = circuit_of(rt, extension, Role::Other)?;
-    let clauses = clauses_of(rt, asked.invariant, &extended, property)?;
-    let claimed = claimed_over(rt, file.model(), extended.model(), property, clauses)?;
-    kept(
-        rt,
-        asked.certificate,
-        file.model(),
-        extended.model(),
-        claimed,
-        asked.budget,
-    )
+    keep_over(rt, asked, property, file.model(), &extended)
 }
 
 /// Makes a certificate of the clauses in a file, in the file of that name.
@@ -176,9 +181,10 @@ pub fn certify_clauses(rt: &HostRuntime, asked: Claim<'_>) -> Result<Adopted, St
     }
     let file = circuit(rt, asked.file)?;
     let property = property_in(rt, asked.file, &file, word, asked.verbose)?;
-    let Some(extension) = asked.extension else {
-        return certified_clauses(rt, asked, property, file);
-    };
-    let status = certified_over(rt, asked, property, &file, extension)?;
-    Ok(Adopted::Ended(status))
+    match asked.extension {
+        None => certified_clauses(rt, asked, property, file),
+        Some(extension) => certified_over(rt, asked, property, &file, extension).map(
+            Adopted::Ended,
+        ),
+    }
 }

@@ -4,7 +4,7 @@ use crate::third::kept;
 use aigmc_files::{Claimed, Stop, circuit, claimed_in, is_taken};
 use arguments::Recertification;
 use certificate3::Format;
-use graph::Property;
+use graph::{Model, Property};
 use inputs::is_standard;
 
 /// Refuses a certificate of version 1 or 2 of a justice property: its clauses are over another circuit than those of
@@ -21,6 +21,17 @@ fn expect_same_circuit(rt: &HostRuntime, claimed: &Claimed) -> Result<(), Stop> 
     }
 }
 
+/// The same as `recertify` of a circuit that was read.
+fn recertify_over(
+    rt: &HostRuntime,
+    asked: Recertification<'_>,
+    circuit: &Model,
+) -> Result<u8, Stop> {
+    let (_text, claimed) = claimed_in(rt, asked.certificate)?;
+    expect_same_circuit(rt, &claimed)?;
+    kept(rt, asked.out, circuit, circuit, claimed, asked.budget)
+}
+
 /// Makes a certificate of version 3 of the claim and the clauses of a certificate, in the file of that name.
 pub fn recertify(rt: &HostRuntime, asked: Recertification<'_>) -> Result<u8, Stop> {
     if is_standard(asked.file) && is_standard(asked.certificate) {
@@ -31,7 +42,5 @@ pub fn recertify(rt: &HostRuntime, asked: Recertification<'_>) -> Result<u8, Sto
         return Err(Stop::Taken);
     }
     let file = circuit(rt, asked.file)?;
-    let (_text, claimed) = claimed_in(rt, asked.certificate)?;
-    expect_same_circuit(rt, &claimed)?;
-    kept(rt, out, file.model(), file.model(), claimed, asked.budget)
+    recertify_over(rt, asked, file.model())
 }

@@ -133,6 +133,22 @@ fn adopted_of(alloc: Global, circuit: &Model, witness: &AigerFile) -> Result<Ado
     Ok(adopted)
 }
 
+/// What the witness circuit in the file that is named adds to the circuit.
+fn adopted_in(rt: &HostRuntime, name: &str, circuit: &Model) -> Result<Adopted, Stop> {
+    let witness = circuit_of(rt, name, Role::Other)?;
+    about(Role::Other, adopted_of(rt.alloc(), circuit, &witness))
+}
+
+/// The same as `adopt_witness` of a circuit that was read.
+fn adopt_for(rt: &HostRuntime, asked: Adoption<'_>, file: &AigerFile) -> Result<u8, Stop> {
+    let property = asked_property(rt, asked, file)?;
+    if matches!(property, Property::Justice(_)) {
+        return Err(Stop::BadArgument);
+    }
+    let adopted = adopted_in(rt, asked.witness, file.model())?;
+    kept_of(rt, asked, file.model(), claimed_of(property, adopted))
+}
+
 /// Makes a certificate of version 3 of a witness circuit, in the file of that name.
 pub fn adopt_witness(rt: &HostRuntime, asked: Adoption<'_>) -> Result<u8, Stop> {
     if is_standard(asked.file) && is_standard(asked.witness) {
@@ -143,12 +159,5 @@ pub fn adopt_witness(rt: &HostRuntime, asked: Adoption<'_>) -> Result<u8, Stop> 
         return Err(Stop::Taken);
     }
     let file = circuit(rt, asked.file)?;
-    let property = asked_property(rt, asked, &file)?;
-    if matches!(property, Property::Justice(_)) {
-        return Err(Stop::BadArgument);
-    }
-    let witness = circuit_of(rt, asked.witness, Role::Other)?;
-    let adopted = about(Role::Other, adopted_of(rt.alloc(), file.model(), &witness))?;
-    let claimed = claimed_of(property, adopted);
-    kept_of(rt, asked, file.model(), claimed)
+    adopt_for(rt, asked, &file)
 }

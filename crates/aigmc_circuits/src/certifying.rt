@@ -2,8 +2,8 @@
 
 use aiger::Layout;
 use aigmc_files::{
-    DONE, Role, Stop, about, circuit, claimed_in, expect_safety, fitted_witness, is_same, make,
-    path_of, refused_text,
+    Claimed, DONE, Fitted, Role, Stop, about, circuit, claimed_in, expect_safety, fitted_witness,
+    is_same, make, path_of, refused_text,
 };
 use arguments::WitnessCircuit;
 use base::FromBytes;
@@ -61,6 +61,54 @@ fn expect_accepted(
     }
 }
 
+/// Refuses a certificate of this text that claims this, where it is of a justice property or not accepted for the circuit.
+fn expect_claim(
+    rt: &HostRuntime,
+    circuit: &Model,
+    claimed: &Claimed,
+    text: &[u8],
+) -> Result<(), Stop> {
+    expect_safety(rt, claimed.claim.property)?;
+    let accepted = expect_accepted(rt.alloc(), circuit, claimed.format, text);
+    about(Role::Invariant, accepted)
+}
+
+/// The witness circuit of what is claimed about the circuit.
+fn witness_of_claim(
+    alloc: Global,
+    circuit: &Model,
+    claimed: &Claimed,
+    layout: Layout,
+) -> Result<Fitted, Stop> {
+    fitted_witness(
+        alloc,
+        circuit,
+        claimed.claim.property,
+        claimed.latches.as_slice(),
+        claimed.gates.as_slice(),
+        &claimed.invariant,
+        layout,
+    )
+}
+
+/// The witness circuit of the certificate in the file of this name, which is accepted for the circuit.
+fn witness_in(
+    rt: &HostRuntime,
+    name: &str,
+    circuit: &Model,
+    layout: Layout,
+) -> Result<Fitted, Stop> {
+    let (text, claimed) = claimed_in(rt, name)?;
+    expect_claim(rt, circuit, &claimed, text.as_slice())?;
+    witness_of_claim(rt.alloc(), circuit, &claimed, layout)
+}
+
+/// The same of the circuit and the certificate in the files that are named.
+fn witness_of(rt: &HostRuntime, asked: WitnessCircuit<'_>, layout: Layout) -> Result<Fitted, Stop> {
+    let file = circuit(rt, asked.file)?;
+    witness_in(rt, asked.certificate, file.model(), layout)
+}
+
 /// Makes the file of that name with the witness circuit of a certificate that is accepted.
 pub fn make_witness_circuit(rt: &HostRuntime, asked: WitnessCircuit<'_>) -> Result<u8, Stop> {
     let out = asked.out;
@@ -71,22 +119,7 @@ pub fn make_witness_circuit(rt: &HostRuntime, asked: WitnessCircuit<'_>) -> Resu
     if is_same(rt, out, path_of(asked.file)) || is_same(rt, out, path_of(asked.certificate)) {
         return Err(Stop::Taken);
     }
-    let alloc = rt.alloc();
-    let file = circuit(rt, asked.file)?;
-    let model = file.model();
-    let (text, claimed) = claimed_in(rt, asked.certificate)?;
-    expect_safety(rt, claimed.claim.property)?;
-    let accepted = expect_accepted(alloc, model, claimed.format, text.as_slice());
-    about(Role::Invariant, accepted)?;
-    let fitted = fitted_witness(
-        alloc,
-        model,
-        claimed.claim.property,
-        claimed.latches.as_slice(),
-        claimed.gates.as_slice(),
-        &claimed.invariant,
-        layout,
-    )?;
+    let fitted = witness_of(rt, asked, layout)?;
     make(rt, out, &fitted.file, layout)?;
     Ok(DONE)
 }

@@ -67,13 +67,28 @@ impl Pair<'_> {
         Err(Stop::Told)
     }
 
+    /// The miter of two circuits.
+    fn miter_of(
+        self,
+        rt: &HostRuntime,
+        one: &AigerFile,
+        other: &AigerFile,
+    ) -> Result<AigerFile, Stop> {
+        self.expect_comparable(rt, one.model(), other.model())?;
+        let miter = miter_of(rt.alloc(), one, other)?;
+        Ok(miter)
+    }
+
+    /// The miter of a circuit and that in the other file.
+    fn miter_with(self, rt: &HostRuntime, one: &AigerFile) -> Result<AigerFile, Stop> {
+        let other = circuit_of(rt, self.other, Role::Other)?;
+        self.miter_of(rt, one, &other)
+    }
+
     /// The miter of the circuits in the two files.
     fn miter(self, rt: &HostRuntime) -> Result<AigerFile, Stop> {
         let one = circuit(rt, self.one)?;
-        let other = circuit_of(rt, self.other, Role::Other)?;
-        self.expect_comparable(rt, one.model(), other.model())?;
-        let miter = miter_of(rt.alloc(), &one, &other)?;
-        Ok(miter)
+        self.miter_with(rt, &one)
     }
 
     /// Refuses a file to make that is read, or that standard output goes to.

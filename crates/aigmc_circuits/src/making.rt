@@ -9,7 +9,7 @@ use arguments::{Extraction, Shadow};
 use graph::{AigerFile, Property};
 use property_names::Asked;
 use std::alloc::Global;
-use transforms::{extracted, shadow_file};
+use transforms::{extracted, rounds_file, shadow_file};
 
 /// Makes the file of that name, in its layout.
 pub fn make_fitting(
@@ -30,7 +30,40 @@ fn is_of_justice(asked: Asked<'_>) -> bool {
     )
 }
 
-/// Makes the file of that name with the shadow circuit of a justice property.
+/// The shadow circuit of the justice property at the position, or the one that counts so many rounds of it.
+fn safety_file(
+    alloc: Global,
+    file: &AigerFile,
+    position: u32,
+    rounds: Option<u32>,
+) -> Result<AigerFile, Stop> {
+    let made = match rounds {
+        Some(rounds) => rounds_file(alloc, file, position, rounds),
+        None => shadow_file(alloc, file, position),
+    };
+    about(Role::Circuit, made.map_err(Stop::from))
+}
+
+/// What is asked for of the circuit.
+fn shadow_in(
+    rt: &HostRuntime,
+    asked: Shadow<'_>,
+    word: Asked<'_>,
+    file: &AigerFile,
+) -> Result<AigerFile, Stop> {
+    match property_in(rt, asked.file, file, word, asked.verbose)? {
+        Property::Justice(position) => safety_file(rt.alloc(), file, position, asked.rounds),
+        _ => Err(Stop::BadArgument),
+    }
+}
+
+/// What is asked for of the circuit in the file that is named.
+fn shadow_of(rt: &HostRuntime, asked: Shadow<'_>, word: Asked<'_>) -> Result<AigerFile, Stop> {
+    let file = circuit(rt, asked.file)?;
+    shadow_in(rt, asked, word, &file)
+}
+
+/// Makes the file of that name with the shadow circuit of a justice property, or with the one that counts its rounds.
 pub fn make_shadow(rt: &HostRuntime, asked: Shadow<'_>) -> Result<u8, Stop> {
     let word = asked_for(asked.property)?;
     let out = asked.out;
@@ -41,14 +74,8 @@ pub fn make_shadow(rt: &HostRuntime, asked: Shadow<'_>) -> Result<u8, Stop> {
     if is_same(rt, out, path_of(asked.file)) {
         return Err(Stop::Taken);
     }
-    let file = circuit(rt, asked.file)?;
-    let property = property_in(rt, asked.file, &file, word, asked.verbose)?;
-    let Property::Justice(position) = property else {
-        return Err(Stop::BadArgument);
-    };
-    let shadow = shadow_file(rt.alloc(), &file, position).map_err(Stop::from);
-    let shadow = about(Role::Circuit, shadow)?;
-    make_fitting(rt, out, shadow, layout)?;
+    let made = shadow_of(rt, asked, word)?;
+    make_fitting(rt, out, made, layout)?;
     Ok(DONE)
 }
 
@@ -59,6 +86,25 @@ fn part_of(alloc: Global, file: &AigerFile, property: Property) -> Result<AigerF
         Err(stop) => Err(fault_of(alloc, file.model(), property, stop)),
         part => part,
     }
+}
+
+/// The circuit of the property that is asked for, which is no justice property.
+fn part_asked(
+    rt: &HostRuntime,
+    asked: Extraction<'_>,
+    word: Asked<'_>,
+    file: &AigerFile,
+) -> Result<AigerFile, Stop> {
+    match property_in(rt, asked.file, file, word, asked.verbose)? {
+        Property::Justice(_) => Err(Stop::BadArgument),
+        property => part_of(rt.alloc(), file, property),
+    }
+}
+
+/// The same of the circuit in the file that is named.
+fn part_in(rt: &HostRuntime, asked: Extraction<'_>, word: Asked<'_>) -> Result<AigerFile, Stop> {
+    let file = circuit(rt, asked.file)?;
+    part_asked(rt, asked, word, &file)
 }
 
 /// Makes the file of that name with the circuit of a property, which is no justice property.
@@ -72,12 +118,7 @@ pub fn extract(rt: &HostRuntime, asked: Extraction<'_>) -> Result<u8, Stop> {
     if is_same(rt, out, path_of(asked.file)) {
         return Err(Stop::Taken);
     }
-    let file = circuit(rt, asked.file)?;
-    let property = property_in(rt, asked.file, &file, word, asked.verbose)?;
-    if matches!(property, Property::Justice(_)) {
-        return Err(Stop::BadArgument);
-    }
-    let part = part_of(rt.alloc(), &file, property)?;
+    let part = part_in(rt, asked, word)?;
     make_fitting(rt, out, part, layout)?;
     Ok(DONE)
 }

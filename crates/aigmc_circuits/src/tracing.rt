@@ -1,11 +1,27 @@
 //! The command `trace`.
 
 use aigmc_files::{DONE, Stop, circuit, is_same, make_waveform, path_of, print_trace, shown_of};
+use graph::AigerFile;
 use inputs::is_standard;
 
 /// Whether the file to make is the one that is read by that name.
 fn is_read(rt: &HostRuntime, out: &str, name: &str) -> bool {
     !is_standard(out) && is_same(rt, out, path_of(name))
+}
+
+/// The same as `trace` of a circuit that was read.
+fn trace_in(
+    rt: &HostRuntime,
+    file: &AigerFile,
+    stimulus: &str,
+    all: bool,
+    waveform: Option<&str>,
+) -> Result<(), Stop> {
+    let shown = shown_of(rt, stimulus, file.model())?;
+    match waveform {
+        None => print_trace(rt, file, &shown, all),
+        Some(out) => make_waveform(rt, out, file, &shown, all),
+    }
 }
 
 /// Prints the trace of a stimulus, or of a text that leaves values open, by the names of the signals, or makes the file of
@@ -24,10 +40,6 @@ pub fn trace(
         return Err(Stop::Taken);
     }
     let file = circuit(rt, name)?;
-    let shown = shown_of(rt, stimulus, file.model())?;
-    match waveform {
-        None => print_trace(rt, &file, &shown, all)?,
-        Some(out) => make_waveform(rt, out, &file, &shown, all)?,
-    }
+    trace_in(rt, &file, stimulus, all, waveform)?;
     Ok(DONE)
 }

@@ -1,16 +1,22 @@
--- What JSON says of a verdict.
+-- What JSON says of a conclusion.
 use Rattle.std.specs.Prelude.{ℕ, List, codes}
-use Rattle.verdict.specs.declared.verdict.Verdict.{Verdict}
 use Rattle.verdict.specs.declared.verdict.Verdict.TheVariants.{Safe, Unsafe, Unknown}
+use Rattle.rounds.specs.declared.counted.Counted.TheVariants as counted
+use Rattle.portfolio.specs.declared.conclusion.Conclusion.{Conclusion}
+use Rattle.portfolio.specs.declared.conclusion.Conclusion.TheVariants.{Decided, Counted}
 
 -- the word for what was found
-abbrev pub verdict_word : Verdict → List ℕ
-verdict_word (Safe certificate) = codes "holds"
-verdict_word (Unsafe stimulus) = codes "violated"
-verdict_word (Unknown reason) = codes "unknown"
+abbrev pub verdict_word : Conclusion → List ℕ
+verdict_word (Decided (Safe certificate)) = codes "holds"
+verdict_word (Decided (Unsafe stimulus)) = codes "violated"
+verdict_word (Decided (Unknown reason)) = codes "unknown"
+verdict_word (Counted (counted.Bounded rounds text)) = codes "holds"
+verdict_word (Counted (counted.Unknown cause held)) = codes "unknown"
 
--- whether the evidence was judged: a run was replayed, and no certificate was checked
-abbrev pub checked_word : Verdict → List ℕ
-checked_word (Safe certificate) = codes "null"
-checked_word (Unsafe stimulus) = codes "true"
-checked_word (Unknown reason) = codes "null"
+-- whether the evidence was judged: a run was replayed, and no certificate was checked but that of counted rounds
+abbrev pub checked_word : Conclusion → List ℕ
+checked_word (Decided (Safe certificate)) = codes "null"
+checked_word (Decided (Unsafe stimulus)) = codes "true"
+checked_word (Decided (Unknown reason)) = codes "null"
+checked_word (Counted (counted.Bounded rounds text)) = codes "true"
+checked_word (Counted (counted.Unknown cause held)) = codes "null"

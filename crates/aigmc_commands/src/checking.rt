@@ -1,7 +1,7 @@
 //! The commands `check` and `all`.
 
 ghost use Rattle.std.specs.Prelude.{◌≡◌, ◌≢◌, ◌<◌, ◌≤◌, ◌⊎◌, IfOk, length};
-ghost use Rattle.verdict.specs.Verdicts.{status_of as wanted_status};
+ghost use Rattle.portfolio.specs.Conclusions.{status_in};
 
 use crate::showing::Found;
 use crate::timing::{ask, begin, is_vacuous, now};
@@ -14,8 +14,10 @@ use arguments::{Kept, Search};
 use base::Seq;
 use engine::Counter;
 use graph::{AigerFile, Lit, Model, Property};
-use portfolio::{Answered, Question, Timing};
+use portfolio::{Answered, Conclusion, Question, Timing};
 use properties::{Evidence, all_properties, evidence_name};
+use property_names::Asked;
+use rounds::Counted;
 use std::alloc::Global;
 use std::time::Instant;
 use transforms::relevant_clauses;
@@ -59,17 +61,17 @@ impl<'a> Whole<'a> {
     fn found(
         self,
         property: Property,
-        verdict: &'a Verdict,
+        conclusion: &'a Conclusion,
         evidence: Option<EvidenceFile<'a>>,
         spent: Spent<'a>,
     ) -> Found<'a>
-        ensures { result.verdict.now ≡ verdict.now }
+        ensures { result.conclusion.now ≡ conclusion.now }
     {
         Found {
             name: self.name,
             file: self.file,
             property,
-            verdict,
+            conclusion,
             evidence,
             search: self.timing.search,
             begun: spent.begun,
@@ -81,36 +83,31 @@ impl<'a> Whole<'a> {
     }
 }
 
-/// The file to make of a certificate or of its witness circuit, where there is one and a file is named.
-fn file_in<'a>(
-    verdict: &Verdict,
-    kept: Kept<'a>,
-    witness: Option<&'a Fitted>,
-) -> Option<EvidenceFile<'a>> {
-    match (verdict, kept) {
-        (Verdict::Safe(_), Kept::Certificate(name) | Kept::Witness(name)) => {
-            Some(EvidenceFile { name, witness })
-        }
-        _ => None,
+/// Which evidence there is.
+fn evidence_of(conclusion: &Conclusion) -> Option<Evidence> {
+    match conclusion {
+        Conclusion::Decided(Verdict::Safe(_)) => Some(Evidence::Certificate),
+        Conclusion::Decided(Verdict::Unsafe(_)) => Some(Evidence::Stimulus),
+        Conclusion::Decided(Verdict::Unknown(_)) => None,
+        Conclusion::Counted(Counted::Bounded { .. }) => Some(Evidence::Certificate),
+        Conclusion::Counted(Counted::Unknown { .. }) => None,
     }
 }
 
-/// The witness circuit of a property that holds, where one is asked for.
+/// The witness circuit of a property that holds, as the file of that name takes it.
 fn witness_of(
     alloc: Global,
     circuit: &Model,
     property: Property,
-    verdict: &Verdict,
-    kept: Kept<'_>,
+    conclusion: &Conclusion,
+    out: &str,
 ) -> Result<Option<Fitted>, Stop> {
-    match (verdict, kept) {
-        (Verdict::Safe(certificate), Kept::Witness(out)) => {
-            let clauses = certificate.invariant.as_slice();
-            let witness = witness_in(alloc, circuit, property, clauses, out)?;
-            Ok(Some(witness))
-        }
-        _ => Ok(None),
-    }
+    let Conclusion::Decided(Verdict::Safe(certificate)) = conclusion else {
+        return Ok(None);
+    };
+    let clauses = certificate.invariant.as_slice();
+    let witness = witness_in(alloc, circuit, property, clauses, out)?;
+    Ok(Some(witness))
 }
 
 /// Prints what was found by a search of this length. Its evidence goes to the file first, where there is to be one.
@@ -118,23 +115,70 @@ fn show<'a>(
     rt: &HostRuntime,
     whole: Whole<'a>,
     property: Property,
-    verdict: &'a Verdict,
+    conclusion: &'a Conclusion,
     evidence: Option<EvidenceFile<'a>>,
     spent: Spent<'a>,
 ) -> Result<u8, Stop>
-    ensures { IfOk result (λ status. status ≡ wanted_status verdict.now) }
+    ensures { IfOk result (λ status. status ≡ status_in conclusion.now) }
 {
-    whole.found(property, verdict, evidence, spent).show(rt)
+    whole.found(property, conclusion, evidence, spent).show(rt)
+}
+
+/// Prints what was found by a search of this length. The witness circuit of a property that holds goes to the file of that
+/// name first.
+fn show_witness(
+    rt: &HostRuntime,
+    whole: Whole<'_>,
+    property: Property,
+    conclusion: &Conclusion,
+    out: &str,
+    spent: Spent<'_>,
+) -> Result<u8, Stop>
+    ensures { IfOk result (λ status. status ≡ status_in conclusion.now) }
+{
+    match witness_of(rt.alloc(), whole.file.model(), property, conclusion, out)? {
+        Some(witness) => {
+            let to = EvidenceFile {
+                name: out,
+                witness: Some(&witness),
+            };
+            show(rt, whole, property, conclusion, Some(to), spent)
+        }
+        None => show(rt, whole, property, conclusion, None, spent),
+    }
+}
+
+/// Prints what was found by a search that began then. A certificate or its witness circuit goes to the file of that name
+/// first, where one is named, or evidence to the folder.
+fn keep_and_show(
+    rt: &HostRuntime,
+    whole: Whole<'_>,
+    property: Property,
+    kept: Kept<'_>,
+    answered: &Answered,
+    begun: Option<Instant>,
+) -> Result<u8, Stop>
+    ensures { IfOk result (λ status. status ≡ status_in answered.now.conclusion) }
+{
+    let (conclusion, spent) = (&answered.conclusion, Spent::by(answered, begun));
+    match (evidence_of(conclusion), kept) {
+        (Some(Evidence::Certificate), Kept::Certificate(out)) => {
+            let to = EvidenceFile::plain(out);
+            show(rt, whole, property, conclusion, Some(to), spent)
+        }
+        (_, Kept::Witness(out)) => show_witness(rt, whole, property, conclusion, out, spent),
+        _ => keep_in_and_print(rt, whole, property, conclusion, spent),
+    }
 }
 
 /// Looks for evidence about the property of the circuit, and prints the verdict. A certificate or its witness circuit goes
 /// to the file of that name first, where one is named, or evidence to the folder.
-fn check_in<'a>(
+fn check_in(
     rt: &HostRuntime,
-    name: &'a str,
-    file: &'a AigerFile,
+    name: &str,
+    file: &AigerFile,
     property: Property,
-    kept: Kept<'a>,
+    kept: Kept<'_>,
     timing: Timing,
 ) -> Result<u8, Stop> {
     let whole = Whole {
@@ -145,21 +189,13 @@ fn check_in<'a>(
         is_vacuous: is_vacuous(rt, timing, file.model())?,
     };
     let begun = now(rt, timing);
-    let candidates = Seq::new(rt.alloc());
     let question = Question {
         circuit: file.model(),
         property,
         timing,
     };
-    match about(Role::Circuit, ask(rt, question, candidates)) {
-        Ok(answered) => {
-            let (verdict, spent) = (&answered.verdict, Spent::by(&answered, begun));
-            let witness = witness_of(rt.alloc(), file.model(), property, verdict, kept)?;
-            match file_in(verdict, kept, witness.as_ref()) {
-                Some(to) => show(rt, whole, property, verdict, Some(to), spent),
-                None => keep_in_and_print(rt, whole, property, verdict, spent),
-            }
-        }
+    match about(Role::Circuit, ask(rt, question, Seq::new(rt.alloc()))) {
+        Ok(answered) => keep_and_show(rt, whole, property, kept, &answered, begun),
         Err(stop) => Err(fault_of(rt.alloc(), file.model(), property, stop)),
     }
 }
@@ -175,6 +211,22 @@ fn expect_place(rt: &HostRuntime, name: &str, kept: Kept<'_>) -> Result<(), Stop
     }
 }
 
+/// The same as `check` of a circuit that was read.
+fn check_file(
+    rt: &HostRuntime,
+    name: &str,
+    file: &AigerFile,
+    asked: Asked<'_>,
+    kept: Kept<'_>,
+    timing: Timing,
+) -> Result<u8, Stop> {
+    let property = property_in(rt, name, file, asked, timing.search.verbose)?;
+    if matches!(kept, Kept::Witness(_)) {
+        expect_safety(rt, property)?;
+    }
+    check_in(rt, name, file, property, kept, timing)
+}
+
 /// Looks for evidence about the property of this name, and prints the verdict. A certificate or its witness circuit goes to
 /// the file of that name first, where one is named, or evidence to the folder.
 pub fn check(
@@ -188,11 +240,7 @@ pub fn check(
     let asked = asked_for(property)?;
     expect_place(rt, name, kept)?;
     let file = circuit(rt, name)?;
-    let property = property_in(rt, name, &file, asked, search.verbose)?;
-    if matches!(kept, Kept::Witness(_)) {
-        expect_safety(rt, property)?;
-    }
-    check_in(rt, name, &file, property, kept, timing)
+    check_file(rt, name, &file, asked, kept, timing)
 }
 
 /// The file of the folder to make of the verdict's evidence, where it has some and a folder is named.
@@ -200,15 +248,13 @@ fn evidence_in(
     rt: &HostRuntime,
     whole: Whole<'_>,
     property: Property,
-    verdict: &Verdict,
+    conclusion: &Conclusion,
 ) -> Result<Option<String>, Stop> {
     let Some(folder) = whole.folder else {
         return Ok(None);
     };
-    let evidence = match verdict {
-        Verdict::Safe(_) => Evidence::Certificate,
-        Verdict::Unsafe(_) => Evidence::Stimulus,
-        Verdict::Unknown(_) => return Ok(None),
+    let Some(evidence) = evidence_of(conclusion) else {
+        return Ok(None);
     };
     let Ok(out) = evidence_name(rt.alloc(), folder, property, evidence) else {
         return Err(Stop::Memory);
@@ -224,17 +270,17 @@ fn keep_in_and_print(
     rt: &HostRuntime,
     whole: Whole<'_>,
     property: Property,
-    verdict: &Verdict,
+    conclusion: &Conclusion,
     spent: Spent<'_>,
 ) -> Result<u8, Stop>
-    ensures { IfOk result (λ status. status ≡ wanted_status verdict.now) }
+    ensures { IfOk result (λ status. status ≡ status_in conclusion.now) }
 {
-    match evidence_in(rt, whole, property, verdict)? {
+    match evidence_in(rt, whole, property, conclusion)? {
         Some(out) => {
             let to = EvidenceFile::plain(out.as_str());
-            show(rt, whole, property, verdict, Some(to), spent)
+            show(rt, whole, property, conclusion, Some(to), spent)
         }
-        None => show(rt, whole, property, verdict, None, spent),
+        None => show(rt, whole, property, conclusion, None, spent),
     }
 }
 
@@ -263,7 +309,7 @@ pub fn check_miter<'a>(
     };
     let answered = ask(rt, question, Seq::new(rt.alloc()))?;
     let spent = Spent::by(&answered, begun);
-    keep_in_and_print(rt, whole, property, &answered.verdict, spent)
+    keep_in_and_print(rt, whole, property, &answered.conclusion, spent)
 }
 
 /// The status of `all` before the first verdict: that of an unknown where there is no property.
@@ -287,12 +333,32 @@ fn joined(one: u8, other: u8) -> u8
 }
 
 /// The clauses of the certificate, where it is of the circuit itself and not of a shadow circuit.
-fn clauses_of(property: Property, verdict: Verdict) -> Option<Seq<Seq<Lit>>> {
-    match (property, verdict) {
+fn clauses_of(property: Property, conclusion: Conclusion) -> Option<Seq<Seq<Lit>>> {
+    match (property, conclusion) {
         (Property::Justice(_), _) => None,
-        (_, Verdict::Safe(certificate)) => Some(certificate.invariant),
+        (_, Conclusion::Decided(Verdict::Safe(certificate))) => Some(certificate.invariant),
         _ => None,
     }
+}
+
+/// Prints what was found by a search that began then. Evidence goes to the folder first, where one is named. The clauses of
+/// a certificate of the circuit take the place of those before.
+fn keep_next(
+    rt: &HostRuntime,
+    whole: Whole<'_>,
+    property: Property,
+    answered: Answered,
+    begun: Option<Instant>,
+    clauses: &mut Seq<Seq<Lit>>,
+) -> Result<u8, Stop>
+    ensures { IfOk result (λ status. status ≡ status_in answered.conclusion) }
+{
+    let spent = Spent::by(&answered, begun);
+    let status = keep_in_and_print(rt, whole, property, &answered.conclusion, spent)?;
+    if let Some(found) = clauses_of(property, answered.conclusion) {
+        *clauses = found;
+    }
+    Ok(status)
 }
 
 /// Looks for evidence about one of the circuit's properties, beginning with those of the clauses that may matter
@@ -313,12 +379,41 @@ fn check_next(
         timing: whole.timing,
     };
     let answered = about(Role::Circuit, ask(rt, question, candidates))?;
-    let spent = Spent::by(&answered, begun);
-    let status = keep_in_and_print(rt, whole, property, &answered.verdict, spent)?;
-    if let Some(found) = clauses_of(property, answered.verdict) {
-        *clauses = found;
+    keep_next(rt, whole, property, answered, begun, clauses)
+}
+
+/// Looks for evidence about each of these properties in turn, and answers the status of all. Where there are none,
+/// standard error says so.
+fn check_each(rt: &HostRuntime, whole: Whole<'_>, properties: &[Property]) -> Result<u8, Stop> {
+    let mut clauses = Seq::new(rt.alloc());
+    let mut status = first_status(properties);
+    if properties.is_empty() {
+        let _ = eprintln!(rt; "aigmc: the circuit has no property");
+    }
+    for property in properties {
+        let found = check_next(rt, whole, *property, &mut clauses)?;
+        status = joined(status, found);
     }
     Ok(status)
+}
+
+/// The same as `check_all` of a circuit that was read.
+fn check_all_in(
+    rt: &HostRuntime,
+    name: &str,
+    file: &AigerFile,
+    folder: Option<&str>,
+    timing: Timing,
+) -> Result<u8, Stop> {
+    let whole = Whole {
+        name,
+        file,
+        folder,
+        timing,
+        is_vacuous: is_vacuous(rt, timing, file.model())?,
+    };
+    let properties = all_properties(rt.alloc(), file.model()).map_err(CommandError::from)?;
+    check_each(rt, whole, properties.as_slice())
 }
 
 /// Looks for evidence about each property of the circuit in turn, and prints each verdict as it comes.
@@ -336,22 +431,5 @@ pub fn check_all(
         at(Role::Made, expect_folder(rt, folder))?;
     }
     let file = circuit(rt, name)?;
-    let whole = Whole {
-        name,
-        file: &file,
-        folder,
-        timing,
-        is_vacuous: is_vacuous(rt, timing, file.model())?,
-    };
-    let properties = all_properties(rt.alloc(), file.model()).map_err(CommandError::from)?;
-    let mut clauses = Seq::new(rt.alloc());
-    let mut status = first_status(properties.as_slice());
-    if properties.is_empty() {
-        let _ = eprintln!(rt; "aigmc: the circuit has no property");
-    }
-    for property in properties {
-        let found = check_next(rt, whole, property, &mut clauses)?;
-        status = joined(status, found);
-    }
-    Ok(status)
+    check_all_in(rt, name, &file, folder, timing)
 }

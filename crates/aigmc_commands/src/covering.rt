@@ -7,7 +7,7 @@ use arguments::Search;
 use base::Seq;
 use engine::Reason;
 use graph::{Model, Property};
-use portfolio::Question;
+use portfolio::{Question, Timing};
 use stimulus::Stimulus;
 use transforms::{bad_behind, no_bad};
 use verdict::Verdict;
@@ -46,29 +46,40 @@ fn tell_unknown(rt: &HostRuntime, reason: Reason, is_over: bool) -> u8 {
     UNKNOWN
 }
 
-/// Prints a run of the circuit in the file of this name that keeps the constraints, as long as the search is deep.
-pub fn cover(rt: &HostRuntime, name: &str, search: Search) -> Result<u8, Stop> {
-    let timing = begin(rt, search)?;
-    let file = circuit(rt, name)?;
-    let made = bad_behind(rt.alloc(), file.model(), search.depth).map_err(Stop::from);
+/// What is known of the bad literal that is set behind so many steps.
+fn verdict_behind(rt: &HostRuntime, circuit: &Model, timing: Timing) -> Result<Verdict, Stop> {
+    let made = bad_behind(rt.alloc(), circuit, timing.search.depth).map_err(Stop::from);
     let made = about(Role::Circuit, made)?;
     let question = Question {
         circuit: made.model(),
         property: Property::Bad(0),
         timing,
     };
-    let verdict = about(Role::Circuit, ask(rt, question, Seq::new(rt.alloc())))?.verdict;
-    match verdict {
+    let answered = about(Role::Circuit, ask(rt, question, Seq::new(rt.alloc())))?;
+    Ok(answered.conclusion.into_verdict())
+}
+
+/// Prints a run of the circuit that keeps the constraints, as long as the search is deep.
+fn cover_in(rt: &HostRuntime, circuit: &Model, timing: Timing) -> Result<u8, Stop> {
+    let depth = timing.search.depth;
+    match verdict_behind(rt, circuit, timing)? {
         Verdict::Unsafe(
             Stimulus::Violated {
                 initial,
                 inputs,
                 ..
             },
-        ) => print_run(rt, file.model(), initial, inputs),
-        Verdict::Safe(_) => Ok(tell_none(rt, search.depth)),
-        Verdict::Unknown(Reason::Depth(_)) => Ok(tell_none(rt, search.depth)),
+        ) => print_run(rt, circuit, initial, inputs),
+        Verdict::Safe(_) => Ok(tell_none(rt, depth)),
+        Verdict::Unknown(Reason::Depth(_)) => Ok(tell_none(rt, depth)),
         Verdict::Unknown(reason) => Ok(tell_unknown(rt, reason, timing.deadline.is_over())),
         Verdict::Unsafe(_) => Ok(tell_unknown(rt, Reason::NoEvidence, false)),
     }
+}
+
+/// Prints a run of the circuit in the file of this name that keeps the constraints, as long as the search is deep.
+pub fn cover(rt: &HostRuntime, name: &str, search: Search) -> Result<u8, Stop> {
+    let timing = begin(rt, search)?;
+    let file = circuit(rt, name)?;
+    cover_in(rt, file.model(), timing)
 }

@@ -1,15 +1,20 @@
 //! How a verdict is kept and printed.
 
 ghost use Rattle.std.specs.Prelude.{◌≡◌, IfOk};
-ghost use Rattle.verdict.specs.Verdicts.{status_of as wanted_status};
+ghost use Rattle.portfolio.specs.Conclusions.{status_in};
 ghost use Rattle.aigmc_commands.specs.Words.{checked_word, verdict_word};
 
-use crate::telling::{Why, conclude, tell_counters};
-use aigmc_files::{EvidenceFile, Stop, finished, keep, keep_and_print, print_alone, status_of};
+use crate::telling::{CountedWhy, Why, conclude, tell_counters};
+use aigmc_files::{
+    DONE, EvidenceFile, Stop, UNKNOWN, finished, keep, keep_and_print, make_bytes, print_alone,
+    print_status, status_of,
+};
 use arguments::Search;
 use engine::Counter;
 use graph::{AigerFile, Property};
+use portfolio::Conclusion;
 use property_names::{Line, symbol_of};
+use rounds::Counted;
 use std::fmt;
 use std::time::{Duration, Instant};
 use verdict::Verdict;
@@ -24,7 +29,7 @@ pub struct Found<'a> {
     /// the property
     pub property: Property,
     /// what was found of it
-    pub verdict: &'a Verdict,
+    pub conclusion: &'a Conclusion,
     /// the file to make of the evidence, where there is to be one
     pub evidence: Option<EvidenceFile<'a>>,
     /// how the search was to go
@@ -42,24 +47,39 @@ pub struct Found<'a> {
 }
 
 /// Whether the judge accepted the evidence before the verdict was given, or nothing where none was asked: `verdict::decide` has each
-/// run replayed, and no certificate that it makes.
-fn checked(verdict: &Verdict) -> &'static str
-    ensures { result.now ≡ checked_word verdict.now }
+/// run replayed, and no certificate that it makes; of counted rounds the certificate is judged.
+fn checked(conclusion: &Conclusion) -> &'static str
+    ensures { result.now ≡ checked_word conclusion.now }
 {
-    match verdict {
-        Verdict::Unsafe(_) => "true",
-        Verdict::Safe(_) | Verdict::Unknown(_) => "null",
+    match conclusion {
+        Conclusion::Decided(Verdict::Unsafe(_)) => "true",
+        Conclusion::Decided(Verdict::Safe(_) | Verdict::Unknown(_)) => "null",
+        Conclusion::Counted(Counted::Bounded { .. }) => "true",
+        Conclusion::Counted(Counted::Unknown { .. }) => "null",
     }
 }
 
 /// The word for what was found.
-fn word_of(verdict: &Verdict) -> &'static str
-    ensures { result.now ≡ verdict_word verdict.now }
+fn word_of(conclusion: &Conclusion) -> &'static str
+    ensures { result.now ≡ verdict_word conclusion.now }
 {
-    match verdict {
-        Verdict::Safe(_) => "holds",
-        Verdict::Unsafe(_) => "violated",
-        Verdict::Unknown(_) => "unknown",
+    match conclusion {
+        Conclusion::Decided(Verdict::Safe(_)) => "holds",
+        Conclusion::Decided(Verdict::Unsafe(_)) => "violated",
+        Conclusion::Decided(Verdict::Unknown(_)) => "unknown",
+        Conclusion::Counted(Counted::Bounded { .. }) => "holds",
+        Conclusion::Counted(Counted::Unknown { .. }) => "unknown",
+    }
+}
+
+/// The status of what was found.
+fn status_for(conclusion: &Conclusion) -> u8
+    ensures { result ≡ status_in conclusion.now }
+{
+    match conclusion {
+        Conclusion::Decided(verdict) => status_of(verdict),
+        Conclusion::Counted(Counted::Bounded { .. }) => DONE,
+        Conclusion::Counted(Counted::Unknown { .. }) => UNKNOWN,
     }
 }
 
@@ -91,22 +111,32 @@ impl Found<'_> {
 
     /// Prints what JSON says of it, and answers its status. It takes no memory.
     fn print_line(self, rt: &HostRuntime) -> Result<u8, Stop>
-        ensures { IfOk result (λ status. status ≡ wanted_status self.entry.verdict.now) }
+        ensures { IfOk result (λ status. status ≡ status_in self.entry.conclusion.now) }
     {
         let line = Line {
             file: self.name,
             property: self.property,
             symbol: symbol_of(self.file, self.property),
-            verdict: word_of(self.verdict),
+            verdict: word_of(self.conclusion),
             evidence: self.evidence.map(|to| to.name),
             time: self.time(rt),
         };
-        let (checked, steps, is_vacuous) = (checked(self.verdict), self.steps, self.is_vacuous);
+        let (checked, steps, is_vacuous) = (checked(self.conclusion), self.steps, self.is_vacuous);
         let statistics = Statistics(self.counters);
-        let printed = match self.verdict {
-            Verdict::Unknown(reason) => {
+        let printed = match self.conclusion {
+            Conclusion::Decided(Verdict::Unknown(reason)) => {
                 let why = Why {
                     reason: *reason,
+                    is_over: self.is_over,
+                };
+                println!(rt;
+                    "{line},\"checked\":{checked},\"steps\":{steps},\"reason\":\"{why}\",\"vacuous\":{is_vacuous},\"statistics\":{statistics}}}"
+                )
+            }
+            Conclusion::Counted(Counted::Unknown { cause, held }) => {
+                let why = CountedWhy {
+                    cause: *cause,
+                    held: *held,
                     is_over: self.is_over,
                 };
                 println!(rt;
@@ -118,38 +148,68 @@ impl Found<'_> {
             ),
         };
         finished(printed)?;
-        Ok(status_of(self.verdict))
+        Ok(status_for(self.conclusion))
+    }
+
+    /// Makes the file of the evidence, where one is named.
+    fn keep(self, rt: &HostRuntime) -> Result<(), Stop> {
+        let Some(to) = self.evidence else {
+            return Ok(());
+        };
+        match self.conclusion {
+            Conclusion::Decided(verdict) => keep(rt, to, self.property, verdict),
+            Conclusion::Counted(Counted::Bounded { certificate, .. }) => {
+                make_bytes(rt, to.name, certificate.as_slice())
+            }
+            Conclusion::Counted(Counted::Unknown { .. }) => Ok(()),
+        }
+    }
+
+    /// Prints the verdict without a run. It takes no memory.
+    fn print_short(self, rt: &HostRuntime) -> Result<u8, Stop>
+        ensures { IfOk result (λ status. status ≡ status_in self.entry.conclusion.now) }
+    {
+        match self.conclusion {
+            Conclusion::Decided(verdict) => print_alone(rt, self.property, verdict),
+            Conclusion::Counted(_) => print_status(rt, self.property, status_for(self.conclusion)),
+        }
     }
 
     /// Makes the file of the evidence, where there is to be one, and prints the verdict alone or as JSON. Once there is that
     /// file, nothing takes memory.
     fn keep_and_print_short(self, rt: &HostRuntime) -> Result<u8, Stop>
-        ensures { IfOk result (λ status. status ≡ wanted_status self.entry.verdict.now) }
+        ensures { IfOk result (λ status. status ≡ status_in self.entry.conclusion.now) }
     {
-        if let Some(to) = self.evidence {
-            keep(rt, to, self.property, self.verdict)?;
-        }
+        self.keep(rt)?;
         if self.search.json {
             self.print_line(rt)
         } else {
-            print_alone(rt, self.property, self.verdict)
+            self.print_short(rt)
+        }
+    }
+
+    /// Makes the file of the evidence, where one is named, and prints the verdict as it is asked for.
+    fn keep_and_print(self, rt: &HostRuntime) -> Result<u8, Stop>
+        ensures { IfOk result (λ status. status ≡ status_in self.entry.conclusion.now) }
+    {
+        match self.conclusion {
+            Conclusion::Decided(verdict) if !self.search.json && !self.search.quiet => {
+                keep_and_print(rt, self.evidence, self.property, verdict)
+            }
+            _ => self.keep_and_print_short(rt),
         }
     }
 
     /// Makes the file of the evidence, where there is to be one, prints the verdict, and answers its status. Standard error says what
     /// was found where that is asked for.
     pub fn show(self, rt: &HostRuntime) -> Result<u8, Stop>
-        ensures { IfOk result (λ status. status ≡ wanted_status self.entry.verdict.now) }
+        ensures { IfOk result (λ status. status ≡ status_in self.entry.conclusion.now) }
     {
-        let status = if self.search.json || self.search.quiet {
-            self.keep_and_print_short(rt)?
-        } else {
-            keep_and_print(rt, self.evidence, self.property, self.verdict)?
-        };
+        let status = self.keep_and_print(rt)?;
         if self.search.verbose {
             let symbol = symbol_of(self.file, self.property);
             tell_counters(rt, self.counters);
-            conclude(rt, self.property, self.verdict, symbol, self.is_over);
+            conclude(rt, self.property, self.conclusion, symbol, self.is_over);
         }
         Ok(status)
     }

@@ -25,6 +25,30 @@ fn search_for(asked: Claim<'_>) -> Search {
     }
 }
 
+/// Makes the file of that name with the certificate of a property that holds. Of another verdict standard error says what it
+/// is.
+fn keep_safe(
+    rt: &HostRuntime,
+    out: &str,
+    property: Property,
+    verdict: &Verdict,
+) -> Result<u8, Stop> {
+    match verdict {
+        Verdict::Safe(_) => {
+            keep(rt, EvidenceFile::plain(out), property, verdict)?;
+            Ok(DONE)
+        }
+        Verdict::Unsafe(_) => {
+            let _ = eprintln!(rt; "aigmc: the property is violated");
+            Ok(NO_INVARIANT)
+        }
+        Verdict::Unknown(_) => {
+            let _ = eprintln!(rt; "aigmc: nothing is known of the property");
+            Ok(SPENT)
+        }
+    }
+}
+
 /// Looks by IC3 for an invariant, beginning with the clauses, of which nothing is believed.
 fn strengthened(
     rt: &HostRuntime,
@@ -39,30 +63,12 @@ fn strengthened(
         property,
         timing,
     };
-    let verdict = ask(rt, question, clauses)?.verdict;
+    let conclusion = ask(rt, question, clauses)?.conclusion;
     if asked.verbose {
         let symbol = symbol_of(file, property);
-        conclude(rt, property, &verdict, symbol, timing.deadline.is_over());
+        conclude(rt, property, &conclusion, symbol, timing.deadline.is_over());
     }
-    match &verdict {
-        Verdict::Safe(_) => {
-            keep(
-                rt,
-                EvidenceFile::plain(asked.certificate),
-                property,
-                &verdict,
-            )?;
-            Ok(DONE)
-        }
-        Verdict::Unsafe(_) => {
-            let _ = eprintln!(rt; "aigmc: the property is violated");
-            Ok(NO_INVARIANT)
-        }
-        Verdict::Unknown(_) => {
-            let _ = eprintln!(rt; "aigmc: nothing is known of the property");
-            Ok(SPENT)
-        }
-    }
+    keep_safe(rt, asked.certificate, property, &conclusion.into_verdict())
 }
 
 /// Makes a certificate of the clauses in a file, in the file of that name.

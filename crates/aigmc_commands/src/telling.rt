@@ -3,7 +3,9 @@
 use engine::{Counter, Reason};
 use explanations::Printable;
 use graph::Property;
+use portfolio::Conclusion;
 use property_names::Name;
+use rounds::{Cause, Counted};
 use std::fmt;
 use stimulus::Stimulus;
 use verdict::Verdict;
@@ -45,6 +47,65 @@ impl fmt::Display for Why {
     }
 }
 
+/// Why nothing is known of a justice property whose rounds were counted, in words.
+#[derive(Clone, Copy)]
+pub struct CountedWhy {
+    /// why the counting ended
+    pub cause: Cause,
+    /// how many rounds a run holds
+    pub held: u32,
+    /// whether the time is over
+    pub is_over: bool,
+}
+
+impl fmt::Display for CountedWhy {
+    fn fmt<W: fmt::Write>(&self, f: &mut fmt::Formatter<W>) -> fmt::Result {
+        write!(f, "a run holds {} rounds; ", self.held)?;
+        let reason = match self.cause {
+            Cause::Budget => Reason::Budget,
+            Cause::Depth(steps) => Reason::Depth(steps),
+            Cause::NoEvidence => Reason::NoEvidence,
+            Cause::Unaccepted => return f.write_str(
+                "the certificate that was made is not accepted",
+            ),
+            Cause::Unbounded => {
+                return f.write_str(
+                    "these are more than there are states, so the property is violated",
+                );
+            }
+        };
+        write!(
+            f,
+            "{}",
+            Why {
+                reason,
+                is_over: self.is_over
+            }
+        )
+    }
+}
+
+/// Says what counting the rounds of the property came to.
+fn tell_counted(rt: &HostRuntime, property: Property, counted: &Counted, is_over: bool) {
+    let name = Name(property);
+    let _ = match counted {
+        Counted::Bounded { rounds, .. } => {
+            eprint!(rt; "{name}: holds, since no run holds more than {rounds} rounds")
+        }
+        Counted::Unknown { cause, held } => {
+            let (cause, held) = (*cause, *held);
+            eprint!(rt;
+                "{name}: {}",
+                CountedWhy {
+                    cause,
+                    held,
+                    is_over
+                }
+            )
+        }
+    };
+}
+
 /// Says what was found of the property, and why nothing is known of it.
 fn tell_found(rt: &HostRuntime, property: Property, verdict: &Verdict, is_over: bool) {
     let name = Name(property);
@@ -69,11 +130,14 @@ fn tell_found(rt: &HostRuntime, property: Property, verdict: &Verdict, is_over: 
 pub fn conclude(
     rt: &HostRuntime,
     property: Property,
-    verdict: &Verdict,
+    conclusion: &Conclusion,
     symbol: Option<&[u8]>,
     is_over: bool,
 ) {
-    tell_found(rt, property, verdict, is_over);
+    match conclusion {
+        Conclusion::Decided(verdict) => tell_found(rt, property, verdict, is_over),
+        Conclusion::Counted(counted) => tell_counted(rt, property, counted, is_over),
+    }
     let _ = match symbol {
         Some(symbol) => eprintln!(rt; " ({})", Printable(symbol)),
         None => eprintln!(rt),

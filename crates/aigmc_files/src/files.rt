@@ -355,7 +355,13 @@ pub fn keep_and_print(
 pub fn print_alone(rt: &HostRuntime, property: Property, verdict: &Verdict) -> Result<u8, Stop>
     ensures { IfOk result (λ status. status ≡ wanted_status verdict.now) }
 {
-    let status = status_of(verdict);
+    print_status(rt, property, status_of(verdict))
+}
+
+/// Prints the status of a property without a run, and answers it. It takes no memory.
+pub fn print_status(rt: &HostRuntime, property: Property, status: u8) -> Result<u8, Stop>
+    ensures { IfOk result (λ printed. printed ≡ status) }
+{
     finished(println!(rt; "{status}\n{}\n.", Name(property)))?;
     Ok(status)
 }

@@ -19,8 +19,8 @@ pub use claimed::{Claimed, claimed_in, listed, refused_text};
 pub use command_error::CommandError;
 pub use files::{
     Shown, UNKNOWN, VIOLATED, circuit, circuit_of, is_taken, keep, keep_and_print, make,
-    make_bytes, make_stimulus, make_waveform, path_of, print_alone, print_stimulus, print_table,
-    print_trace, read_text, shown_of, status_of, stimulus_of,
+    make_bytes, make_stimulus, make_waveform, path_of, print_alone, print_status, print_stimulus,
+    print_table, print_trace, read_text, shown_of, status_of, stimulus_of,
 };
 pub use fitted::{EvidenceFile, Fitted};
 pub use making::{expect_folder, is_same};

@@ -71,13 +71,15 @@ pub struct WitnessCircuit<'a> {
     pub verbose: bool,
 }
 
-/// A justice property, and the file to make of its shadow circuit.
+/// A justice property, and the file to make of its shadow circuit, or of the one that counts its rounds.
 #[derive(Clone, Copy)]
 pub struct Shadow<'a> {
     /// the circuit's file
     pub file: &'a str,
     /// the property's name
     pub property: &'a str,
+    /// how many rounds are counted, where they are
+    pub rounds: Option<u32>,
     /// the file to make
     pub out: &'a str,
     /// whether a fault says more than its line
@@ -160,6 +162,7 @@ pub fn asked_to_safety<'a>(words: &ArgMatches<'a>) -> Shadow<'a> {
     Shadow {
         file: word(words, "FILE"),
         property: word(words, "property"),
+        rounds: words.get_one::<u32>("rounds"),
         out: word(words, "OUT"),
         verbose: words.get_flag("verbose"),
     }

@@ -126,7 +126,8 @@ static ROWS: [Row; 5] = [
 Examples:
   aigmc check design.aig -p b0 --cert b0.cert
   aigmc check design.aig -p no_overflow --timeout 60
-  aigmc check design.aig -p j0 --engine bmc --depth 100 > j0.stim",
+  aigmc check design.aig -p j0 --engine bmc --depth 100 > j0.stim
+  aigmc check design.aig -p j0 --engine rounds --cert j0.cert",
         words: &[
             FILE,
             PROPERTY,
@@ -242,7 +243,7 @@ Examples:
         behind: "Status: 0 done, 3 failed.
 Examples:
   aigmc to-safety design.aig -p j0 j0.aag
-  aigmc to-safety design.aig -p j0 j0.aig",
+  aigmc to-safety design.aig -p j0 --rounds 8 j0.aig",
         words: &[
             FILE,
             Argument {
@@ -250,6 +251,13 @@ Examples:
                 ..PROPERTY
             },
             OUT,
+            Argument {
+                name: "rounds",
+                help: "The bad literal says that a run holds more than so many rounds, not that it closes a lasso",
+                value: "K",
+                takes: Takes::Count,
+                ..OPTION
+            },
             REASONS,
         ],
     },

@@ -3,7 +3,7 @@
 ghost use Rattle.std.specs.Prelude.{◌≡◌, Some, None, IfSome, codes, option_map};
 ghost use Rattle.arguments.specs.Engines.{asks_bounded, asks_inductive};
 ghost use Rattle.arguments.specs.Places.{folder_of, name_of};
-ghost use Rattle.arguments.specs.declared.request.EngineKind.TheVariants.{All, Bounded, Inductive, Corresponding, Random};
+ghost use Rattle.arguments.specs.declared.request.EngineKind.TheVariants.{All, Bounded, Inductive, Corresponding, Rounds, Random};
 ghost use Rattle.arguments.specs.declared.request.Kept.TheVariants.{Nowhere, Certificate, Witness, Folder};
 
 use crate::adopting::{
@@ -29,6 +29,8 @@ pub enum EngineKind {
     Inductive,
     /// Register correspondence, and then bounded search.
     Corresponding,
+    /// Counting rounds, for a justice property alone.
+    Rounds,
     /// Random simulation.
     Random,
 }
@@ -155,7 +157,7 @@ pub enum Request<'a> {
     Certify(Claim<'a>),
     /// Make a certificate of version 3 of another one.
     Recertify(Recertification<'a>),
-    /// Write the shadow circuit of a justice property.
+    /// Write a justice property as a circuit with one bad literal.
     ToSafety(Shadow<'a>),
     /// Make a certificate of version 3 of a witness circuit.
     AdoptWitness(Adoption<'a>),
@@ -200,12 +202,14 @@ fn engine_called(name: &str) -> EngineKind
     ensures bounded { name.now ≡ codes "bmc" → result ≡ Bounded }
     ensures inductive { name.now ≡ codes "ic3" → result ≡ Inductive }
     ensures corresponding { name.now ≡ codes "corr" → result ≡ Corresponding }
+    ensures rounds { name.now ≡ codes "rounds" → result ≡ Rounds }
     ensures random { name.now ≡ codes "random" → result ≡ Random }
 {
     match name {
         "bmc" => EngineKind::Bounded,
         "ic3" => EngineKind::Inductive,
         "corr" => EngineKind::Corresponding,
+        "rounds" => EngineKind::Rounds,
         "random" => EngineKind::Random,
         _ => EngineKind::All,
     }

@@ -13,6 +13,8 @@ pub enum Takes {
     Text,
     /// A number below 256.
     SmallNumber,
+    /// A number below 2^32.
+    Count,
     /// A number below 2^64.
     Number,
     /// The name of an engine.
@@ -23,7 +25,7 @@ pub enum Takes {
 pub const STEPS: u64 = 200_000_000;
 
 /// The engines that may be asked for.
-static ENGINES: [&str; 5] = ["all", "bmc", "ic3", "corr", "random"];
+static ENGINES: [&str; 6] = ["all", "bmc", "ic3", "corr", "rounds", "random"];
 
 /// An argument of a command.
 #[derive(Clone, Copy)]
@@ -118,6 +120,7 @@ impl Takes {
             Takes::Nothing => ValueParser::Bool,
             Takes::Text => ValueParser::String,
             Takes::SmallNumber => ValueParser::Signed(0, 255),
+            Takes::Count => ValueParser::Signed(0, 4_294_967_295),
             Takes::Number => ValueParser::Unsigned(0, u64::MAX),
             Takes::Engine => ValueParser::Names(ENGINES.as_slice()),
         }

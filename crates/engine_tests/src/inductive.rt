@@ -60,12 +60,7 @@ pub(crate) fn is_certified(
 }
 
 /// Whether the replay of the run shows the bad literal.
-fn is_shown(
-    alloc: Global,
-    circuit: &Model,
-    initial: Seq<bool>,
-    inputs: Seq<Seq<bool>>,
-) -> bool {
+fn is_shown(alloc: Global, circuit: &Model, initial: Seq<bool>, inputs: Seq<Seq<bool>>) -> bool {
     let stimulus = Stimulus::Violated {
         property: Property::Bad(0),
         initial,

@@ -1,1 +1,2 @@
+pub mod Conclusions
 pub mod Searched

@@ -1,5 +1,6 @@
 //! What the engines say of a property.
 
+use crate::conclusion::Conclusion;
 use crate::merging::Merging;
 use crate::reporter::Reporter;
 use crate::timed::{Deadline, Timed};
@@ -13,6 +14,7 @@ use engine::{Counters, Engine};
 use engine_random::Random;
 use graph::{Lit, Model, Property};
 use ic3::Ic3;
+use rounds::{Counted, decide_rounds};
 use std::alloc::Global;
 use verdict::{DecideError, Verdict, decide};
 
@@ -21,6 +23,9 @@ const FIRST_PARTS: u64 = 16;
 
 /// How many steps they may take at most then.
 const FIRST_STEPS: u64 = 200_000;
+
+/// The rounds of a justice property are counted then with one of so many parts of what is left.
+const ROUNDS_PARTS: u64 = 4;
 
 /// How many steps of a budget of its own `is_shown_safe` may cost.
 const OWN_STEPS: u64 = 100_000_000;
@@ -48,8 +53,8 @@ fn copied(alloc: Global, clauses: &[Seq<Lit>]) -> Result<Seq<Seq<Lit>>, Refused>
 /// What a search ended in.
 #[derive(Drop)]
 pub struct Answered {
-    /// the verdict
-    pub verdict: Verdict,
+    /// what is known
+    pub conclusion: Conclusion,
     /// how many steps of the budget are spent
     pub steps: u64,
     /// what the engines counted
@@ -162,40 +167,117 @@ impl Question<'_> {
         Ok((verdict, budget.left()))
     }
 
-    /// What bounded search and IC3 say with few steps, else register correspondence and the two behind it.
+    /// What IC3 comes to about the circuits that count rounds of the justice property at the position. Answers how many steps
+    /// are left too.
+    fn counted(
+        self,
+        rt: &HostRuntime,
+        position: u32,
+        steps: u64,
+        counters: &mut Counters,
+    ) -> Result<(Counted, u64), DecideError> {
+        let (alloc, timing) = (rt.alloc(), self.timing);
+        let engine = Ic3::new(timing.solver(alloc));
+        let mut engine = engine.with_progress(Reporter::new(rt, timing.shown));
+        let mut progress = Reporter::new(rt, timing.shown);
+        let mut budget = timing.budget(steps);
+        let counted = decide_rounds(
+            alloc,
+            self.circuit,
+            position,
+            &mut engine,
+            &mut progress,
+            &mut budget,
+        )?;
+        engine.count(counters)?;
+        Ok((counted, budget.left()))
+    }
+
+    /// What counting the rounds comes to with a part of so many steps, where the property is a justice property, and else
+    /// register correspondence and bounded search and IC3 behind it.
+    fn counted_or_merged(
+        self,
+        rt: &HostRuntime,
+        candidates: Seq<Seq<Lit>>,
+        steps: u64,
+        counters: &mut Counters,
+    ) -> Result<(Conclusion, u64), DecideError> {
+        let mut rest = steps;
+        if let Property::Justice(position) = self.property {
+            let part = steps / ROUNDS_PARTS;
+            let (counted, left) = self.counted(rt, position, part, counters)?;
+            rest = steps.saturating_sub(part.saturating_sub(left));
+            if let Counted::Bounded { .. } = counted {
+                return Ok((Conclusion::Counted(counted), rest));
+            }
+        }
+        let depth = self.timing.search.depth;
+        let (verdict, left) = self.merged(rt, candidates, depth, rest, counters)?;
+        Ok((Conclusion::Decided(verdict), left))
+    }
+
+    /// What bounded search and IC3 say with few steps, else what the counting of rounds comes to, else register correspondence
+    /// and the two behind it.
     fn staged(
         self,
         rt: &HostRuntime,
         candidates: Seq<Seq<Lit>>,
         counters: &mut Counters,
-    ) -> Result<(Verdict, u64), DecideError> {
+    ) -> Result<(Conclusion, u64), DecideError> {
         let (all, depth) = (self.timing.search.budget, self.timing.search.depth);
         let few = (all / FIRST_PARTS).min(FIRST_STEPS);
         let first = copied(rt.alloc(), candidates.as_slice())?;
         let (verdict, left) = self.searched(rt, first, depth, few, counters)?;
         let rest = all.saturating_sub(few.saturating_sub(left));
         if !matches!(verdict, Verdict::Unknown(_)) {
-            return Ok((verdict, rest));
+            return Ok((Conclusion::Decided(verdict), rest));
         }
-        self.merged(rt, candidates, depth, rest, counters)
+        self.counted_or_merged(rt, candidates, rest, counters)
+    }
+
+    /// What the counting of rounds comes to. Of another property than a justice property nothing is known so.
+    fn rounds_alone(
+        self,
+        rt: &HostRuntime,
+        steps: u64,
+        counters: &mut Counters,
+    ) -> Result<(Conclusion, u64), DecideError> {
+        let Property::Justice(position) = self.property else {
+            let none = Seq::new(rt.alloc());
+            let (verdict, left) = self.searched(rt, none, 0, steps, counters)?;
+            return Ok((Conclusion::Decided(verdict), left));
+        };
+        let (counted, left) = self.counted(rt, position, steps, counters)?;
+        Ok((Conclusion::Counted(counted), left))
+    }
+
+    /// What the engines come to that are asked for. Answers how many steps are left too.
+    fn concluded(
+        self,
+        rt: &HostRuntime,
+        candidates: Seq<Seq<Lit>>,
+        counters: &mut Counters,
+    ) -> Result<(Conclusion, u64), DecideError> {
+        let (budget, depth) = (self.timing.search.budget, self.timing.search.depth);
+        let (verdict, left) = match self.timing.search.engine {
+            EngineKind::All => return self.staged(rt, candidates, counters),
+            EngineKind::Rounds => return self.rounds_alone(rt, budget, counters),
+            EngineKind::Corresponding => self.corresponded(rt, depth, budget, counters)?,
+            _ => self.searched(rt, candidates, depth, budget, counters)?,
+        };
+        Ok((Conclusion::Decided(verdict), left))
     }
 
     /// Asks the engines for evidence about the property. IC3 tries these clauses first. Where it is asked for, or standard
     /// error is a terminal, that says how far they are.
     pub fn ask(self, rt: &HostRuntime, candidates: Seq<Seq<Lit>>) -> Result<Answered, DecideError> {
-        let search = self.timing.search;
-        let (budget, depth) = (search.budget, search.depth);
         let mut counters = Counters::new(rt.alloc());
-        let answer = match search.engine {
-            EngineKind::All => self.staged(rt, candidates, &mut counters),
-            EngineKind::Corresponding => self.corresponded(rt, depth, budget, &mut counters),
-            _ => self.searched(rt, candidates, depth, budget, &mut counters),
-        };
+        let answer = self.concluded(rt, candidates, &mut counters);
         self.timing.shown.wipe(rt);
-        let (verdict, left) = answer?;
+        let (conclusion, left) = answer?;
         Ok(Answered {
-            verdict,
-            steps: budget.saturating_sub(left),
+            conclusion,
+            steps: self.timing.search.budget.saturating_sub(left),
             counters,
         })
     }

@@ -1,7 +1,7 @@
 //! Which engines are asked of a property, in which order, and how many steps and how much time each may take.
 //!
-//! - `Question` is a property of a circuit, and how the search is to go. `ask` asks the engines, and answers a verdict with what
-//!   the search cost.
+//! - `Question` is a property of a circuit, and how the search is to go. `ask` asks the engines, and answers a
+//!   `Conclusion` with what the search cost: a verdict, or what counting rounds came to.
 //! - `Timing` is a search with its end in time. A solver of it (`Timed`) spends the budget when the time is over.
 //! - `Merging` is register correspondence, and bounded search and IC3 behind it.
 //! - `is_shown_safe` asks IC3 of one bad literal.
@@ -9,12 +9,14 @@
 #![tactic(auto)]
 
 mod asking;
+mod conclusion;
 mod merging;
 mod reporter;
 mod timed;
 mod timing;
 
 pub use asking::{Answered, Question, is_shown_safe};
+pub use conclusion::Conclusion;
 pub use merging::Merging;
 pub use reporter::{Reporter, Shown};
 pub use timed::{Deadline, Timed};

@@ -2,6 +2,7 @@
 
 use base::Budget;
 use engine::Progress;
+use rounds::RoundsProgress;
 use std::time::Instant;
 
 /// How long the one line stays as it is.
@@ -111,6 +112,29 @@ impl Reporter {
             all / MILLION,
             all % MILLION / TENTH
         );
+    }
+
+    /// Says which number of rounds is asked about, between these two texts.
+    fn say_rounds(&self, before: &str, rounds: u32, behind: &str, budget: &Budget) {
+        let spent = budget.spent();
+        let all = spent.saturating_add(budget.left());
+        let _ = eprint!(self.rt;
+            "{before}rounds: at most {rounds}, {}.{} of {}.{} million steps{behind}",
+            spent / MILLION,
+            spent % MILLION / TENTH,
+            all / MILLION,
+            all % MILLION / TENTH
+        );
+    }
+}
+
+impl RoundsProgress for Reporter {
+    fn rounds_begun(&mut self, rounds: u32, budget: &Budget) {
+        if self.shown == Shown::Lines {
+            self.say_rounds("", rounds, "\n", budget);
+        } else if self.shown == Shown::OneLine && self.is_due() {
+            self.say_rounds("\r", rounds, "\x1b[K", budget);
+        }
     }
 }
 

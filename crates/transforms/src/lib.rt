@@ -1,12 +1,14 @@
 //! Circuits that are made of circuits.
 //!
-//! - `extracted` is the circuit of one property, `shadow_file` that of the shadow circuit with names, and `miter_of` the miter of two.
+//! - `extracted` is the circuit of one property, `shadow_file` and `rounds_file` those of the shadow circuit and of the one that counts
+//!   rounds, with names, and `miter_of` the miter of two.
 //! - `always_bad` is violated by each run that keeps the constraints, and `bad_behind` by each of so many steps. `no_bad`
 //!   is a property that a circuit does not have.
 //! - `relevant_clauses` are those over latches on which a property rests.
 #![tactic(auto)]
 
 mod cone;
+mod counting;
 mod covering;
 mod error;
 mod extracting;
@@ -16,6 +18,7 @@ mod relevant;
 mod shadow;
 mod symbols;
 
+pub use counting::rounds_file;
 pub use covering::{always_bad, bad_behind, no_bad};
 pub use error::TransformError;
 pub use extracting::extracted;

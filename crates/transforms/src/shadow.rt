@@ -6,7 +6,7 @@ ghost use Rattle.transforms.specs.Extracted.{IsUnmade};
 ghost use Rattle.transforms.specs.Shadowed.{IsRefused};
 
 use crate::error::TransformError;
-use crate::symbols::{add, count, name_others};
+use crate::symbols::{SEEN, add, add_numbered, count, old_names};
 use base::{Refused, Seq, extend, push};
 use graph::{AigerFile, Model, Symbol, SymbolKind};
 use live_safe::to_safety;
@@ -18,40 +18,6 @@ const SAVE: &[u8] = b"save";
 const SAVED: &[u8] = b"saved";
 /// What stands before a latch's name in that of its copy.
 const COPY: &[u8] = b"copy.";
-/// What stands before the number of a literal in the name of the latch that notes it.
-const SEEN: &str = "seen.";
-
-/// Adds what the name of something in the circuit becomes in the shadow circuit of the justice property at the position. An
-/// output's name, and that of another property, becomes nothing.
-fn add_old(
-    alloc: Global,
-    symbols: &mut Vec<Symbol>,
-    symbol: &Symbol,
-    justice: u32,
-) -> Result<(), Refused> {
-    let name = symbol.name.as_slice();
-    match symbol.kind {
-        SymbolKind::Input | SymbolKind::Latch | SymbolKind::Constraint => {
-            add(alloc, symbols, symbol.kind, symbol.position, name)
-        }
-        SymbolKind::Justice if symbol.position == justice => {
-            add(alloc, symbols, SymbolKind::Bad, 0, name)
-        }
-        _ => Ok(()),
-    }
-}
-
-/// The names in the shadow circuit of what the circuit has: each input and latch has one.
-fn old_names(alloc: Global, file: &AigerFile, justice: u32) -> Result<Vec<Symbol>, TransformError>
-    ensures { IfErr result IsUnmade }
-{
-    let mut symbols = Vec::new(alloc);
-    for symbol in file.symbols() {
-        add_old(alloc, &mut symbols, symbol, justice)?;
-    }
-    name_others(alloc, &mut symbols, file.model())?;
-    Ok(symbols)
-}
 
 /// Adds the name of a latch's copy.
 fn add_copy(
@@ -82,25 +48,6 @@ fn add_copies(
     Ok(())
 }
 
-/// Adds the names of the latches from the position on, one for each literal that is wanted.
-fn add_seen(
-    alloc: Global,
-    symbols: &mut Vec<Symbol>,
-    first: u32,
-    latches: u32,
-) -> Result<(), TransformError>
-    ensures { IfErr result IsUnmade }
-{
-    for position in first..latches {
-        let number = position.saturating_sub(first);
-        let Ok(name) = format!(in alloc; "{SEEN}{number}") else {
-            return Err(TransformError::Name);
-        };
-        add(alloc, symbols, SymbolKind::Latch, position, name.as_bytes())?;
-    }
-    Ok(())
-}
-
 /// The names in the shadow circuit: those of the circuit, those of the copies, and those of what is new.
 fn names(
     alloc: Global,
@@ -119,7 +66,7 @@ fn names(
     let copies = latches.saturating_add(1);
     add_copies(alloc, &mut new, symbols.as_slice(), copies)?;
     let seen = copies.saturating_add(latches);
-    add_seen(alloc, &mut new, seen, count(shadow.latches().len()))?;
+    add_numbered(alloc, &mut new, SEEN, seen, count(shadow.latches().len()))?;
     for symbol in new {
         push(&mut symbols, symbol)?;
     }

@@ -5,11 +5,14 @@ ghost use Rattle.transforms.specs.Extracted.{IsUnmade};
 
 use crate::error::TransformError;
 use base::{Refused, Seq, filled_like, push};
-use graph::{MOST_VARIABLES, Model, Symbol, SymbolKind};
+use graph::{AigerFile, MOST_VARIABLES, Model, Symbol, SymbolKind};
 use std::alloc::Global;
 
 /// The greatest count of anything.
 const MOST: usize = MOST_VARIABLES as usize;
+
+/// What stands before the number of a literal in the name of the latch that notes it.
+pub const SEEN: &str = "seen.";
 
 /// Adds a name.
 pub fn add(
@@ -90,4 +93,61 @@ pub fn name_others(
     }
     add_unnamed(alloc, symbols, SymbolKind::Input, "i", inputs.as_slice())?;
     add_unnamed(alloc, symbols, SymbolKind::Latch, "lo", latches.as_slice())
+}
+
+/// Adds what the name of something in the circuit becomes in a circuit with one bad literal for the justice property at the
+/// position. An output's name, and that of another property, becomes nothing.
+fn add_old(
+    alloc: Global,
+    symbols: &mut Vec<Symbol>,
+    symbol: &Symbol,
+    justice: u32,
+) -> Result<(), Refused> {
+    let name = symbol.name.as_slice();
+    match symbol.kind {
+        SymbolKind::Input | SymbolKind::Latch | SymbolKind::Constraint => {
+            add(alloc, symbols, symbol.kind, symbol.position, name)
+        }
+        SymbolKind::Justice if symbol.position == justice => {
+            add(alloc, symbols, SymbolKind::Bad, 0, name)
+        }
+        _ => Ok(()),
+    }
+}
+
+/// The names of what the circuit has, in a circuit with one bad literal for the justice property at the position: each input
+/// and latch has one.
+pub fn old_names(
+    alloc: Global,
+    file: &AigerFile,
+    justice: u32,
+) -> Result<Vec<Symbol>, TransformError>
+    ensures { IfErr result IsUnmade }
+{
+    let mut symbols = Vec::new(alloc);
+    for symbol in file.symbols() {
+        add_old(alloc, &mut symbols, symbol, justice)?;
+    }
+    name_others(alloc, &mut symbols, file.model())?;
+    Ok(symbols)
+}
+
+/// Adds names for the latches from the position on: the letters, and numbers from 0.
+pub fn add_numbered(
+    alloc: Global,
+    symbols: &mut Vec<Symbol>,
+    letters: &str,
+    first: u32,
+    latches: u32,
+) -> Result<(), TransformError>
+    ensures { IfErr result IsUnmade }
+{
+    for position in first..latches {
+        let number = position.saturating_sub(first);
+        let Ok(name) = format!(in alloc; "{letters}{number}") else {
+            return Err(TransformError::Name);
+        };
+        add(alloc, symbols, SymbolKind::Latch, position, name.as_bytes())?;
+    }
+    Ok(())
 }

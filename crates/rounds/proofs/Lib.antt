@@ -1,0 +1,4 @@
+pub mod Clauses
+pub mod Engines
+pub mod Tried
+pub mod TwoTimes

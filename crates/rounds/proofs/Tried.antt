@@ -1,0 +1,144 @@
+-- What is known of one number of rounds, and of the next.
+use Rattle.std.proofs.Common.{◌≡◌, ◌≢◌, ℕ, zero, suc, ◌+◌, ◌-◌, ◌*◌, ◌^◌, ◌<◌, ◌≤◌, ◌⊎◌, Bool, true, List, [], ◌∷◌, length, Result, Ok, Err, IfOk, IfErr, inl, inr, refl, sym, ◌∙◌, ap, subst, arith}
+use Rattle.std.proofs.lemmas.Grind.{pow_more}
+use Rattle.base.specs.Budget.{Steps}
+use Rattle.graph.specs.declared.circuit.Lit.{Lit}
+use Rattle.graph.specs.declared.circuit.Property.{Property}
+use Rattle.graph.specs.declared.circuit.Property.TheVariants.{Bad, Justice}
+use Rattle.graph.specs.declared.parts.Parts.{Parts}
+use Rattle.graph.specs.Circuits.{HasProperty, IsUpheld, Valuation, value_of}
+use Rattle.graph.specs.WellFormed.{IsWellFormed}
+use Rattle.graph.proofs.Alone.{watched_one}
+use Rattle.stimulus.specs.declared.value.Stimulus.TheVariants.{Violated}
+use Rattle.stimulus.specs.Shown.{Begins, Shows, last_of}
+use Rattle.extension.specs.Accepted.{AcceptedLaw}
+use Rattle.extension.specs.Rounds.{ExactLaw, HoldsMore, ended_literal, rounds_of}
+use Rattle.certificate3.specs.declared.claim.Claim.{Claim}
+use Rattle.certify3.specs.Outcomes.{IsCertificateOf, IsCertified}
+use Rattle.certify3.specs.declared.certified.Certified.{Certified}
+use Rattle.certify3.specs.declared.certified.Certified.TheVariants.{Certificate, NotInvariant, Spent, Unaccepted}
+use Rattle.certify3.specs.declared.certify_error.CertifyError.{CertifyError}
+use Rattle.certify3.specs.declared.certify_error.CertifyError.TheVariants as certify
+use Rattle.verdict.specs.Causes.{HasCause}
+use Rattle.verdict.specs.declared.decide_error.DecideError.{DecideError}
+use Rattle.rounds.specs.Asked.{IsCause, IsTried, tried_of, tried_on}
+use Rattle.rounds.specs.Counted.{IsShownBy, IsWhy}
+use Rattle.rounds.specs.declared.asking.Tried.{Tried}
+use Rattle.rounds.specs.declared.counted.Cause.{Cause}
+use Rattle.rounds.specs.declared.counted.Cause.TheVariants.{Budget, Depth, NoEvidence, Unaccepted as NotAccepted, Unbounded}
+
+-- ---- runs
+
+inside_last : (m : Parts) (initial : List Bool) (r : List Valuation) → Begins m initial r → length r - 1 < length r
+inside_last m initial [] begins = absurd begins
+inside_last m initial (w ∷ r) begins = omega arith
+
+no_justice : (n : ℕ) → Bad 0 ≡ Justice n → ⊥
+no_justice n is = cc
+
+-- a run of the circuit that counts, which sets its bad literal, holds more rounds
+pub shown_more : (m : Parts) (j k : ℕ) (initial : List Bool) (inputs : List (List Bool)) → ExactLaw m j k → Shows (rounds_of m j k) (Violated (Bad 0) initial inputs) → HoldsMore m j k
+shown_more m j k initial inputs exact (inl shows) =
+    let same : shows.bad ≡ ended_literal m j k = watched_one (rounds_of m j k) (Bad 0) shows.bad (ended_literal m j k) shows.watched refl in
+    exact (record {
+      run = shows.replay;
+      time = length shows.replay - 1;
+      runs = shows.runs;
+      keeps = shows.keeps;
+      inside = inside_last (rounds_of m j k) initial shows.replay shows.replays.begins;
+      sets = subst (λ (a : Lit). value_of (last_of shows.replay) a ≡ true) same shows.sets;
+    })
+shown_more m j k initial inputs exact (inr lasso) = absurd (no_justice lasso.position lasso.names)
+
+-- ---- certificates
+
+shown_by : (m : Parts) (j k : ℕ) (inv : List (List Lit)) (text : List ℕ) → AcceptedLaw → IsWellFormed m → IsCertificateOf m (record { property = Justice j; rounds = k }) [] [] inv text →
+    IsShownBy m j k text × IsUpheld m (Justice j)
+shown_by m j k inv text law well h = (record { evidence = h.evidence; is_text = h.is_text }, law m (Justice j) k h.evidence well h.is_text.accepted)
+
+refused_tried : (m : Parts) (j k : ℕ) (e : CertifyError) → IfOk (tried_of e) (IsTried m j k)
+refused_tried m j k (certify.NoProperty n) = tt
+refused_tried m j k (certify.Refusal r) = tt
+refused_tried m j k certify.TooMany = tt
+refused_tried m j k (certify.Repeated i) = tt
+refused_tried m j k (certify.IdsTaken used_up) = tt
+refused_tried m j k (certify.OutOfMemory refused) = tt
+
+refused_caused : (m : Parts) (j : ℕ) (e : CertifyError) → HasProperty m (Justice j) → IfErr (tried_of e) (HasCause m (Justice j))
+refused_caused m j (certify.NoProperty n) there = tt
+refused_caused m j (certify.Refusal r) there = tt
+refused_caused m j certify.TooMany there = there
+refused_caused m j (certify.Repeated i) there = tt
+refused_caused m j (certify.IdsTaken used_up) there = there
+refused_caused m j (certify.OutOfMemory refused) there = there
+
+tried_so : (m : Parts) (j k : ℕ) (inv : List (List Lit)) (after : Steps) (r : Result Certified CertifyError) → AcceptedLaw → IsWellFormed m →
+    IfOk r (IsCertified m (record { property = Justice j; rounds = k }) [] [] inv after) → IfOk (tried_on r) (IsTried m j k)
+tried_so m j k inv after (Ok (Certificate text)) law well h = shown_by m j k inv text law well h
+tried_so m j k inv after (Ok (NotInvariant x)) law well h = tt
+tried_so m j k inv after (Ok Spent) law well h = tt
+tried_so m j k inv after (Ok Unaccepted) law well h = tt
+tried_so m j k inv after (Err e) law well h = refused_tried m j k e
+
+caused_so : (m : Parts) (j : ℕ) (r : Result Certified CertifyError) → HasProperty m (Justice j) → IfErr (tried_on r) (HasCause m (Justice j))
+caused_so m j (Ok (Certificate text)) there = tt
+caused_so m j (Ok (NotInvariant x)) there = tt
+caused_so m j (Ok Spent) there = tt
+caused_so m j (Ok Unaccepted) there = tt
+caused_so m j (Err e) there = refused_caused m j e there
+
+pub tried_by_clauses : (m : Parts) (j k : ℕ) (inv : List (List Lit)) (after : Steps) (r : Result Certified CertifyError) (t : Result Tried DecideError) → t ≡ tried_on r → AcceptedLaw → IsWellFormed m →
+    IfOk r (IsCertified m (record { property = Justice j; rounds = k }) [] [] inv after) → IfOk t (IsTried m j k)
+tried_by_clauses m j k inv after r t is law well h = subst (λ (q : Result Tried DecideError). IfOk q (IsTried m j k)) (sym is) (tried_so m j k inv after r law well h)
+
+pub caused_by_clauses : (m : Parts) (j : ℕ) (r : Result Certified CertifyError) (t : Result Tried DecideError) → t ≡ tried_on r → HasProperty m (Justice j) → IfErr t (HasCause m (Justice j))
+caused_by_clauses m j r t is there = subst (λ (q : Result Tried DecideError). IfErr q (HasCause m (Justice j))) (sym is) (caused_so m j r there)
+
+-- ---- one number after the other
+
+-- a cause for one number is one for all
+pub why_of : (m : Parts) (j k held : ℕ) (after : Steps) (cause : Cause) → held ≤ k → IsCause m j k after cause → IsWhy m j held after cause
+why_of m j k held after Budget le is = is
+why_of m j k held after (Depth steps) le is = (k, le, is)
+why_of m j k held after NoEvidence le is = is
+why_of m j k held after NotAccepted le is = tt
+why_of m j k held after Unbounded le is = absurd is
+
+doubled : (n : ℕ) → 2 ^ suc n ≡ 2 * 2 ^ n
+doubled n =
+    let same : suc n ≡ n + 1 = omega arith in
+    let turn : 2 ^ n * 2 ≡ 2 * 2 ^ n = omega arith in
+    ap (λ k. 2 ^ k) same ∙ pow_more 2 n ∙ turn
+
+pow_positive : (n : ℕ) → 0 < 2 ^ n
+pow_positive zero = omega arith
+pow_positive (suc n) = let h = pow_positive n in let more : 2 ^ suc n ≡ 2 * 2 ^ n = doubled n in omega (arith, h, more)
+
+-- of two powers, the lesser of which is more than half of the greater, both are one
+half_power : (i n : ℕ) → 2 ^ i ≤ 2 ^ n → 2 ^ n < 2 * 2 ^ i → 2 ^ i ≡ 2 ^ n
+half_power zero n le lt = let h = pow_positive n in omega (arith, h, le, lt)
+half_power (suc i) zero le lt = let h = pow_positive i in let more : 2 ^ suc i ≡ 2 * 2 ^ i = doubled i in absurd (omega (arith, h, more, le))
+half_power (suc i) (suc n) le lt =
+    let more : 2 ^ suc i ≡ 2 * 2 ^ i = doubled i in
+    let most : 2 ^ suc n ≡ 2 * 2 ^ n = doubled n in
+    let same : 2 ^ i ≡ 2 ^ n = half_power i n (omega (arith, more, most, le)) (omega (arith, more, most, lt)) in
+    more ∙ ap (λ x. 2 * x) same ∙ sym most
+
+-- the numbers that are asked about
+abbrev pub IsAskedFor : ℕ → Type 0
+IsAskedFor k = (k ≡ 0) ⊎ ((i : ℕ) × (k ≡ 2 ^ i))
+
+pub asked_next : (k next : ℕ) → IsAskedFor k → (k ≡ 0 → next ≡ 1) → (0 < k → next ≡ 2 * k) → IsAskedFor next
+asked_next k next (inl none) first later = inr (0, first none)
+asked_next k next (inr (i, is)) first later =
+    let h = pow_positive i in let more : 2 ^ suc i ≡ 2 * 2 ^ i = doubled i in
+    inr (suc i, later (omega (arith, h, is)) ∙ ap (λ x. 2 * x) is ∙ sym more)
+
+-- behind the last number a run holds more rounds than there are states
+pub held_over : (k next n : ℕ) → IsAskedFor k → (k ≡ 0 → next ≡ 1) → (0 < k → next ≡ 2 * k) → k ≤ 2 ^ n → 2 ^ n < next → 2 ^ n < k + 1
+held_over k next n (inl none) first later le lt = let one = first none in let h = pow_positive n in absurd (omega (arith, one, h, lt))
+held_over k next n (inr (i, is)) first later le lt =
+    let h = pow_positive i in
+    let twice = later (omega (arith, h, is)) in
+    let same = half_power i n (omega (arith, is, le)) (omega (arith, is, twice, lt)) in
+    omega (arith, same, is)
