@@ -229,6 +229,24 @@ impl Folder<'_> {
         }
         Ok(counts)
     }
+
+    /// Says why the text is no circuit, and answers the status of that.
+    fn refused(&self, rt: &HostRuntime, error: ReadError) -> Result<u8, NoAnswer> {
+        put_no_circuit(rt, error.number(), self.json)?;
+        if self.verbose {
+            tell_circuit(rt, self.names.circuit, self.circuit, error);
+        }
+        Ok(FAULT)
+    }
+
+    /// The status of what the evidence shows of the properties of the circuit that the text spells.
+    fn status(&self, rt: &HostRuntime) -> Result<u8, NoAnswer> {
+        match read(rt.alloc(), self.circuit) {
+            Ok(file) => Ok(self.count(rt, &file)?.status()),
+            Err(ReadError::OutOfMemory(refused)) => Err(NoAnswer::from(refused)),
+            Err(error) => self.refused(rt, error),
+        }
+    }
 }
 
 /// Says that the text is no circuit: the no of its refusal, which in JSON would be of no property.
@@ -258,15 +276,5 @@ pub fn all(rt: &HostRuntime, names: Names<'_>, verbose: bool, json: bool) -> Res
         verbose,
         json,
     };
-    match read(rt.alloc(), text.as_slice()) {
-        Ok(file) => Ok(evidence.count(rt, &file)?.status()),
-        Err(ReadError::OutOfMemory(refused)) => Err(NoAnswer::from(refused)),
-        Err(error) => {
-            put_no_circuit(rt, error.number(), json)?;
-            if verbose {
-                tell_circuit(rt, names.circuit, text.as_slice(), error);
-            }
-            Ok(FAULT)
-        }
-    }
+    evidence.status(rt)
 }

@@ -10,7 +10,7 @@ use aigmc_files::{
 use arguments::Claim;
 use base::{Budget, Seq};
 use certify::{Certified, certify};
-use graph::{AigerFile, Lit, Property};
+use graph::{AigerFile, Lit, Model, Property};
 use inputs::is_standard;
 use std::alloc::Global;
 use transforms::shadow_file;
