@@ -25,6 +25,9 @@ def unconfirmed(case, stimulus, scratch):
 def uncertified(case, printed, scratch):
     """What is wrong where the certificate that is asked for is not accepted by `aigcheck safe`."""
     words = case["command"].split()
+    if "--witness" in words:
+        at = words.index("--witness")
+        words[at : at + 2] = []
     asks = words if "--cert" in words else [*words, "--cert", "OUT.kept"]
     path = scratch / asks[asks.index("--cert") + 1]
     again = answered(words_of(" ".join(asks), scratch))

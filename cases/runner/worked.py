@@ -30,9 +30,9 @@ def is_json(command):
     return "--json" in command.split()
 
 
-def differences(case, done):
-    """What the program put otherwise than the case says, or its status."""
-    found = untimed(done.stdout), done.stderr, done.returncode
+def differences(case, done, scratch):
+    """What the program put otherwise than the case says, or its status. Of a file that it made it puts the name alone."""
+    found = untimed(done.stdout).replace(b"%b/OUT." % bytes(scratch), b"OUT."), done.stderr, done.returncode
     wanted = text_of(case["stdout"]), text_of(case["stderr"]), int(case["status"])
     parts = zip(("standard output", "standard error", "status"), found, wanted)
     return [f"{what} is {is_so!r}, and should be {due!r}" for what, is_so, due in parts if is_so != due]
@@ -69,7 +69,7 @@ def faults_of(case, scratch):
             done = run(words_of(command, scratch), cwd=FOLDER, stdin=source)
     except (OSError, subprocess.TimeoutExpired) as error:
         return [str(error)]
-    faults = differences(case, done) + refused_clauses(done.stdout)
+    faults = differences(case, done, scratch) + refused_clauses(done.stdout)
     if not given and not is_json(command):
         faults += unsupported(case, done, scratch)
     if command.startswith(("aigmc certify", "aigmc recertify", "aigmc adopt-witness")):
