@@ -1,5 +1,5 @@
 -- The gates for clauses, clause by clause, and the names of what is shared.
-use Rattle.std.proofs.Common.{◌≡◌, ℕ, suc, ◌+◌, ◌-◌, ◌*◌, ◌%◌, ◌<◌, ◌≤◌, List, [], ◌∷◌, ◌++◌, length, map, drop, take, get_or, arith, ◌∙◌, sym, ap, subst, refl, inl, inr, length-append, append_assoc}
+use Rattle.std.proofs.Common.{◌≡◌, ℕ, suc, ◌+◌, ◌%◌, ◌<◌, ◌≤◌, List, [], ◌∷◌, ◌++◌, length, map, drop, take, get_or, arith, ◌∙◌, sym, ap, subst, refl, inl, inr, length-append, append_assoc}
 use Rattle.std.proofs.lemmas.Bool.{cases_eq}
 use Rattle.std.proofs.lemmas.List.{append-nil, at_drop_all, drop_more, length-map, map_more}
 use Rattle.graph.specs.declared.circuit.Lit.{Lit}
@@ -17,7 +17,7 @@ end_small [] first v small fits = small
 end_small (a ∷ rest) first v small fits = end_small rest (positive v) (v + 1) (omega (arith, fits)) (omega (arith, fits))
 
 pub denied_small : (c : List Lit) (v : ℕ) → v + length c + 1 ≤ 4194304 → (denied c v).0 + 1 < 4294967296
-denied_small c v fits = end_small (map negation c) always v (omega arith) (omega (arith, fits, length-map negation c))
+denied_small c v fits = end_small (map negation c) always v (omega arith) (omega (arith, fits, length-map c negation))
 
 pub property_small : (inv : List (List Lit)) (first : Lit) (v : ℕ) → first.0 + 1 < 4294967296 → v + gate_count inv ≤ 4194304 → (property_literal inv first v).0 + 1 < 4294967296
 property_small [] first v small fits = small
@@ -33,7 +33,7 @@ length-property (c ∷ cs) first v =
     let chain : List Gate = chain_gates (map negation c) always v in
     let last : List Gate = joins (v + length c) first (negation (denied c v)) ∷ [] in
     let rest : List Gate = property_gates cs (positive (v + length c)) (v + length c + 1) in
-    omega (arith, length-append (chain ++ last) rest, length-append chain last, length-chain (map negation c) always v, length-map negation c, length-property cs (positive (v + length c)) (v + length c + 1))
+    omega (arith, length-append (chain ++ last) rest, length-append chain last, length-chain (map negation c) always v, length-map c negation, length-property cs (positive (v + length c)) (v + length c + 1))
 
 -- the negation of a small literal has one
 pub negation_small : (a : Lit) → a.0 + 2 < 4294967296 → (negation a).0 + 1 < 4294967296

@@ -1,11 +1,11 @@
 -- What the gates for clauses say.
-use Rattle.std.proofs.Common.{◌≡◌, ℕ, ◌+◌, Bool, true, false, not, ◌&&◌, ◌||◌, List, [], ◌∷◌, ◌++◌, map, length, refl, All, ◌∙◌, sym, ap, ap₂}
+use Rattle.std.proofs.Common.{◌≡◌, ℕ, ◌+◌, Bool, true, false, not, ◌&&◌, ◌||◌, List, [], ◌∷◌, ◌++◌, map, length, refl, All, ◌∙◌, ap}
 use Rattle.std.proofs.lemmas.List.Elements.{All-head, All-tail}
 use Rattle.graph.specs.declared.circuit.Lit.{Lit}
 use Rattle.graph.specs.declared.circuit.Latch.{Latch}
 use Rattle.graph.specs.declared.circuit.Gate.{Gate}
 use Rattle.graph.specs.declared.parts.Parts.{Parts}
-use Rattle.graph.specs.Circuits.{Valuation, place, value_of, Fires, Agrees}
+use Rattle.graph.specs.Circuits.{Valuation, place, value_of, Fires}
 use Rattle.graph.proofs.Evaluation.{All-left, All-right}
 use Rattle.live_safe.specs.Shadow.{positive, negation, joins, chain_gates, chain_end}
 use Rattle.live_safe.proofs.Values.{value-negation}

@@ -1,9 +1,8 @@
 -- What stands for the literals of a witness circuit.
-use Rattle.std.specs.Prelude.{◌≡◌, ℕ, ◌%◌, ◌==◌, if◌then◌else◌, List, [], ◌∷◌, map, get_or}
+use Rattle.std.specs.Prelude.{◌%◌, ◌==◌, if◌then◌else◌, List, [], ◌∷◌, map, get_or}
 use Rattle.graph.specs.declared.circuit.Lit.{Lit}
 use Rattle.graph.specs.declared.circuit.Latch.{Latch}
 use Rattle.graph.specs.declared.circuit.Gate.{Gate}
-use Rattle.graph.specs.declared.parts.Parts.{Parts}
 use Rattle.graph.specs.Circuits.{variable}
 use Rattle.live_safe.specs.Shadow.{negation}
 

@@ -1,4 +1,4 @@
-use Rattle.std.proofs.Common.{◌≡◌, ◌++◌, map, take}
+use Rattle.std.proofs.Common.{◌≡◌, map, take}
 use Rattle.live_safe.specs.Shadow.{negation}
 use Rattle.witness_circuits.proofs.property.negations.Given as goal
 

@@ -1,4 +1,4 @@
-use Rattle.std.proofs.Common.{◌≡◌, ◌+◌, ◌<◌, ◌∙◌, List, map, ap, subst, sym}
+use Rattle.std.proofs.Common.{◌≡◌, ◌+◌, ◌<◌, ◌∙◌, List, ap, refl, subst, sym}
 use Rattle.graph.specs.declared.circuit.Lit.{Lit}
 use Rattle.live_safe.specs.Shadow.{chain_end}
 use Rattle.extension.specs.Rounds.{always}
@@ -13,4 +13,4 @@ negation-requires c =
     subst (λ (a : Lit). a.0 + 1 < 4294967296) (sym e) (denied_small c.args.clause.now c.args.variable c.requires.fits)
 
 pub returns : goal.returns
-returns c = clause_pushed _ _ _ _ _ _ _ _ _ _ _ (c.deref.ensures.value ∙ c.in_ok-denials.ensures) c.in_ok-denied.ensures.gates c.in_ok-denied.ensures.end c.negation.ensures c.len.ensures c.joins.ensures c.in_ok-push.ensures.items
+returns c = clause_pushed _ _ _ _ _ _ _ _ _ _ _ (c.deref.ensures.value ∙ c.in_ok-denials.ensures) c.in_ok-denied.ensures.gates c.in_ok-denied.ensures.end c.negation.ensures refl c.joins.ensures c.in_ok-push.ensures.items

@@ -26,9 +26,9 @@ loop-k-preserved c =
     let k = c.loop-k.k in
     let lt : k < length inv = omega (arith, c.len-k-end.ensures, c.loop-k-test.true) in
     record {
-      gates = gates_step inv k _ _ _ _ _ _ _ _ lt c.list-clause.ensures c.len.ensures c.positive-so_far.ensures c.in_ok-push_clause.ensures c.loop-k.invariant.gates;
-      literal = literal_step inv k _ _ _ _ _ _ lt c.list-clause.ensures c.len.ensures c.positive-so_far.ensures c.loop-k.invariant.literal;
-      count = count_step inv k _ _ _ _ lt c.list-clause.ensures c.len.ensures c.loop-k.invariant.count;
+      gates = gates_step inv k _ _ _ _ _ _ _ _ lt c.list-clause.ensures refl c.positive-so_far.ensures c.in_ok-push_clause.ensures c.loop-k.invariant.gates;
+      literal = literal_step inv k _ _ _ _ _ _ lt c.list-clause.ensures refl c.positive-so_far.ensures c.loop-k.invariant.literal;
+      count = count_step inv k _ _ _ _ lt c.list-clause.ensures refl c.loop-k.invariant.count;
     }
 
 pub returns-clause-gates : goal.returns-clause-gates
