@@ -110,7 +110,7 @@ pub record AreGiven (m : Parts) (j k : ℕ) (inv : List (List Lit)) : Type 0 whe
 showable_so : (m : Parts) (j k : ℕ) (r : Refusal) → IsShowable m (Justice j) k → IsUnshowable m (Justice j) k r → ⊥
 showable_so m j k refusal.NoProperty showable un = un showable.exists
 showable_so m j k refusal.TooManyRounds showable un = let few = showable.few in let more = un.1 in omega (arith, few, more)
-showable_so m j k refusal.Limit showable un = let within = showable.within in let more = un.1.1 in omega (arith, within, more)
+showable_so m j k refusal.Limit showable un = let within = showable.within in let more = un.2 in omega (arith, within, more)
 showable_so m j k refusal.NotExtension showable un = un
 showable_so m j k (refusal.Outside i) showable un = un
 showable_so m j k (refusal.Line fault) showable un = un
@@ -145,7 +145,7 @@ refused_so m j k inv after (certify.Refusal r) given (inr (showable, inr (grown,
     absurd (outside_so (rounds_of m j k) inv r (all_in_range (rounds_of m j k) inv given.well given.invariant) (subst (λ (q : Parts). IsOutsideAt q inv r) (plain (rounds_of m j k)) out))
 refused_so m j k inv after certify.TooMany given cause = tt
 refused_so m j k inv after (certify.Repeated i) given cause =
-    absurd (repeated_so (rounds_of m j k) inv i given.well given.invariant (subst (λ (q : Parts). IsRepeated q inv i) (plain (rounds_of m j k)) cause.1.1.1))
+    absurd (repeated_so (rounds_of m j k) inv i given.well given.invariant (subst (λ (q : Parts). IsRepeated q inv i) (plain (rounds_of m j k)) cause.2.2))
 refused_so m j k inv after (certify.IdsTaken used_up) given cause = tt
 refused_so m j k inv after (certify.OutOfMemory refused) given cause = tt
 

@@ -1,8 +1,10 @@
 -- What is known of one number of rounds, and of the next.
-use Rattle.std.proofs.Common.{◌≡◌, ◌≢◌, ℕ, zero, suc, ◌+◌, ◌-◌, ◌*◌, ◌^◌, ◌<◌, ◌≤◌, ◌⊎◌, Bool, true, List, [], ◌∷◌, length, Result, Ok, Err, IfOk, IfErr, inl, inr, refl, sym, ◌∙◌, ap, subst, arith}
+use Rattle.std.proofs.Common.{◌≡◌, ◌≢◌, ◌↔◌, ℕ, zero, suc, ◌+◌, ◌-◌, ◌*◌, ◌^◌, ◌<◌, ◌≤◌, ◌⊎◌, Bool, true, false, IsTrue, List, [], ◌∷◌, length, Result, Ok, Err, IfOk, IfErr, inl, inr, refl, sym, ◌∙◌, ap, subst, arith}
+use Rattle.std.proofs.lemmas.Bool.{cases_lt, false≢true}
 use Rattle.std.proofs.lemmas.Grind.{pow_more}
 use Rattle.base.specs.Budget.{Steps}
 use Rattle.graph.specs.declared.circuit.Lit.{Lit}
+use Rattle.graph.specs.declared.circuit.Latch.{Latch}
 use Rattle.graph.specs.declared.circuit.Property.{Property}
 use Rattle.graph.specs.declared.circuit.Property.TheVariants.{Bad, Justice}
 use Rattle.graph.specs.declared.parts.Parts.{Parts}
@@ -21,9 +23,10 @@ use Rattle.certify3.specs.declared.certify_error.CertifyError.{CertifyError}
 use Rattle.certify3.specs.declared.certify_error.CertifyError.TheVariants as certify
 use Rattle.verdict.specs.Causes.{HasCause}
 use Rattle.verdict.specs.declared.decide_error.DecideError.{DecideError}
-use Rattle.rounds.specs.Asked.{IsCause, IsTried, tried_of, tried_on}
-use Rattle.rounds.specs.Counted.{IsShownBy, IsWhy}
+use Rattle.rounds.specs.Asked.{IsCause, IsMeantFor, IsTried, tried_of, tried_on}
+use Rattle.rounds.specs.Counted.{AreHeld, IsShownBy, IsWhy}
 use Rattle.rounds.specs.declared.asking.Tried.{Tried}
+use Rattle.rounds.specs.declared.asking.Tried.TheVariants.{Exceeded}
 use Rattle.rounds.specs.declared.counted.Cause.{Cause}
 use Rattle.rounds.specs.declared.counted.Cause.TheVariants.{Budget, Depth, NoEvidence, Unaccepted as NotAccepted, Unbounded}
 
@@ -142,3 +145,23 @@ held_over k next n (inr (i, is)) first later le lt =
     let twice = later (omega (arith, h, is)) in
     let same = half_power i n (omega (arith, is, le)) (omega (arith, is, twice, lt)) in
     omega (arith, same, is)
+
+-- the next number is greater than the number
+pub behind_next : (k next : ℕ) → (k ≡ 0 → next ≡ 1) → (0 < k → next ≡ 2 * k) → k + 1 ≤ next
+behind_next k next first later = elim (cases_lt 0 k) [
+  | inl more ↦ let twice = later more in omega (arith, more, twice)
+  | inr none ↦ let same : k ≡ 0 = omega (arith, none) in let one = first same in omega (arith, same, one)
+]
+
+-- whether it is at most the number of states is asked with the latches in a slice
+pub few_next : (b : Bool) (next : ℕ) (ls slice : List Latch) → b ≡ true → slice ≡ ls → (IsTrue b ↔ next ≤ 2 ^ length slice) → next ≤ 2 ^ length ls
+few_next b next ls slice on same h = subst (λ (xs : List Latch). next ≤ 2 ^ length xs) same (h.0 on)
+
+pub many_next : (b : Bool) (next : ℕ) (ls slice : List Latch) → b ≡ false → slice ≡ ls → (IsTrue b ↔ next ≤ 2 ^ length slice) → 2 ^ length ls < next
+many_next b next ls slice off same h = elim (cases_lt (2 ^ length ls) next) [
+  | inl more ↦ more
+  | inr few ↦ absurd (false≢true (sym off ∙ h.1 (subst (λ (xs : List Latch). next ≤ 2 ^ length xs) (sym same) few)))
+]
+
+pub held_now : (m : Parts) (j k : ℕ) (t : Tried) → t ≡ Exceeded → IsTried m j k t → AreHeld m j (k + 1)
+held_now m j k t is tried = inr (k, refl, subst (IsTried m j k) is tried)

@@ -1,5 +1,5 @@
 -- Clauses over the latches that are inductive by next literals are so over two times.
-use Rattle.std.proofs.Common.{◌≡◌, ◌≢◌, ℕ, zero, suc, ◌+◌, ◌<◌, ◌≤◌, Bool, true, false, not, ◌||◌, List, [], ◌∷◌, ◌++◌, map, length, get_or, All, ℤ, refl, sym, ◌∙◌, ap, subst, arith}
+use Rattle.std.proofs.Common.{◌≡◌, ◌≢◌, ℕ, zero, suc, ◌+◌, ◌<◌, ◌≤◌, Bool, true, false, not, ◌||◌, List, [], ◌∷◌, ◌++◌, map, length, get_or, All, ℤ, pos, refl, sym, ◌∙◌, ap, subst, arith}
 use Rattle.std.specs.Prelude.{flat_map}
 use Rattle.std.proofs.lemmas.List.Elements.{All-cons, All-head, All-map, All-append}
 use Rattle.graph.specs.declared.circuit.Lit.{Lit}
@@ -29,6 +29,7 @@ row v o zero = []
 row v o (suc n) = v (o + 1) ∷ row v (o + 1) n
 
 row_at : (v : ℕ → Bool) (o n k : ℕ) → k < n → get_or (row v o n) k false ≡ v (o + 1 + k)
+unfolding row
 row_at v o zero k lt = absurd (omega (arith, lt))
 row_at v o (suc n) zero lt = ap v (let same : o + 1 ≡ o + 1 + 0 = omega arith in same)
 row_at v o (suc n) (suc k) lt = row_at v (o + 1) n k (omega (arith, lt)) ∙ ap v (let same : o + 1 + 1 + k ≡ o + 1 + suc k = omega arith in same)
@@ -37,6 +38,7 @@ values_at : (ℕ → Bool) → ℕ → ℕ → List Bool
 values_at v o n = false ∷ row v o n
 
 row_inside : (v : ℕ → Bool) (o n k : ℕ) → k ≢ 0 → k ≤ n → v (o + k) ≡ place (values_at v o n) k
+unfolding values_at row
 row_inside v o n zero nz le = absurd (nz refl)
 row_inside v o n (suc k) nz le = ap v (let same : o + suc k ≡ o + 1 + k = omega arith in same) ∙ sym (row_at v o n k (omega (arith, le)))
 
@@ -45,6 +47,7 @@ is_positive v k on = let same : k + 1 ≡ suc k = omega arith in subst (λ i. is
 
 -- whatever satisfies a time's clauses is laid as some values
 laid_at : (v : ℕ → Bool) (o : ℕ) (m : Parts) → AreSatisfied v (time_clauses m o) → IsLaid v o m.max_var (values_at v o m.max_var)
+unfolding values_at
 laid_at v o m all =
     let frame = All-left (IsSatisfied v) (frame_at m o) (unit_clauses (map (literal m.max_var o) m.constraints)) all in
     let truth = All-head (IsSatisfied v) (truth_clause m.max_var o) (flat_map (gate_clauses m.max_var o) m.gates) frame in
