@@ -1,14 +1,11 @@
--- The gates for clauses, clause by clause, and the names of what is shared.
-use Rattle.std.proofs.Common.{◌≡◌, ℕ, suc, ◌+◌, ◌%◌, ◌<◌, ◌≤◌, List, [], ◌∷◌, ◌++◌, length, map, drop, take, get_or, arith, ◌∙◌, sym, ap, subst, refl, inl, inr, length-append, append_assoc}
+-- The gates for clauses, clause by clause.
+use Rattle.std.proofs.Common.{◌≡◌, ℕ, suc, ◌+◌, ◌%◌, ◌<◌, ◌≤◌, List, [], ◌∷◌, ◌++◌, length, map, drop, get_or, arith, ◌∙◌, sym, ap, subst, refl, inl, inr, length-append, append_assoc}
 use Rattle.std.proofs.lemmas.Bool.{cases_eq}
-use Rattle.std.proofs.lemmas.List.{append-nil, at_drop_all, drop_more, length-map, map_more}
+use Rattle.std.proofs.lemmas.List.{append-nil, at_drop_all, drop_more, length-map}
 use Rattle.graph.specs.declared.circuit.Lit.{Lit}
 use Rattle.graph.specs.declared.circuit.Gate.{Gate}
-use Rattle.graph.specs.declared.symbol.SymbolKind.{SymbolKind}
 use Rattle.live_safe.specs.Shadow.{positive, negation, joins, chain_gates, chain_end}
 use Rattle.extension.specs.Rounds.{always}
-use Rattle.witness_circuits.specs.Renamed.{renamed}
-use Rattle.witness_circuits.specs.Names.{shared_name, shared_from}
 use Rattle.witness_circuits.specs.Witnesses.{denied, clause_gates, property_gates, property_literal, gate_count}
 
 -- the end of a chain of small variables has a negation
@@ -121,18 +118,3 @@ literal_last inv k so_far v target all h = sym (at_drop_all (λ (cs : List (List
 
 pub count_last : (inv : List (List Lit)) (k v target : ℕ) → length inv ≤ k → v + gate_count (drop k inv) ≡ target → v ≡ target
 count_last inv k v target all h = omega (arith, at_drop_all gate_count inv k all, h)
-
--- ---- the clauses of a witness
-
-pub clauses_more : (names : List Lit) (first : List Lit) (constraints : List Lit) (i : ℕ) (d lit : Lit) (before after : List (List Lit)) → i < length constraints → lit ≡ renamed names (get_or constraints i d) →
-    before ≡ first ∷ map (λ a. renamed names a ∷ []) (take i constraints) → after ≡ before ++ (lit ∷ []) ∷ [] → after ≡ first ∷ map (λ a. renamed names a ∷ []) (take (i + 1) constraints)
-clauses_more names first constraints i d lit before after i_in is had pushed =
-    let f : Lit → List Lit = λ (a : Lit). renamed names a ∷ [] in
-    pushed ∙ ap (λ (q : List (List Lit)). q ++ (lit ∷ []) ∷ []) had ∙ ap (λ (a : Lit). (first ∷ map f (take i constraints)) ++ (a ∷ []) ∷ []) is
-    ∙ ap (λ (q : List (List Lit)). first ∷ q) (sym (map_more f constraints i d i_in))
-
--- ---- names
-
-pub shared_more : (kind : SymbolKind) (lits : List Lit) (i : ℕ) (d : Lit) → i < length lits →
-    shared_from kind (drop i lits) i ≡ record { kind = kind; position = i; name = shared_name (get_or lits i d) } ∷ shared_from kind (drop (i + 1) lits) (i + 1)
-shared_more kind lits i d i_in = ap (λ q. shared_from kind q i) (drop_more lits i d i_in)

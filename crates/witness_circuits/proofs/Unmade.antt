@@ -1,5 +1,5 @@
 -- Causes of what is not made, and of what is no pair.
-use Rattle.std.proofs.Common.{◌≡◌, ℕ, ◌+◌, ◌<◌, ◌≤◌, List, [], length, All, get_or, subst, arith}
+use Rattle.std.proofs.Common.{ℕ, ◌+◌, ◌<◌, ◌≤◌, List, length, All, arith}
 use Rattle.std.proofs.lemmas.List.Elements.{All-weaker}
 use Rattle.graph.specs.declared.circuit.Lit.{Lit}
 use Rattle.graph.specs.declared.circuit.Latch.{Latch}
@@ -13,7 +13,7 @@ use Rattle.witness_circuits.specs.declared.error.MakeError.{MakeError}
 use Rattle.witness_circuits.specs.declared.error.MakeError.TheVariants.{NoProperty, Limit, Outside, Circuit, OutOfMemory, Name}
 use Rattle.witness_circuits.specs.declared.pair_error.PairError.{PairError}
 use Rattle.witness_circuits.specs.declared.pair_error.PairError.TheVariants as pair
-use Rattle.witness_circuits.specs.Causes.{HasCause, IsOutside, IsUnmade}
+use Rattle.witness_circuits.specs.Causes.{HasCause, IsUnmade}
 use Rattle.witness_circuits.specs.Pairs.{IsOther, IsRefused}
 
 pub unmade_cause : (m : Parts) (p : Property) (ls : List Latch) (gs : List Gate) (inv : List (List Lit)) (e : MakeError) → IsUnmade e → HasCause m p ls gs inv e
@@ -36,9 +36,3 @@ over_small m ls gs inv few over =
     let n : ℕ = m.max_var + length ls + length gs in
     let small : Lit → Type 0 = λ (a : Lit). a.0 + 1 < 4294967296 in
     All-weaker (All (IsInRange n)) (All small) (λ c. All-weaker (IsInRange n) small (λ a in_range. omega (arith, in_range, few)) c) inv over
-
-pub over_extended : (m : Parts) (ls : List Latch) (gs : List Gate) (inv : List (List Lit)) (n : ℕ) → n ≡ m.max_var + length ls + length gs → All (All (IsInRange n)) inv → All (IsOverAll (extended m ls gs)) inv
-over_extended m ls gs inv n is over = subst (λ k. All (All (IsInRange k)) inv) is over
-
-pub outside_extended : (m : Parts) (ls : List Latch) (gs : List Gate) (inv : List (List Lit)) (n k : ℕ) → n ≡ m.max_var + length ls + length gs → k < length inv → (All (IsInRange n) (get_or inv k []) → ⊥) → IsOutside (extended m ls gs) inv k
-outside_extended m ls gs inv n k is k_in outside = record { inside = k_in; outside = subst (λ q. All (IsInRange q) (get_or inv k []) → ⊥) is outside }
