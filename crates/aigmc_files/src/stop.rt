@@ -254,7 +254,7 @@ fn is_of_text(number: u8) -> bool
 impl Stop {
     /// The same, where it is the system's, as that of the file with this role.
     fn of_device(self, role: Role) -> Stop
-        ensures { IsOfDevice role self.entry result }
+        ensures { IsOfDevice role self result }
     {
         match self {
             Stop::System(word) => Stop::At {
@@ -270,7 +270,7 @@ impl Stop {
 
     /// The same, where it is a refusal of what a file has, as that of the file with this role.
     fn of_text(self, role: Role) -> Stop
-        ensures { IsOfFile role self.entry result }
+        ensures { IsOfFile role self result }
     {
         match self {
             Stop::Refused(error) if is_of_text(error.number()) => {
@@ -284,8 +284,8 @@ impl Stop {
 
 /// What was given, or a fault of the system at the file with this role.
 pub fn at<T>(role: Role, given: Result<T, Stop>) -> Result<T, Stop>
-    ensures ok { IfOk given.entry (λ x. result ≡ Ok x) }
-    ensures refused { IfErr given.entry (λ s. IsErr result × IfErr result (IsOfDevice role s)) }
+    ensures ok { IfOk given (λ x. result ≡ Ok x) }
+    ensures refused { IfErr given (λ s. IsErr result × IfErr result (IsOfDevice role s)) }
 {
     match given {
         Ok(value) => Ok(value),
@@ -295,8 +295,8 @@ pub fn at<T>(role: Role, given: Result<T, Stop>) -> Result<T, Stop>
 
 /// What was given, or a refusal of what the file with this role has.
 pub fn about<T>(role: Role, given: Result<T, Stop>) -> Result<T, Stop>
-    ensures ok { IfOk given.entry (λ x. result ≡ Ok x) }
-    ensures refused { IfErr given.entry (λ s. IsErr result × IfErr result (IsOfFile role s)) }
+    ensures ok { IfOk given (λ x. result ≡ Ok x) }
+    ensures refused { IfErr given (λ s. IsErr result × IfErr result (IsOfFile role s)) }
 {
     match given {
         Ok(value) => Ok(value),
