@@ -94,6 +94,11 @@ fn evidence_of(conclusion: &Conclusion) -> Option<Evidence> {
     }
 }
 
+/// The file of this name for evidence, which gets a witness circuit where there is one.
+fn file_for<'a>(name: &'a str, witness: Option<&'a Fitted>) -> EvidenceFile<'a> {
+    EvidenceFile { name, witness }
+}
+
 /// The witness circuit of a property that holds, as the file of that name takes it.
 fn witness_of(
     alloc: Global,
@@ -138,10 +143,7 @@ fn show_witness(
 {
     match witness_of(rt.alloc(), whole.file.model(), property, conclusion, out)? {
         Some(witness) => {
-            let to = EvidenceFile {
-                name: out,
-                witness: Some(&witness),
-            };
+            let to = file_for(out, Some(&witness));
             show(rt, whole, property, conclusion, Some(to), spent)
         }
         None => show(rt, whole, property, conclusion, None, spent),
