@@ -79,11 +79,14 @@ class Outs:
     def begin(self, is_old):
         """None of them is there, or each is there with what was there before."""
         self.is_old = is_old
-        for path in self.paths:
-            for beside in path.parent.iterdir():
-                beside.unlink()
-            if is_old:
-                path.write_bytes(BEFORE)
+        for beside in self.beside():
+            beside.unlink()
+        for path in self.paths if is_old else ():
+            path.write_bytes(BEFORE)
+
+    def beside(self):
+        """The files in their folders."""
+        return [it for folder in {path.parent for path in self.paths} for it in folder.iterdir()]
 
     def texts(self):
         """What each holds, or nothing where it is not there."""
@@ -96,7 +99,7 @@ class Outs:
 
     def left(self):
         """What is wrong where a file was left beside one of them."""
-        found = [beside.name for path in self.paths for beside in path.parent.iterdir() if beside != path]
+        found = [beside.name for beside in self.beside() if beside not in self.paths]
         return [f"left: {' '.join(found)}"] if found else []
 
 
