@@ -81,6 +81,28 @@ fn ended<S: PartSat, P: Progress>(
     }
 }
 
+/// What `correspond` finds, by a search that has all latches that are reset in one class.
+fn correspond_by<S: PartSat, P: Progress>(
+    solver: &mut S,
+    alloc: Global,
+    circuit: &Model,
+    search: &mut Search,
+    progress: &mut P,
+    budget: &mut Budget,
+) -> Result<Option<Correspondence>, SatError>
+    requires { IsForBad circuit.now }
+    ensures spends { Spends budget.old budget.new }
+    ensures found { IfOk result (λ r. IfSome r (IsCorrespondence circuit.now)) }
+    ensures none { IfOk result (λ r. r ≡ None → IsGivenUp circuit.now budget.old budget.new) }
+{
+    search.simulate(alloc, budget)?;
+    search.shake(alloc, budget)?;
+    match ended(solver, alloc, circuit, search, progress, budget)? {
+        Round::Fixed(found) => Ok(Some(found)),
+        _ => Ok(None),
+    }
+}
+
 /// Clauses that say which latches are equal, and that are inductive: an invariant where they exclude the bad literal. None
 /// only where the budget is exhausted before they are found, or the part of it that clauses which don't exclude it may take,
 /// or where the latches are too many. Each round is told to `progress`, and counted.
@@ -99,12 +121,7 @@ pub fn correspond<S: PartSat, P: Progress>(
 {
     let opened = opened(alloc, circuit)?;
     let mut search = Search::new(alloc, circuit, opened.as_ref().unwrap_or(circuit))?;
-    search.simulate(alloc, budget)?;
-    search.shake(alloc, budget)?;
-    let ended = ended(solver, alloc, circuit, &mut search, progress, budget)?;
+    let found = correspond_by(solver, alloc, circuit, &mut search, progress, budget);
     *rounds = rounds.saturating_add(search.rounds);
-    match ended {
-        Round::Fixed(found) => Ok(Some(found)),
-        _ => Ok(None),
-    }
+    found
 }

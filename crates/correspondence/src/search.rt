@@ -70,6 +70,18 @@ fn row_of(alloc: Global, values: &[u64x4], run: u32) -> Result<Vec<bool>, Refuse
     Ok(row)
 }
 
+/// The situation of one run.
+fn situation_in(
+    alloc: Global,
+    states: &[u64x4],
+    inputs: &[u64x4],
+    run: u32,
+) -> Result<Situation, Refused> {
+    let state = row_of(alloc, states, run)?;
+    let inputs = row_of(alloc, inputs, run)?;
+    Ok(Situation { state, inputs })
+}
+
 /// The same values in each run.
 fn spread(alloc: Global, row: &[bool]) -> Result<Vec<u64x4>, Refused> {
     let mut values = Vec::new(alloc);
@@ -254,26 +266,42 @@ impl<'a> Search<'a> {
     {
         let mut quiet = 0;
         'shaking: while quiet < QUIET && budget.tick() {
-            let first = self.first_states(alloc)?;
             let born = if quiet % 2 == 0 {
                 0
             } else {
                 self.classes.count()
             };
-            let states = self.around(alloc, first.as_slice(), born)?;
-            let count = self.circuit.inputs().len();
-            let biases = draw_biases(alloc, count, &mut self.generator)?;
+            let states = self.shaken(alloc, born)?;
             let Some(mut runs) = Runs::begin(alloc, self.opened, states.as_slice())? else {
                 return Ok(());
             };
-            let steps = FEW_STEPS;
-            if self.go_on(alloc, &mut runs, biases.as_slice(), steps, budget)? {
+            if self.go_few(alloc, &mut runs, budget)? {
                 quiet = 0;
             } else {
                 quiet += 1;
             }
         }
         Ok(())
+    }
+
+    /// Random states in which the latches of each class are equal.
+    fn shaken(&mut self, alloc: Global, born: usize) -> Result<Vec<u64x4>, Refused> {
+        let first = self.first_states(alloc)?;
+        self.around(alloc, first.as_slice(), born)
+    }
+
+    /// Goes a few steps on. Answers whether a class was split.
+    fn go_few(
+        &mut self,
+        alloc: Global,
+        runs: &mut Runs,
+        budget: &mut Budget,
+    ) -> Result<bool, Refused>
+        ensures { Spends budget.old budget.new }
+    {
+        let count = self.circuit.inputs().len();
+        let biases = draw_biases(alloc, count, &mut self.generator)?;
+        self.go_on(alloc, runs, biases.as_slice(), FEW_STEPS, budget)
     }
 
     /// Simulates a step from a situation in which the latches of each class are equal, and from those around it. Where
@@ -289,35 +317,56 @@ impl<'a> Search<'a> {
         let mut situation = first;
         let mut born = self.classes.count();
         'chasing: while budget.tick() {
-            if !pay(self.circuit, budget) {
-                return Ok(());
-            }
-            let spread = spread(alloc, situation.state.as_slice())?;
-            let states = self.around(alloc, spread.as_slice(), born)?;
-            let inputs = self.inputs_around(alloc, situation.inputs.as_slice())?;
-            let Some(mut runs) = Runs::begin(alloc, self.opened, states.as_slice())? else {
+            let count = self.classes.count();
+            let Some(next) = self.step_around(alloc, &situation, born, budget)? else {
                 return Ok(());
             };
-            born = self.classes.count();
-            runs.step(inputs.as_slice());
-            let Some(run) = self.split(alloc, &runs)? else {
-                return self.leave(alloc, &mut runs, budget);
-            };
-            situation = Situation {
-                state: row_of(alloc, states.as_slice(), run)?,
-                inputs: row_of(alloc, inputs.as_slice(), run)?,
-            };
+            born = count;
+            situation = next;
         }
         Ok(())
     }
 
-    /// Goes a few steps on where nothing was split.
-    fn leave(&mut self, alloc: Global, runs: &mut Runs, budget: &mut Budget) -> Result<(), Refused>
+    /// Simulates a step from a situation and from those around it. Answers the situation that split a class, where one did.
+    fn step_around(
+        &mut self,
+        alloc: Global,
+        situation: &Situation,
+        born: usize,
+        budget: &mut Budget,
+    ) -> Result<Option<Situation>, Refused>
         ensures { Spends budget.old budget.new }
     {
-        let count = self.circuit.inputs().len();
-        let biases = draw_biases(alloc, count, &mut self.generator)?;
-        self.go_on(alloc, runs, biases.as_slice(), FEW_STEPS, budget)?;
-        Ok(())
+        if !pay(self.circuit, budget) {
+            return Ok(None);
+        }
+        let spread = spread(alloc, situation.state.as_slice())?;
+        let states = self.around(alloc, spread.as_slice(), born)?;
+        let inputs = self.inputs_around(alloc, situation.inputs.as_slice())?;
+        match self.step_from(alloc, states.as_slice(), inputs.as_slice(), budget)? {
+            Some(run) => Ok(Some(situation_in(alloc, states.as_slice(), inputs.as_slice(), run)?)),
+            None => Ok(None),
+        }
+    }
+
+    /// Simulates a step from these states by these inputs, and a few more where it splits no class. Answers a run that split one.
+    fn step_from(
+        &mut self,
+        alloc: Global,
+        states: &[u64x4],
+        inputs: &[u64x4],
+        budget: &mut Budget,
+    ) -> Result<Option<u32>, Refused>
+        ensures { Spends budget.old budget.new }
+    {
+        let Some(mut runs) = Runs::begin(alloc, self.opened, states)? else {
+            return Ok(None);
+        };
+        runs.step(inputs);
+        let run = self.split(alloc, &runs)?;
+        if run.is_none() {
+            self.go_few(alloc, &mut runs, budget)?;
+        }
+        Ok(run)
     }
 }

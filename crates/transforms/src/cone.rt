@@ -20,22 +20,32 @@ struct Search {
     open: Vec<u32>,
 }
 
+/// Notes for each gate's variable those of its right sides.
+fn note_gates(below: &mut [[u32; 2]], gates: &[Gate]) {
+    for gate in gates {
+        if let Some(place) = below.get_mut(gate.lhs.variable() as usize) {
+            *place = [gate.rhs0.variable(), gate.rhs1.variable()];
+        }
+    }
+}
+
+/// Notes for each latch's variable that of its next literal.
+fn note_latches(below: &mut [[u32; 2]], latches: &[Latch]) {
+    for latch in latches {
+        if let Some(place) = below.get_mut(latch.lit.variable() as usize) {
+            *place = [latch.next.variable(), 0];
+        }
+    }
+}
+
 impl Search {
     /// Nothing yet. It costs the circuit.
     fn new(alloc: Global, circuit: &Model) -> Result<Search, Refused> {
         circuit.well_formed();
         let places = circuit.max_var() as usize + 1;
         let mut below = filled(alloc, [0, 0], places)?;
-        for gate in circuit.gates() {
-            if let Some(place) = below.get_mut(gate.lhs.variable() as usize) {
-                *place = [gate.rhs0.variable(), gate.rhs1.variable()];
-            }
-        }
-        for latch in circuit.latches() {
-            if let Some(place) = below.get_mut(latch.lit.variable() as usize) {
-                *place = [latch.next.variable(), 0];
-            }
-        }
+        note_gates(below.as_mut_slice(), circuit.gates());
+        note_latches(below.as_mut_slice(), circuit.latches());
         let marks = filled(alloc, false, places)?;
         let open = Vec::new(alloc);
         Ok(Search { below, marks, open })

@@ -40,8 +40,11 @@ fn names_of(
     Ok(names)
 }
 
-/// Whether each name has another one that is equal, and no two of them are equal.
+/// Whether there are as many of both, each name has another one that is equal, and no two of them are equal.
 fn are_same<'a>(ones: &[Named<'a>], others: &[Named<'a>]) -> bool {
+    if ones.len() != others.len() {
+        return false;
+    }
     let mut before = NO_NAME;
     for (place, one) in ones.iter().enumerate() {
         let Some(other) = others.get(place) else {
@@ -66,6 +69,18 @@ fn positions(alloc: Global, lits: &[Lit]) -> Result<Vec<u32>, Refused> {
     Ok(positions)
 }
 
+/// Gives each of the others the position of the one that stands at its place in the order of the names.
+fn pair_by_name<'a>(partners: &mut [u32], ones: &[Named<'a>], others: &[Named<'a>]) {
+    for (place, other) in others.iter().enumerate() {
+        let Some(one) = ones.get(place) else {
+            return;
+        };
+        if let Some(partner) = partners.get_mut(other.position as usize) {
+            *partner = one.position;
+        }
+    }
+}
+
 /// For each of the other circuit's literals of a kind the position of that of the first circuit which belongs to it, where
 /// both have as many as `lits`: that of the same name, where both name all of them and with the same names, and else
 /// that at the same position.
@@ -79,19 +94,8 @@ pub fn partners<'a>(
     let mut partners = positions(alloc, lits)?;
     let ones = names_of(alloc, one.symbols(), kind)?;
     let others = names_of(alloc, other.symbols(), kind)?;
-    if ones.len() != lits.len() || others.len() != lits.len() {
-        return Ok(partners);
-    }
-    if !are_same(ones.as_slice(), others.as_slice()) {
-        return Ok(partners);
-    }
-    for (place, other) in others.iter().enumerate() {
-        let Some(one) = ones.get(place) else {
-            return Ok(partners);
-        };
-        if let Some(partner) = partners.get_mut(other.position as usize) {
-            *partner = one.position;
-        }
+    if ones.len() == lits.len() && are_same(ones.as_slice(), others.as_slice()) {
+        pair_by_name(partners.as_mut_slice(), ones.as_slice(), others.as_slice());
     }
     Ok(partners)
 }

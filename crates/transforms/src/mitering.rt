@@ -204,28 +204,58 @@ struct Halves<'a> {
 }
 
 impl<'a> Halves<'a> {
-    /// The two circuits, of which the inputs belong together so, without their differences. Inputs, latches and gates have the
-    /// numbering of the binary layout.
-    fn new(
-        alloc: Global,
-        one: &'a Model,
-        other: &'a Model,
-        inputs: &[u32],
-    ) -> Result<Halves<'a>, Refused> {
-        let mut parts = nothing(alloc);
-        let mut one = Half::new(alloc, one)?;
-        let mut other = Half::new(alloc, other)?;
-        one.add_inputs(&mut parts)?;
-        other.take_inputs(&parts, inputs);
-        one.number_latches(&mut parts);
-        other.number_latches(&mut parts);
-        one.add_gates(&mut parts)?;
-        other.add_gates(&mut parts)?;
-        one.add_latches(&mut parts)?;
-        other.add_latches(&mut parts)?;
-        one.add_constraints(&mut parts)?;
-        other.add_constraints(&mut parts)?;
+    /// Nothing of the two circuits yet.
+    fn new(alloc: Global, one: &'a Model, other: &'a Model) -> Result<Halves<'a>, Refused> {
+        let one = Half::new(alloc, one)?;
+        let other = Half::new(alloc, other)?;
+        let parts = nothing(alloc);
         Ok(Halves { one, other, parts })
+    }
+
+    /// Adds the inputs, of which those at these positions belong together, and gives the latches their variables.
+    fn add_inputs(&mut self, places: &[u32]) -> Result<(), Refused> {
+        self.one.add_inputs(&mut self.parts)?;
+        self.other.take_inputs(&self.parts, places);
+        self.one.number_latches(&mut self.parts);
+        self.other.number_latches(&mut self.parts);
+        Ok(())
+    }
+
+    /// Adds the gates of both.
+    fn add_gates(&mut self) -> Result<(), Refused> {
+        self.one.add_gates(&mut self.parts)?;
+        self.other.add_gates(&mut self.parts)
+    }
+
+    /// Adds the latches of both.
+    fn add_latches(&mut self) -> Result<(), Refused> {
+        self.one.add_latches(&mut self.parts)?;
+        self.other.add_latches(&mut self.parts)
+    }
+
+    /// Adds the constraints of both.
+    fn add_constraints(&mut self) -> Result<(), Refused> {
+        self.one.add_constraints(&mut self.parts)?;
+        self.other.add_constraints(&mut self.parts)
+    }
+
+    /// Adds the bad literal, which is set where two that belong together differ.
+    fn add_bad(&mut self, matching: &Matching) -> Result<(), Refused> {
+        let (one, other) = (self.one.circuit, self.other.circuit);
+        let outputs = matching.outputs.as_slice();
+        let equal = self.add_all_equal(TRUE, one.outputs(), other.outputs(), outputs)?;
+        let equal = self.add_all_equal(equal, one.bad(), other.bad(), matching.bad.as_slice())?;
+        self.parts.bad.push(negated(equal))
+    }
+
+    /// Adds the two circuits and the literal that says where they differ. Inputs, latches and gates have the numbering of the
+    /// binary layout.
+    fn join(&mut self, matching: &Matching) -> Result<(), Refused> {
+        self.add_inputs(matching.inputs.as_slice())?;
+        self.add_gates()?;
+        self.add_latches()?;
+        self.add_constraints()?;
+        self.add_bad(matching)
     }
 
     /// Adds the gates that say whether this literal is set and the literals that belong together are equal, and answers
@@ -258,17 +288,10 @@ impl<'a> Halves<'a> {
 }
 
 /// The miter of two circuits.
-fn joined<'a>(
-    alloc: Global,
-    one: &'a Model,
-    other: &'a Model,
-    matching: &Matching,
-) -> Result<Parts, Refused> {
-    let mut halves = Halves::new(alloc, one, other, matching.inputs.as_slice())?;
-    let outputs = matching.outputs.as_slice();
-    let equal = halves.add_all_equal(TRUE, one.outputs(), other.outputs(), outputs)?;
-    let equal = halves.add_all_equal(equal, one.bad(), other.bad(), matching.bad.as_slice())?;
-    halves.parts.bad.push(negated(equal))?;
+fn joined<'a>(alloc: Global, one: &'a AigerFile, other: &'a AigerFile) -> Result<Parts, Refused> {
+    let matching = Matching::of(alloc, one, other)?;
+    let mut halves = Halves::new(alloc, one.model(), other.model())?;
+    halves.join(&matching)?;
     let Halves {
         one: _,
         other: _,
@@ -328,20 +351,30 @@ fn add_latches(
     Ok(())
 }
 
-/// The names in the miter: those of the first circuit's inputs, of all latches and of the bad literal.
-fn names(alloc: Global, one: &AigerFile, other: &AigerFile) -> Result<Vec<Symbol>, TransformError> {
-    let mut symbols = Vec::new(alloc);
-    for symbol in one.symbols() {
+/// Adds the names of a circuit's inputs.
+fn add_inputs(alloc: Global, symbols: &mut Vec<Symbol>, file: &AigerFile) -> Result<(), Refused> {
+    for symbol in file.symbols() {
         if symbol.kind == SymbolKind::Input {
             let name = symbol.name.as_slice();
-            add(alloc, &mut symbols, symbol.kind, symbol.position, name)?;
+            add(alloc, symbols, symbol.kind, symbol.position, name)?;
         }
     }
+    Ok(())
+}
+
+/// Adds the names in the miter: those of the first circuit's inputs, of all latches and of the bad literal.
+fn add_names(
+    alloc: Global,
+    symbols: &mut Vec<Symbol>,
+    one: &AigerFile,
+    other: &AigerFile,
+) -> Result<(), TransformError> {
+    add_inputs(alloc, symbols, one)?;
     let latches = count(one.model().latches().len());
-    add_latches(alloc, &mut symbols, one, FIRST, 0)?;
-    add_latches(alloc, &mut symbols, other, SECOND, latches)?;
-    add(alloc, &mut symbols, SymbolKind::Bad, 0, DIFFERS)?;
-    Ok(symbols)
+    add_latches(alloc, symbols, one, FIRST, 0)?;
+    add_latches(alloc, symbols, other, SECOND, latches)?;
+    add(alloc, symbols, SymbolKind::Bad, 0, DIFFERS)?;
+    Ok(())
 }
 
 /// The file of the miter of two circuits, which have as many inputs, outputs and bad literals each. It has the numbering of the
@@ -351,10 +384,10 @@ pub fn miter_of<'a>(
     one: &'a AigerFile,
     other: &'a AigerFile,
 ) -> Result<AigerFile, TransformError> {
-    let matching = Matching::of(alloc, one, other)?;
-    let parts = joined(alloc, one.model(), other.model(), &matching)?;
+    let parts = joined(alloc, one, other)?;
     let miter = Model::from_parts(alloc, parts)?;
-    let symbols = Seq::from_vec(names(alloc, one, other)?);
-    let file = AigerFile::new(alloc, miter, symbols, None)?;
+    let mut symbols = Vec::new(alloc);
+    add_names(alloc, &mut symbols, one, other)?;
+    let file = AigerFile::new(alloc, miter, Seq::from_vec(symbols), None)?;
     Ok(file)
 }

@@ -48,6 +48,39 @@ fn add_copies(
     Ok(())
 }
 
+/// Adds the names of what the shadow circuit has and the circuit, whose names are the old ones, has not.
+fn add_new(
+    alloc: Global,
+    new: &mut Vec<Symbol>,
+    old: &[Symbol],
+    circuit: &Model,
+    shadow: &Model,
+) -> Result<(), TransformError>
+    ensures { IfErr result IsUnmade }
+{
+    let latches = count(circuit.latches().len());
+    add(
+        alloc,
+        new,
+        SymbolKind::Input,
+        count(circuit.inputs().len()),
+        SAVE,
+    )?;
+    add(alloc, new, SymbolKind::Latch, latches, SAVED)?;
+    let copies = latches.saturating_add(1);
+    add_copies(alloc, new, old, copies)?;
+    let seen = copies.saturating_add(latches);
+    add_numbered(alloc, new, SEEN, seen, count(shadow.latches().len()))
+}
+
+/// Adds names behind others.
+fn append(symbols: &mut Vec<Symbol>, more: Vec<Symbol>) -> Result<(), Refused> {
+    for symbol in more {
+        push(symbols, symbol)?;
+    }
+    Ok(())
+}
+
 /// The names in the shadow circuit: those of the circuit, those of the copies, and those of what is new.
 fn names(
     alloc: Global,
@@ -57,19 +90,10 @@ fn names(
 ) -> Result<Vec<Symbol>, TransformError>
     ensures { IfErr result IsUnmade }
 {
-    let inputs = count(file.model().inputs().len());
-    let latches = count(file.model().latches().len());
     let mut symbols = old_names(alloc, file, justice)?;
     let mut new = Vec::new(alloc);
-    add(alloc, &mut new, SymbolKind::Input, inputs, SAVE)?;
-    add(alloc, &mut new, SymbolKind::Latch, latches, SAVED)?;
-    let copies = latches.saturating_add(1);
-    add_copies(alloc, &mut new, symbols.as_slice(), copies)?;
-    let seen = copies.saturating_add(latches);
-    add_numbered(alloc, &mut new, SEEN, seen, count(shadow.latches().len()))?;
-    for symbol in new {
-        push(&mut symbols, symbol)?;
-    }
+    add_new(alloc, &mut new, symbols.as_slice(), file.model(), shadow)?;
+    append(&mut symbols, new)?;
     Ok(symbols)
 }
 
