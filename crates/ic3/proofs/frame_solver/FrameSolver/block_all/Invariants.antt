@@ -4,7 +4,7 @@ use Rattle.ic3.specs.Sound.{IsSound}
 use Rattle.ic3.specs.Cubes.{IsReady}
 use Rattle.ic3.specs.Queue.{AreQueued}
 use Rattle.ic3.specs.Answers.{AreObligations}
-use Rattle.ic3.proofs.frame_solver.FrameSolver.block_obligations.Given as goal
+use Rattle.ic3.proofs.frame_solver.FrameSolver.block_all.Given as goal
 
 abbrev pub invariant-blocking : goal.invariant-blocking
 invariant-blocking g l = record {
@@ -12,9 +12,9 @@ invariant-blocking g l = record {
   top : l.frames.top ≡ l.initial.frames.top;
   sound : IsSound l.circuit l.self l.frames;
   ready : IsReady l.circuit l.lifting;
-  obligations : AreObligations l.circuit l.found.items;
-  frames : length l.queue.frames.items ≡ l.frames.top + 1;
-  queued : AreQueued (length l.found.items) l.queue;
+  obligations : AreObligations l.circuit l.obligations.found.items;
+  frames : length l.obligations.queue.frames.items ≡ l.frames.top + 1;
+  queued : AreQueued (length l.obligations.found.items) l.obligations.queue;
 }
 
 abbrev pub decreases-blocking : goal.decreases-blocking
