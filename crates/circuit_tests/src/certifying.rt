@@ -104,7 +104,7 @@ static OF_PAIR: [(&[&[Lit]], Answer); 3] = [
 ];
 
 #[test]
-fn clauses_of_circuits(rt: HostRuntime) -> Result<(), Fail> {
+fn clauses_of_a_latch(rt: HostRuntime) -> Result<(), Fail> {
     for (property, clauses, steps, wanted) in &OF_HOLD {
         let question = Clauses {
             property: *property,
@@ -113,6 +113,11 @@ fn clauses_of_circuits(rt: HostRuntime) -> Result<(), Fail> {
         };
         assert!(rt; asked(rt.alloc(), HOLD, &question)? == *wanted);
     }
+    Ok(())
+}
+
+#[test]
+fn clauses_of_two_latches(rt: HostRuntime) -> Result<(), Fail> {
     for (clauses, wanted) in &OF_PAIR {
         let question = Clauses {
             property: Property::Bad(0),

@@ -44,44 +44,53 @@ fn clauses(alloc: Global) -> Result<Seq<Seq<Lit>>, Refused> {
     Ok(clauses)
 }
 
-/// Whether the certificate is accepted, as a value and as a text.
-fn is_accepted(alloc: Global, circuit: Model, certificate: &Certificate) -> Result<bool, Fail> {
-    check(alloc, &circuit, certificate)?;
-    let file = AigerFile::new(alloc, circuit, Seq::new(alloc), None)?;
-    let mut text = ToVec::new(alloc);
-    put_file(&file, Layout::Binary, &mut text)?;
-    let mut evidence = ToVec::new(alloc);
-    certificate::write(certificate, &mut evidence)?;
+/// Whether these texts of a circuit and of a certificate are accepted.
+fn are_accepted(alloc: Global, text: &[u8], evidence: &[u8]) -> Result<bool, Fail> {
     let mut out = ToVec::new(alloc);
     let yes = run_safe(
         alloc,
-        &mut FromBytes::new(text.as_slice()),
-        &mut FromBytes::new(evidence.as_slice()),
+        &mut FromBytes::new(text),
+        &mut FromBytes::new(evidence),
         &mut out,
     )?;
     Ok(yes && out.as_slice() == b"yes safe b0\n".as_slice())
 }
 
-/// Whether the clauses come to a certificate that is accepted.
-fn is_certified(alloc: Global) -> Result<bool, Fail> {
-    let circuit = Model::from_parts(alloc, holding(alloc)?)?;
+/// Whether the certificate is accepted, as a value and as a text.
+fn is_accepted(alloc: Global, file: &AigerFile, certificate: &Certificate) -> Result<bool, Fail> {
+    check(alloc, file.model(), certificate)?;
+    let mut text = ToVec::new(alloc);
+    put_file(file, Layout::Binary, &mut text)?;
+    let mut evidence = ToVec::new(alloc);
+    certificate::write(certificate, &mut evidence)?;
+    are_accepted(alloc, text.as_slice(), evidence.as_slice())
+}
+
+/// Whether the clauses come to a certificate of the circuit that is accepted.
+fn is_certified(alloc: Global, file: &AigerFile) -> Result<bool, Fail> {
     let clauses = clauses(alloc)?;
     let mut budget = Budget::new(1_000_000);
-    let outcome = certify(
+    match certify(
         alloc,
-        &circuit,
+        file.model(),
         Property::Bad(0),
         clauses.as_slice(),
         &mut budget,
-    )?;
-    match outcome {
-        Certified::Certificate(certificate) => is_accepted(alloc, circuit, &certificate),
+    )? {
+        Certified::Certificate(certificate) => is_accepted(alloc, file, &certificate),
         _ => Ok(false),
     }
 }
 
+/// The same of the circuit whose latches keep their values.
+fn is_holding_certified(alloc: Global) -> Result<bool, Fail> {
+    let circuit = Model::from_parts(alloc, holding(alloc)?)?;
+    let file = AigerFile::new(alloc, circuit, Seq::new(alloc), None)?;
+    is_certified(alloc, &file)
+}
+
 #[test]
 fn thousand_clauses_are_certified(rt: HostRuntime) -> Result<(), Fail> {
-    assert!(rt; is_certified(rt.alloc())?);
+    assert!(rt; is_holding_certified(rt.alloc())?);
     Ok(())
 }

@@ -11,22 +11,35 @@ use std::alloc::Global;
 use std::fmt::Display;
 use std::test::Fail;
 
+/// Whether those of a circuit that is written have their numbers, and no place.
+fn writing_has_numbers() -> bool {
+    let (unordered, device) = (AigWriteError::Unordered, AigWriteError::Device);
+    let are_numbered = unordered.number() == 17 && device.number() == 21;
+    are_numbered && unordered.place() == 0 && device.place() == 0
+}
+
+/// Whether those of steps and of shadow circuits have their numbers and places.
+fn limits_have_numbers() -> bool {
+    let missing = LiveError::NoProperty(4_294_967_295);
+    let (shadow, steps) = (LiveError::Limit, CnfError::Limit);
+    let are_numbered = missing.number() == 30 && shadow.number() == 4 && steps.number() == 4;
+    are_numbered && missing.place() == 4_294_967_295 && shadow.place() == 0 && steps.place() == 0
+}
+
+/// Whether those of texts and of a replay have their numbers and places.
+fn texts_have_numbers() -> bool {
+    let against = ReplayError::InitialReset { latch: 1 };
+    let long = ReadError::TooLong;
+    let line = LratError::Number { place: 0 };
+    let are_numbered = against.number() == 60 && long.number() == 1 && line.number() == 3;
+    are_numbered && against.place() == 1 && long.place() == 67_108_864 && line.place() == 0
+}
+
 #[test]
 fn refusals_have_numbers(rt: HostRuntime) {
-    let (unordered, device) = (AigWriteError::Unordered, AigWriteError::Device);
-    assert!(rt; (unordered.number(), unordered.place()) == (17, 0));
-    assert!(rt; (device.number(), device.place()) == (21, 0));
-    let against = ReplayError::InitialReset { latch: 1 };
-    assert!(rt; (against.number(), against.place()) == (60, 1));
-    let missing = LiveError::NoProperty(4_294_967_295);
-    assert!(rt; (missing.number(), missing.place()) == (30, 4_294_967_295));
-    let (shadow, steps) = (LiveError::Limit, CnfError::Limit);
-    assert!(rt; (shadow.number(), shadow.place()) == (4, 0));
-    assert!(rt; (steps.number(), steps.place()) == (4, 0));
-    let long = ReadError::TooLong;
-    assert!(rt; (long.number(), long.place()) == (1, 67_108_864));
-    let line = LratError::Number { place: 0 };
-    assert!(rt; (line.number(), line.place()) == (3, 0));
+    assert!(rt; writing_has_numbers());
+    assert!(rt; limits_have_numbers());
+    assert!(rt; texts_have_numbers());
 }
 
 /// Whether a refusal is reported in these words.
@@ -34,24 +47,32 @@ fn is_told<E: Display>(alloc: Global, e: &E, words: &str) -> Result<bool, Fail> 
     Ok(format!(in alloc; "{e}")?.as_str() == words)
 }
 
-#[test]
-fn refusals_have_words(rt: HostRuntime) -> Result<(), Fail> {
-    let alloc = rt.alloc();
-    assert!(rt;
-        is_told(
-            alloc,
-            &ReadError::Cyclic(7),
-            "variable 7 leads into a cycle"
-        )?
-    );
-    assert!(rt; is_told(alloc, &CnfError::Limit, "more than 255 steps")?);
+/// Whether those of circuits are reported in their words.
+fn circuits_have_words(alloc: Global) -> Result<bool, Fail> {
+    let cyclic = ReadError::Cyclic(7);
+    Ok(
+        is_told(alloc, &cyclic, "variable 7 leads into a cycle")?
+            && is_told(alloc, &CnfError::Limit, "more than 255 steps")?,
+    )
+}
+
+/// Whether those of proofs are reported in their words.
+fn proofs_have_words(alloc: Global) -> Result<bool, Fail> {
     let step = StepError {
         fault: Fault::SeveralLeft,
         line: 12,
     };
-    assert!(rt; is_told(alloc, &step, "line 12: a hint leaves several literals")?);
     let line = LratError::Truncated { place: 5 };
-    assert!(rt; is_told(alloc, &line, "byte 5: the text ends too early")?);
+    Ok(
+        is_told(alloc, &step, "line 12: a hint leaves several literals")?
+            && is_told(alloc, &line, "byte 5: the text ends too early")?,
+    )
+}
+
+#[test]
+fn refusals_have_words(rt: HostRuntime) -> Result<(), Fail> {
+    assert!(rt; circuits_have_words(rt.alloc())?);
+    assert!(rt; proofs_have_words(rt.alloc())?);
     Ok(())
 }
 

@@ -238,17 +238,23 @@ static UNASKED: [(Property, (u8, u64)); 3] = [
     (Property::Justice(4), (30, 4)),
 ];
 
+/// A refusal by its number and place, or 0 and what was spent where no evidence is reported.
+fn told(verdict: &Result<Verdict, DecideError>, spent: u64) -> (u8, u64) {
+    match verdict {
+        Ok(Verdict::Unknown(Reason::NoEvidence)) => (0, spent),
+        Ok(_) => (255, 0),
+        Err(e) => (e.number(), e.place()),
+    }
+}
+
 fn unasked(alloc: Global, property: Property) -> Result<(u8, u64), Fail> {
     let question = Asked {
         property,
         engines: &[],
         steps: 7,
     };
-    match asked(alloc, HOLD, &question)? {
-        (Ok(Verdict::Unknown(Reason::NoEvidence)), spent) => Ok((0, spent)),
-        (Ok(_), _) => Ok((255, 0)),
-        (Err(e), _) => Ok((e.number(), e.place())),
-    }
+    let (verdict, spent) = asked(alloc, HOLD, &question)?;
+    Ok(told(&verdict, spent))
 }
 
 #[test]
@@ -287,6 +293,13 @@ static CLAIMS: [(bool, &[Insists], u64, (u8, bool)); 5] = [
 ];
 
 /// The verdict's status, and whether it has a certificate that the checker accepts.
+fn weighed(alloc: Global, circuit: &[u8], verdict: &Verdict) -> Result<(u8, bool), Fail> {
+    let (status, _) = shown(alloc, verdict, b"")?;
+    let is_accepted = asked(alloc, circuit, &Accepted { verdict })?;
+    Ok((status, is_accepted))
+}
+
+/// The same of the verdict that is decided where engines claim this.
 fn claimed(
     alloc: Global,
     toggles: bool,
@@ -295,12 +308,7 @@ fn claimed(
 ) -> Result<(u8, bool), Fail> {
     let circuit = if toggles { TOGGLE } else { HOLD };
     let (verdict, _) = decided(alloc, circuit, engines, steps)?;
-    let verdict = verdict?;
-    let (status, _) = shown(alloc, &verdict, b"")?;
-    Ok((
-        status,
-        asked(alloc, circuit, &Accepted { verdict: &verdict })?,
-    ))
+    weighed(alloc, circuit, &verdict?)
 }
 
 #[test]

@@ -120,7 +120,38 @@ fn circuit_of(alloc: Global, text: &[u8]) -> Result<Model, ReadError>
     }
 }
 
-/// How two engines of a sort are asked about each circuit, of which both have to find the same.
+/// How two engines of a sort are asked about a circuit, of which both have to find the same.
+fn compared_at<E: Engine>(
+    first: &mut E,
+    second: &mut E,
+    alloc: Global,
+    circuit: &Model,
+    steps: u64,
+) -> Result<Called, Fail>
+    requires { IsForBad circuit.now }
+{
+    let (finding, first_again) = found(first, alloc, circuit, steps)?;
+    let (other, second_again) = found(second, alloc, circuit, steps)?;
+    if is_same(&finding, &other) {
+        Ok(Some(first_again || second_again))
+    } else {
+        Ok(None)
+    }
+}
+
+/// The same of the circuit of a text.
+fn compared_on<E: Engine>(
+    first: &mut E,
+    second: &mut E,
+    alloc: Global,
+    text: &[u8],
+    steps: u64,
+) -> Result<Called, Fail> {
+    let circuit = circuit_of(alloc, text)?;
+    compared_at(first, second, alloc, &circuit, steps)
+}
+
+/// The same of each circuit.
 fn compared<E: Engine>(
     mut first: E,
     mut second: E,
@@ -129,13 +160,10 @@ fn compared<E: Engine>(
 ) -> Result<Called, Fail> {
     let mut is_again = false;
     for text in &ROWS {
-        let circuit = circuit_of(alloc, text)?;
-        let (finding, first_again) = found(&mut first, alloc, &circuit, steps)?;
-        let (other, second_again) = found(&mut second, alloc, &circuit, steps)?;
-        if !is_same(&finding, &other) {
-            return Ok(None);
+        match compared_on(&mut first, &mut second, alloc, text, steps)? {
+            Some(again) => is_again |= again,
+            None => return Ok(None),
         }
-        is_again |= first_again || second_again;
     }
     Ok(Some(is_again))
 }
@@ -277,19 +305,34 @@ fn solve<S: Sat>(solver: &mut S, alloc: Global) -> Result<(Answer, bool), SatErr
     }
 }
 
+/// How a solver is asked about a formula of this greatest variable.
+fn asked_by<S: Sat>(
+    solver: &mut S,
+    alloc: Global,
+    vars: u16,
+    formula: &Formula,
+    is_unsatisfiable: bool,
+) -> Result<Called, Trouble>
+    requires vars { formula.now.vars ≡ vars }
+    requires is_formula { IsFormula formula.now }
+{
+    let reset_again = reset(solver, alloc, vars)?;
+    let added_again = add_all(solver, alloc, formula)?;
+    let (answer, solved_again) = solve(solver, alloc)?;
+    let none: &[i32] = &[];
+    let core = if is_unsatisfiable { Some(none) } else { None };
+    if is_right(&answer, formula, core) {
+        Ok(Some(reset_again || added_again || solved_again))
+    } else {
+        Ok(None)
+    }
+}
+
 /// How a solver is asked about a list of clauses.
 fn by_solver<S: Sat>(mut solver: S, alloc: Global, clauses: &Clauses) -> Result<Called, Trouble> {
     let (vars, list, is_unsatisfiable) = clauses;
     let formula = formula_of(alloc, *vars, list)?;
-    let reset_again = reset(&mut solver, alloc, *vars)?;
-    let added_again = add_all(&mut solver, alloc, &formula)?;
-    let (answer, solved_again) = solve(&mut solver, alloc)?;
-    let none: &[i32] = &[];
-    let core = if *is_unsatisfiable { Some(none) } else { None };
-    if !is_right(&answer, &formula, core) {
-        return Ok(None);
-    }
-    Ok(Some(reset_again || added_again || solved_again))
+    asked_by(&mut solver, alloc, *vars, &formula, *is_unsatisfiable)
 }
 
 /// The same of a call that may have been refused, which is no right answer.
@@ -356,16 +399,31 @@ fn stands(alloc: Global, refuted: &Refuted, formula: &Formula, is_unsatisfiable:
     }
 }
 
+/// How a refuter of the formula is asked about it.
+fn refuted_by(
+    refuter: &mut Refuter,
+    alloc: Global,
+    formula: &Formula,
+    is_unsatisfiable: bool,
+) -> Result<Called, Trouble>
+    requires { IsFormula formula.now }
+{
+    let (refuted, is_again) = refute(refuter, alloc)?;
+    if stands(alloc, &refuted, formula, is_unsatisfiable) {
+        Ok(Some(is_again))
+    } else {
+        Ok(None)
+    }
+}
+
 /// How a refuter is asked about a list of clauses.
 fn by_refuter(alloc: Global, clauses: &Clauses) -> Result<Called, Trouble> {
     let (vars, list, is_unsatisfiable) = clauses;
     let formula = formula_of(alloc, *vars, list)?;
     let mut refuter = refuter_of(alloc, &formula)?;
-    let (refuted, is_again) = refute(&mut refuter, alloc)?;
-    if !stands(alloc, &refuted, &formula, *is_unsatisfiable) {
-        return Ok(None);
-    }
-    Ok(Some(is_again))
+    let call = refuted_by(&mut refuter, alloc, &formula, *is_unsatisfiable);
+    drop(refuter);
+    call
 }
 
 #[test]

@@ -56,19 +56,30 @@ fn a_core_is_of_what_the_clauses_deny(rt: HostRuntime) -> Result<(), Fail> {
     for (assume, core) in &CORES {
         assert!(rt; is_exactly(rt.alloc(), 4, list, assume, Err(core))?);
     }
+    Ok(())
+}
+
+#[test]
+fn a_model_is_of_what_is_assumed(rt: HostRuntime) -> Result<(), Fail> {
+    let list: &[i32] = &[-1, -2, -3, 0];
     let model = [false, true, true, false, true];
     assert!(rt; is_exactly(rt.alloc(), 4, list, &[1, 2, -3, 4], Ok(model.as_slice()))?);
     Ok(())
 }
 
+/// Whether 2, its negation and 3 follow from 1 and an implication.
+fn all_following<S: Sat>(mut solver: S, alloc: Global) -> Result<[bool; 3], Trouble> {
+    load_list(&mut solver, alloc, 3, &[1, 0, -1, 2, 0])?;
+    let second = follows(&mut solver, alloc, 2, &mut Budget::new(1000))?;
+    let negated = follows(&mut solver, alloc, -2, &mut Budget::new(1000))?;
+    let third = follows(&mut solver, alloc, 3, &mut Budget::new(1000))?;
+    Ok([second, negated, third])
+}
+
 #[test]
-fn what_follows(rt: HostRuntime) -> Result<(), Fail> {
-    let mut solver = Plain::new(rt.alloc());
-    load_list(&mut solver, rt.alloc(), 3, &[1, 0, -1, 2, 0])?;
-    assert!(rt; follows(&mut solver, rt.alloc(), 2, &mut Budget::new(1000))?);
-    assert!(rt; !follows(&mut solver, rt.alloc(), -2, &mut Budget::new(1000))?);
-    assert!(rt; !follows(&mut solver, rt.alloc(), 3, &mut Budget::new(1000))?);
-    Ok(())
+fn what_follows(rt: HostRuntime) {
+    let following = all_following(Plain::new(rt.alloc()), rt.alloc());
+    assert!(rt; following == Ok([true, false, false]));
 }
 
 /// Whether a solver begun anew with one unit has its model, though the clauses before had none.

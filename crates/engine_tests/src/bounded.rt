@@ -7,9 +7,9 @@ ghost use Rattle.engine.specs.Findings.{IsForBad};
 use aag::read;
 use base::Budget;
 use bmc::Bmc;
-use engine::{Counters, Engine, EngineError, Finding, Reason};
+use engine::{Counters, Engine, Finding, Reason};
 use graph::{Model, ReadError};
-use solver::{Plain, Sat};
+use solver::Plain;
 use std::alloc::Global;
 use std::test::Fail;
 
@@ -51,18 +51,16 @@ pub fn circuit(alloc: Global, text: &[u8]) -> Result<Model, ReadError>
     file.model().for_bad(alloc, 0)
 }
 
-/// How many times the run has that is found within a budget of `steps`, 0 where there is none.
-fn times<S: Sat>(
-    solver: S,
+/// How many times the run has that the engine finds within a budget of `steps`, 0 where there is none.
+fn times<E: Engine>(
+    mut engine: E,
     alloc: Global,
     circuit: &Model,
-    depth: u8,
     steps: u64,
-) -> Result<Option<usize>, EngineError>
+) -> Result<Option<usize>, Fail>
     requires { IsForBad circuit.now }
 {
-    let mut budget = Budget::new(steps);
-    match Bmc::new(solver, u32::from(depth)).find(alloc, circuit, &mut budget)? {
+    match engine.find(alloc, circuit, &mut Budget::new(steps))? {
         Finding::Run { inputs, .. } => Ok(Some(inputs.len())),
         Finding::Unknown(Reason::Depth(_)) => Ok(Some(0)),
         _ => Ok(None),
@@ -72,7 +70,8 @@ fn times<S: Sat>(
 /// The same of the circuit of a text, by backtracking.
 fn times_of(alloc: Global, text: &[u8], depth: u8, steps: u64) -> Result<Option<usize>, Fail> {
     let circuit = circuit(alloc, text)?;
-    Ok(times(Plain::new(alloc), alloc, &circuit, depth, steps)?)
+    let engine = Bmc::new(Plain::new(alloc), u32::from(depth));
+    times(engine, alloc, &circuit, steps)
 }
 
 #[test]
@@ -91,14 +90,24 @@ fn folds_constants(rt: HostRuntime) -> Result<(), Fail> {
     Ok(())
 }
 
-/// How many queries the search through this circuit counts, up to a depth.
-fn queries_of(alloc: Global, text: &[u8], depth: u8) -> Result<Option<u64>, Fail> {
-    let circuit = circuit(alloc, text)?;
-    let mut engine = Bmc::new(Plain::new(alloc), u32::from(depth));
-    engine.find(alloc, &circuit, &mut Budget::new(10_000_000))?;
+/// How many queries the engine's search through the circuit counts.
+fn queries<E: Engine>(mut engine: E, alloc: Global, circuit: &Model) -> Result<Option<u64>, Fail>
+    requires { IsForBad circuit.now }
+{
+    engine.find(alloc, circuit, &mut Budget::new(10_000_000))?;
     let mut counters = Counters::new(alloc);
     engine.count(&mut counters)?;
     Ok(counters.as_slice().first().map(|counter| counter.count))
+}
+
+/// How many the bounded search through the circuit of a text counts, up to a depth.
+fn queries_of(alloc: Global, text: &[u8], depth: u8) -> Result<Option<u64>, Fail> {
+    let circuit = circuit(alloc, text)?;
+    queries(
+        Bmc::new(Plain::new(alloc), u32::from(depth)),
+        alloc,
+        &circuit,
+    )
 }
 
 /// One for each number of steps: as many as the run has times, or as the depth says.

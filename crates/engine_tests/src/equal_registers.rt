@@ -4,11 +4,11 @@
 ghost use Rattle.engine.specs.Findings.{IsForBad};
 
 use crate::bounded::circuit;
-use crate::inductive::{is_backed, is_certified};
+use crate::inductive::{decides, is_certified};
 use base::Budget;
 use cdcl::Cdcl;
 use correspondence::{Correspondence, Corresponding, correspond};
-use engine::{Engine, Silent};
+use engine::Silent;
 use graph::Model;
 use ic3::Ic3;
 use solver::{PartSat, Plain};
@@ -58,47 +58,48 @@ static WORKED: [(&[u8], bool, bool); 12] = [
 /// How many steps of the budget a search may cost.
 const STEPS: u64 = 1_000_000;
 
-/// Whether an invariant of equal latches is found that gets a certificate.
-fn is_found(alloc: Global, text: &[u8]) -> Result<bool, Fail> {
-    let circuit = circuit(alloc, text)?;
-    let mut solver = Cdcl::new(alloc);
+/// Whether this solver finds an invariant of equal latches that gets a certificate.
+fn is_found_by<S: PartSat>(mut solver: S, alloc: Global, circuit: &Model) -> Result<bool, Fail>
+    requires { IsForBad circuit.now }
+{
     match correspond(
         &mut solver,
         alloc,
-        &circuit,
+        circuit,
         &mut 0,
         &mut Silent,
         &mut Budget::new(STEPS),
     )? {
         Some(Correspondence::Invariant(clauses)) => {
-            is_certified(alloc, &circuit, clauses.as_slice())
+            is_certified(alloc, circuit, clauses.as_slice())
         }
         _ => Ok(false),
     }
 }
 
-/// Whether the circuit is found safe or not, with evidence that stands, by equal latches or by IC3, both by these solvers.
-fn is_decided<S: PartSat>(
-    alloc: Global,
-    first: S,
-    behind: S,
-    circuit: &Model,
-    safe: bool,
-) -> Result<bool, Fail>
-    requires { IsForBad circuit.now }
-{
-    let mut engine = Corresponding::new(first, Ic3::new(behind));
-    let finding = engine.find(alloc, circuit, &mut Budget::new(STEPS))?;
-    is_backed(alloc, circuit, finding, safe)
+/// The same of the circuit of a text.
+fn is_found(alloc: Global, text: &[u8]) -> Result<bool, Fail> {
+    let circuit = circuit(alloc, text)?;
+    is_found_by(Cdcl::new(alloc), alloc, &circuit)
 }
 
-/// The same of the circuit of a text, by each of the two solvers.
-fn is_decided_by_both(alloc: Global, text: &[u8], safe: bool) -> Result<bool, Fail> {
+/// Whether the circuit is found safe or not, with evidence that stands, by equal latches or by IC3, both by the same solver,
+/// whichever of the two it is.
+fn is_decided_by_both(alloc: Global, circuit: &Model, safe: bool) -> Result<bool, Fail>
+    requires { IsForBad circuit.now }
+{
+    let engine = Corresponding::new(Cdcl::new(alloc), Ic3::new(Cdcl::new(alloc)));
+    if !decides(engine, alloc, circuit, safe, STEPS)? {
+        return Ok(false);
+    }
+    let engine = Corresponding::new(Plain::new(alloc), Ic3::new(Plain::new(alloc)));
+    decides(engine, alloc, circuit, safe, STEPS)
+}
+
+/// The same of the circuit of a text.
+fn is_decided(alloc: Global, text: &[u8], safe: bool) -> Result<bool, Fail> {
     let circuit = circuit(alloc, text)?;
-    Ok(
-        is_decided(alloc, Cdcl::new(alloc), Cdcl::new(alloc), &circuit, safe)?
-            && is_decided(alloc, Plain::new(alloc), Plain::new(alloc), &circuit, safe)?,
-    )
+    is_decided_by_both(alloc, &circuit, safe)
 }
 
 #[test]
@@ -112,7 +113,7 @@ fn finds_equal_registers(rt: HostRuntime) -> Result<(), Fail> {
 #[test]
 fn decides_with_ic3_behind(rt: HostRuntime) -> Result<(), Fail> {
     for (text, _, safe) in &WORKED {
-        assert!(rt; is_decided_by_both(rt.alloc(), text, *safe)?, "{text:?}");
+        assert!(rt; is_decided(rt.alloc(), text, *safe)?, "{text:?}");
     }
     Ok(())
 }

@@ -70,12 +70,7 @@ fn is_shown(alloc: Global, circuit: &Model, initial: Seq<bool>, inputs: Seq<Seq<
 }
 
 /// Whether the finding says that the circuit is safe or not, with evidence that stands.
-pub(crate) fn is_backed(
-    alloc: Global,
-    circuit: &Model,
-    finding: Finding,
-    safe: bool,
-) -> Result<bool, Fail> {
+fn is_backed(alloc: Global, circuit: &Model, finding: Finding, safe: bool) -> Result<bool, Fail> {
     match finding {
         Finding::Invariant(clauses) => Ok(
             safe && is_certified(alloc, circuit, clauses.as_slice())?,
@@ -85,21 +80,34 @@ pub(crate) fn is_backed(
     }
 }
 
-/// Whether the circuit is found safe or not by this solver, with evidence that stands.
-fn found<S: PartSat>(alloc: Global, solver: S, circuit: &Model, safe: bool) -> Result<bool, Fail>
+/// Whether the engine finds that the circuit is safe or not, within so many steps and with evidence that stands.
+pub(crate) fn decides<E: Engine>(
+    mut engine: E,
+    alloc: Global,
+    circuit: &Model,
+    safe: bool,
+    steps: u64,
+) -> Result<bool, Fail>
     requires { IsForBad circuit.now }
 {
-    let finding = Ic3::new(solver).find(alloc, circuit, &mut Budget::new(STEPS))?;
+    let finding = engine.find(alloc, circuit, &mut Budget::new(steps))?;
     is_backed(alloc, circuit, finding, safe)
 }
 
-/// The same of the circuit of a text, by each of the two solvers.
+/// Whether IC3 finds that the circuit is safe or not, by each of the two solvers.
+fn is_found_by_both(alloc: Global, circuit: &Model, safe: bool) -> Result<bool, Fail>
+    requires { IsForBad circuit.now }
+{
+    if !decides(Ic3::new(Cdcl::new(alloc)), alloc, circuit, safe, STEPS)? {
+        return Ok(false);
+    }
+    decides(Ic3::new(Plain::new(alloc)), alloc, circuit, safe, STEPS)
+}
+
+/// The same of the circuit of a text.
 fn is_found(alloc: Global, text: &[u8], safe: bool) -> Result<bool, Fail> {
     let circuit = circuit(alloc, text)?;
-    Ok(
-        found(alloc, Cdcl::new(alloc), &circuit, safe)?
-            && found(alloc, Plain::new(alloc), &circuit, safe)?,
-    )
+    is_found_by_both(alloc, &circuit, safe)
 }
 
 #[test]
@@ -118,6 +126,13 @@ struct Told {
     queries: u32,
 }
 
+impl Told {
+    /// Whether two frames were opened, the last of which had one clause then, after four queries.
+    fn is_two_frames(&self) -> bool {
+        self.frame == 2 && self.clauses == 1 && self.queries == 4
+    }
+}
+
 impl Progress for Told {
     fn frame_opened(&mut self, frame: u32, clauses: usize, _budget: &Budget) {
         self.frame = frame;
@@ -133,26 +148,32 @@ impl Progress for Told {
     fn round_begun(&mut self, _round: u64, _clauses: usize, _budget: &Budget) {}
 }
 
-/// The progress of the search in the circuit of a text by this solver.
-fn told_of<S: PartSat>(alloc: Global, solver: S, text: &[u8]) -> Result<Told, Fail> {
-    let circuit = circuit(alloc, text)?;
+/// The progress of the search in the circuit by this solver.
+fn told_by<S: PartSat>(alloc: Global, solver: S, circuit: &Model) -> Result<Told, Fail>
+    requires { IsForBad circuit.now }
+{
     let nothing = Told {
         frame: 0,
         clauses: 0,
         queries: 0,
     };
     let mut engine = Ic3::new(solver).with_progress(nothing);
-    engine.find(alloc, &circuit, &mut Budget::new(STEPS))?;
+    engine.find(alloc, circuit, &mut Budget::new(STEPS))?;
     Ok(engine.into_progress())
+}
+
+/// The progress of the search in the circuit of a text by this solver.
+fn told_of<S: PartSat>(alloc: Global, solver: S, text: &[u8]) -> Result<Told, Fail> {
+    let circuit = circuit(alloc, text)?;
+    told_by(alloc, solver, &circuit)
 }
 
 /// A latch that holds: frame 0 excludes the bad literal. In frame 1 the state with the latch set is blocked, by one
 /// clause; asked again, it excludes the bad literal. Frame 2 has the clause too.
 #[test]
 fn tells_how_far_it_has_come(rt: HostRuntime) -> Result<(), Fail> {
-    let told = told_of(rt.alloc(), Cdcl::new(rt.alloc()), WORKED[0].0)?;
-    assert!(rt; told.frame == 2 && told.clauses == 1 && told.queries == 4);
-    let told = told_of(rt.alloc(), Plain::new(rt.alloc()), WORKED[0].0)?;
-    assert!(rt; told.frame == 2 && told.clauses == 1 && told.queries == 4);
+    let text = WORKED[0].0;
+    assert!(rt; told_of(rt.alloc(), Cdcl::new(rt.alloc()), text)?.is_two_frames());
+    assert!(rt; told_of(rt.alloc(), Plain::new(rt.alloc()), text)?.is_two_frames());
     Ok(())
 }

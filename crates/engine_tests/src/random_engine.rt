@@ -44,9 +44,8 @@ static DRAWN: [(u64, [[u64; 4]; 2]); 2] = [
 
 #[test]
 fn words_of_a_seed(rt: HostRuntime) {
-    for (seed, [first, second]) in DRAWN {
+    for (seed, words) in DRAWN {
         let mut generator = Lcg128Xsl64::seed_from_u64(seed);
-        assert!(rt; draw(&mut generator) == first);
-        assert!(rt; draw(&mut generator) == second);
+        assert!(rt; [draw(&mut generator), draw(&mut generator)] == words);
     }
 }

@@ -246,6 +246,7 @@ fn short_formulas(rt: HostRuntime) {
     let mut cdcl = Cdcl::new(rt.alloc());
     assert!(rt; answers_short(&mut cdcl, rt.alloc()) == Ok(true));
     assert!(rt; refuses_nothing(&cdcl));
+    drop(cdcl);
     assert!(rt; answers_short(&mut Plain::new(rt.alloc()), rt.alloc()) == Ok(true));
 }
 
@@ -290,19 +291,33 @@ fn worked_formulas(rt: HostRuntime) {
     assert!(rt; answers_worked(&mut cdcl, rt.alloc(), false, STEPS) == Ok(true));
     assert!(rt; refuses_nothing(&cdcl));
     assert!(rt; cdcl.statistics().kept_learned > 0);
+    drop(cdcl);
     let plain = answers_worked(&mut Plain::new(rt.alloc()), rt.alloc(), true, 1_000_000);
     assert!(rt; plain == Ok(true));
 }
 
+/// Whether the question is answered rightly once these clauses over three variables were added.
+fn answers_more<S: Sat>(
+    solver: &mut S,
+    alloc: Global,
+    list: &[i32],
+    question: Question,
+) -> Result<bool, Trouble>
+    requires { S.vars solver.old ≡ 3 }
+    ensures { S.vars solver.new ≡ S.vars solver.old }
+{
+    let (assume, core) = question;
+    let added = formula(alloc, 3, list)?;
+    add(solver, alloc, &added)?;
+    let answer = ask(solver, alloc, assume, &mut Budget::new(STEPS))?;
+    Ok(is_right(&answer, &added, core))
+}
+
 /// Whether each question is answered rightly as the clauses come.
 fn grows<S: Sat>(solver: &mut S, alloc: Global) -> Result<bool, Trouble> {
-    let none = formula(alloc, 3, &[])?;
-    load(solver, alloc, &none)?;
-    for (list, (assume, core)) in &GROWING {
-        let added = formula(alloc, 3, list)?;
-        add(solver, alloc, &added)?;
-        let answer = ask(solver, alloc, assume, &mut Budget::new(STEPS))?;
-        if !is_right(&answer, &added, *core) {
+    load_list(solver, alloc, 3, &[])?;
+    for (list, question) in &GROWING {
+        if !answers_more(solver, alloc, list, *question)? {
             return Ok(false);
         }
     }
@@ -314,20 +329,21 @@ fn clauses_may_come_between_the_calls(rt: HostRuntime) {
     let mut cdcl = Cdcl::new(rt.alloc());
     assert!(rt; grows(&mut cdcl, rt.alloc()) == Ok(true));
     assert!(rt; refuses_nothing(&cdcl));
+    drop(cdcl);
     assert!(rt; grows(&mut Plain::new(rt.alloc()), rt.alloc()) == Ok(true));
 }
 
 /// How many steps are spent before the solver, begun anew with the clauses, answers that its budget is exhausted.
-pub fn spent<S: Sat>(
-    solver: &mut S,
+fn spent<S: Sat>(
+    mut solver: S,
     alloc: Global,
     vars: u16,
     list: &[i32],
     steps: u64,
 ) -> Result<Option<u64>, Trouble> {
-    load_list(solver, alloc, vars, list)?;
+    load_list(&mut solver, alloc, vars, list)?;
     let mut budget = Budget::new(steps);
-    match ask(solver, alloc, &[], &mut budget)? {
+    match ask(&mut solver, alloc, &[], &mut budget)? {
         Answer::Spent => Ok(Some(budget.spent())),
         _ => Ok(None),
     }
@@ -335,12 +351,12 @@ pub fn spent<S: Sat>(
 
 #[test]
 fn an_empty_budget_is_spent_at_once(rt: HostRuntime) {
-    let cdcl = spent(&mut Cdcl::new(rt.alloc()), rt.alloc(), 0, &[], 0);
+    let cdcl = spent(Cdcl::new(rt.alloc()), rt.alloc(), 0, &[], 0);
     assert!(rt; cdcl == Ok(Some(0)));
     let units: &[i32] = &[1, 0, -1, 0];
-    let plain = spent(&mut Plain::new(rt.alloc()), rt.alloc(), 1, units, 0);
+    let plain = spent(Plain::new(rt.alloc()), rt.alloc(), 1, units, 0);
     assert!(rt; plain == Ok(Some(0)));
-    let plain = spent(&mut Plain::new(rt.alloc()), rt.alloc(), 1, units, 2);
+    let plain = spent(Plain::new(rt.alloc()), rt.alloc(), 1, units, 2);
     assert!(rt; plain == Ok(Some(2)));
 }
 
@@ -434,15 +450,26 @@ fn forgets_clauses_and_goes_on(rt: HostRuntime) -> Result<(), Fail> {
     Ok(())
 }
 
+/// Whether the search began anew and forgot clauses, and the kernel kept 2,000 or more that were learned.
+fn is_thorough(solver: &Cdcl) -> bool {
+    let statistics = solver.statistics();
+    let is_renewed = statistics.reductions > 0 && statistics.restarts > 0;
+    let is_learned = statistics.conflicts > 2_000 && statistics.kept_learned >= 2_000;
+    let is_decided = statistics.decisions > 0 && statistics.propagations > statistics.decisions;
+    is_renewed && is_learned && is_decided
+}
+
+/// Whether the solver finds that the pigeons do not fit.
+fn is_refuted<S: Sat>(solver: &mut S, alloc: Global) -> Result<bool, Trouble> {
+    let list = pigeons(alloc, 8, 7)?;
+    Ok(steps(solver, alloc, 56, list.as_slice())?.is_some())
+}
+
 #[test]
-fn the_kernel_refuses_no_learned_clause(rt: HostRuntime) -> Result<(), Fail> {
-    let list = pigeons(rt.alloc(), 8, 7)?;
+fn the_kernel_refuses_no_learned_clause(rt: HostRuntime) {
     let mut cdcl = Cdcl::new(rt.alloc());
-    assert!(rt; steps(&mut cdcl, rt.alloc(), 56, list.as_slice())?.is_some());
+    assert!(rt; is_refuted(&mut cdcl, rt.alloc()) == Ok(true));
     assert!(rt; refuses_nothing(&cdcl));
-    let statistics = cdcl.statistics();
-    assert!(rt; statistics.reductions > 0 && statistics.restarts > 0);
-    assert!(rt; statistics.conflicts > 2_000 && statistics.kept_learned >= 2_000);
-    assert!(rt; statistics.propagations > statistics.decisions && statistics.decisions > 0);
-    Ok(())
+    assert!(rt; is_thorough(&cdcl));
+    drop(cdcl);
 }
