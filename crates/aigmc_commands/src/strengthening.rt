@@ -2,8 +2,8 @@
 
 use crate::telling::conclude;
 use crate::timing::{ask, begin};
-use aigmc_certificates::{Adopted, NO_INVARIANT, SPENT};
-use aigmc_files::{DONE, EvidenceFile, Role, Stop, about, keep};
+use aigmc_certificates::{Adopted, NO_INVARIANT};
+use aigmc_files::{DONE, EvidenceFile, Role, Stop, UNKNOWN, about, keep};
 use arguments::{Claim, EngineKind, Search};
 use base::Seq;
 use graph::{AigerFile, Lit, Property};
@@ -44,7 +44,7 @@ fn keep_safe(
         }
         Verdict::Unknown(_) => {
             let _ = eprintln!(rt; "aigmc: nothing is known of the property");
-            Ok(SPENT)
+            Ok(UNKNOWN)
         }
     }
 }

@@ -73,6 +73,9 @@ impl fmt::Display for CountedWhy {
                     "these are more than there are states, so the property is violated",
                 );
             }
+            Cause::Variables => {
+                return f.write_str("the circuit that counts more has over 4194303 variables");
+            }
         };
         write!(
             f,

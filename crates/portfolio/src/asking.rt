@@ -167,22 +167,20 @@ impl Question<'_> {
         Ok((verdict, budget.left()))
     }
 
-    /// What IC3 comes to about the circuits that count rounds of the justice property at the position. Answers how many steps
-    /// are left too.
-    fn counted(
+    /// What the engine comes to about the circuits that count rounds of the justice property at the position. Answers how many
+    /// steps are left too.
+    fn counted_by<E: Engine>(
         self,
         rt: &HostRuntime,
+        mut engine: E,
         position: u32,
         steps: u64,
         counters: &mut Counters,
     ) -> Result<(Counted, u64), DecideError> {
-        let (alloc, timing) = (rt.alloc(), self.timing);
-        let engine = Ic3::new(timing.solver(alloc));
-        let mut engine = engine.with_progress(Reporter::new(rt, timing.shown));
-        let mut progress = Reporter::new(rt, timing.shown);
-        let mut budget = timing.budget(steps);
+        let mut progress = Reporter::new(rt, self.timing.shown);
+        let mut budget = self.timing.budget(steps);
         let counted = decide_rounds(
-            alloc,
+            rt.alloc(),
             self.circuit,
             position,
             &mut engine,
@@ -191,6 +189,19 @@ impl Question<'_> {
         )?;
         engine.count(counters)?;
         Ok((counted, budget.left()))
+    }
+
+    /// The same of IC3.
+    fn counted(
+        self,
+        rt: &HostRuntime,
+        position: u32,
+        steps: u64,
+        counters: &mut Counters,
+    ) -> Result<(Counted, u64), DecideError> {
+        let engine = Ic3::new(self.timing.solver(rt.alloc()));
+        let engine = engine.with_progress(Reporter::new(rt, self.timing.shown));
+        self.counted_by(rt, engine, position, steps, counters)
     }
 
     /// What counting the rounds comes to with a part of so many steps, where the property is a justice property, and else

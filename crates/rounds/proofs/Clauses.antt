@@ -1,6 +1,5 @@
 -- Clauses of an honest engine are refused for no fault of theirs, and are called no invariant never.
-use Rattle.std.proofs.Common.{◌≡◌, ◌≢◌, ℕ, zero, suc, ◌+◌, ◌<◌, ◌≤◌, Bool, true, false, List, [], ◌∷◌, ◌++◌, map, length, get_or, All, Contains, ℤ, pos, negsuc, neg_ℤ, unsigned_abs, Result, Ok, Err, IfOk, IfErr, inl, inr, refl, sym, ◌∙◌, ap, subst, arith}
-use Rattle.std.specs.Prelude.{AllPairs}
+use Rattle.std.proofs.Common.{◌≡◌, ◌≢◌, ℕ, zero, suc, ◌+◌, ◌<◌, ◌≤◌, Bool, true, false, List, [], ◌∷◌, map, length, get_or, All, Contains, ℤ, pos, negsuc, neg_ℤ, unsigned_abs, Result, Ok, Err, IfOk, IfErr, inl, inr, refl, sym, ◌∙◌, ap, subst, arith}
 use Rattle.std.proofs.lemmas.Bool.{ne_eqb}
 use Rattle.std.proofs.lemmas.List.{append-nil, get_or-map, length-map}
 use Rattle.std.proofs.lemmas.List.Elements.{All-head, All-map}
@@ -9,12 +8,12 @@ use Rattle.graph.specs.declared.circuit.Lit.{Lit}
 use Rattle.graph.specs.declared.circuit.Latch.{Latch}
 use Rattle.graph.specs.declared.circuit.Property.TheVariants.{Justice}
 use Rattle.graph.specs.declared.parts.Parts.{Parts}
-use Rattle.graph.specs.Circuits.{HasProperty, variable}
+use Rattle.graph.specs.Circuits.{variable}
 use Rattle.graph.specs.WellFormed.{IsWellFormed}
 use Rattle.graph.proofs.Evaluation.{All-right, latches_even}
 use Rattle.lrat.specs.Literals.{IsProper as IsProperClause}
 use Rattle.cnf.specs.Clauses.{literal, signed, is_negated}
-use Rattle.cnf.specs.Formulas.{IsInRange, IsOverLatches}
+use Rattle.cnf.specs.Formulas.{IsOverLatches}
 use Rattle.cnf.proofs.CaseLaws.{clause_range}
 use Rattle.engine.specs.Findings.{IsInvariant, IsProper}
 use Rattle.extension.specs.Accepted.{IsShowable, bad_of, circuit_of}

@@ -1,23 +1,18 @@
 -- What the answer of an engine about the circuit that counts says of the number of rounds.
-use Rattle.std.proofs.Common.{◌≡◌, ℕ, ◌+◌, ◌*◌, ◌≤◌, ◌<◌, Bool, List, Result, Ok, Err, IfOk, refl, sym, subst, arith}
+use Rattle.std.proofs.Common.{◌≡◌, ℕ, Bool, List, Result, Ok, Err, IfOk, refl, sym, subst}
 use Rattle.base.specs.Budget.{Steps}
 use Rattle.graph.specs.declared.circuit.Lit.{Lit}
-use Rattle.graph.specs.declared.circuit.Property.TheVariants.{Bad, Justice}
+use Rattle.graph.specs.declared.circuit.Property.TheVariants.{Bad}
 use Rattle.graph.specs.declared.parts.Parts.{Parts}
-use Rattle.graph.specs.Circuits.{HasProperty}
 use Rattle.stimulus.specs.declared.value.Stimulus.TheVariants.{Violated}
 use Rattle.stimulus.specs.Shown.{ShowsBad}
 use Rattle.engine.specs.Bounds.{IsClear}
 use Rattle.engine.specs.Findings.{IsForBad, IsHonest, IsInvariant, IsSo}
-use Rattle.engine.specs.declared.engine_error.EngineError.{EngineError}
-use Rattle.engine.specs.declared.engine_error.EngineError.TheVariants as engine
 use Rattle.engine.specs.declared.finding.Finding.{Finding}
 use Rattle.engine.specs.declared.finding.Finding.TheVariants as finding
 use Rattle.engine.specs.declared.finding.Reason.{Reason}
 use Rattle.engine.specs.declared.finding.Reason.TheVariants as reason
-use Rattle.extension.specs.Rounds.{RoundsFormed, ended_literal, rounds_of}
-use Rattle.verdict.specs.Causes.{HasCause}
-use Rattle.verdict.specs.Numbers.{of_engine}
+use Rattle.extension.specs.Rounds.{ended_literal, rounds_of}
 use Rattle.verdict.specs.declared.decide_error.DecideError.{DecideError}
 use Rattle.rounds.specs.Asked.{IsCause, IsMeantFor, cause_in}
 use Rattle.rounds.specs.declared.asking.Tried.{Tried}
@@ -28,14 +23,6 @@ use Rattle.rounds.specs.declared.counted.Cause.{Cause}
 
 pub for_bad : (m q : Parts) (j k : ℕ) → q ≡ rounds_of m j k → IsForBad q
 for_bad m q j k is = subst IsForBad (sym is) (record { bad = ended_literal m j k; one = refl; no_justice = refl })
-
--- each round that is counted has variables of its own
-pub few_counted : (m : Parts) (j k : ℕ) → RoundsFormed m j k → (rounds_of m j k).max_var ≤ 4194303 → k ≤ 4194303
-few_counted m j k formed within = let size = formed.size in omega (arith, size, within)
-
-pub engine_refused : (m : Parts) (j : ℕ) (e : EngineError) → HasProperty m (Justice j) → HasCause m (Justice j) (of_engine e)
-engine_refused m j (engine.Limit used_up) there = there
-engine_refused m j (engine.OutOfMemory refused) there = there
 
 -- ---- what is found
 

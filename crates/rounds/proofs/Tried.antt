@@ -1,34 +1,29 @@
 -- What is known of one number of rounds, and of the next.
-use Rattle.std.proofs.Common.{◌≡◌, ◌≢◌, ◌↔◌, ℕ, zero, suc, ◌+◌, ◌-◌, ◌*◌, ◌^◌, ◌<◌, ◌≤◌, ◌⊎◌, Bool, true, false, IsTrue, List, [], ◌∷◌, length, Result, Ok, Err, IfOk, IfErr, inl, inr, refl, sym, ◌∙◌, ap, subst, arith}
+use Rattle.std.proofs.Common.{◌≡◌, ◌↔◌, ℕ, zero, suc, ◌+◌, ◌-◌, ◌*◌, ◌^◌, ◌<◌, ◌≤◌, ◌⊎◌, Bool, true, false, IsTrue, List, [], ◌∷◌, length, Result, Ok, Err, IfOk, inl, inr, refl, sym, ◌∙◌, ap, subst, arith}
 use Rattle.std.proofs.lemmas.Bool.{cases_lt, false≢true}
 use Rattle.std.proofs.lemmas.Grind.{pow_more}
 use Rattle.base.specs.Budget.{Steps}
 use Rattle.graph.specs.declared.circuit.Lit.{Lit}
 use Rattle.graph.specs.declared.circuit.Latch.{Latch}
-use Rattle.graph.specs.declared.circuit.Property.{Property}
 use Rattle.graph.specs.declared.circuit.Property.TheVariants.{Bad, Justice}
 use Rattle.graph.specs.declared.parts.Parts.{Parts}
-use Rattle.graph.specs.Circuits.{HasProperty, IsUpheld, Valuation, value_of}
+use Rattle.graph.specs.Circuits.{IsUpheld, Valuation, value_of}
 use Rattle.graph.specs.WellFormed.{IsWellFormed}
 use Rattle.graph.proofs.Alone.{watched_one}
 use Rattle.stimulus.specs.declared.value.Stimulus.TheVariants.{Violated}
 use Rattle.stimulus.specs.Shown.{Begins, Shows, last_of}
 use Rattle.extension.specs.Accepted.{AcceptedLaw}
 use Rattle.extension.specs.Rounds.{ExactLaw, HoldsMore, ended_literal, rounds_of}
-use Rattle.certificate3.specs.declared.claim.Claim.{Claim}
 use Rattle.certify3.specs.Outcomes.{IsCertificateOf, IsCertified}
 use Rattle.certify3.specs.declared.certified.Certified.{Certified}
 use Rattle.certify3.specs.declared.certified.Certified.TheVariants.{Certificate, NotInvariant, Spent, Unaccepted}
 use Rattle.certify3.specs.declared.certify_error.CertifyError.{CertifyError}
 use Rattle.certify3.specs.declared.certify_error.CertifyError.TheVariants as certify
-use Rattle.verdict.specs.Causes.{HasCause}
 use Rattle.verdict.specs.declared.decide_error.DecideError.{DecideError}
-use Rattle.rounds.specs.Asked.{IsCause, IsMeantFor, IsTried, tried_of, tried_on}
-use Rattle.rounds.specs.Counted.{AreHeld, IsShownBy, IsWhy}
+use Rattle.rounds.specs.Asked.{IsTried, tried_of, tried_on}
+use Rattle.rounds.specs.Counted.{AreHeld, IsShownBy}
 use Rattle.rounds.specs.declared.asking.Tried.{Tried}
 use Rattle.rounds.specs.declared.asking.Tried.TheVariants.{Exceeded}
-use Rattle.rounds.specs.declared.counted.Cause.{Cause}
-use Rattle.rounds.specs.declared.counted.Cause.TheVariants.{Budget, Depth, NoEvidence, Unaccepted as NotAccepted, Unbounded}
 
 -- ---- runs
 
@@ -67,14 +62,6 @@ refused_tried m j k (certify.Repeated i) = tt
 refused_tried m j k (certify.IdsTaken used_up) = tt
 refused_tried m j k (certify.OutOfMemory refused) = tt
 
-refused_caused : (m : Parts) (j : ℕ) (e : CertifyError) → HasProperty m (Justice j) → IfErr (tried_of e) (HasCause m (Justice j))
-refused_caused m j (certify.NoProperty n) there = tt
-refused_caused m j (certify.Refusal r) there = tt
-refused_caused m j certify.TooMany there = there
-refused_caused m j (certify.Repeated i) there = tt
-refused_caused m j (certify.IdsTaken used_up) there = there
-refused_caused m j (certify.OutOfMemory refused) there = there
-
 tried_so : (m : Parts) (j k : ℕ) (inv : List (List Lit)) (after : Steps) (r : Result Certified CertifyError) → AcceptedLaw → IsWellFormed m →
     IfOk r (IsCertified m (record { property = Justice j; rounds = k }) [] [] inv after) → IfOk (tried_on r) (IsTried m j k)
 tried_so m j k inv after (Ok (Certificate text)) law well h = shown_by m j k inv text law well h
@@ -83,29 +70,11 @@ tried_so m j k inv after (Ok Spent) law well h = tt
 tried_so m j k inv after (Ok Unaccepted) law well h = tt
 tried_so m j k inv after (Err e) law well h = refused_tried m j k e
 
-caused_so : (m : Parts) (j : ℕ) (r : Result Certified CertifyError) → HasProperty m (Justice j) → IfErr (tried_on r) (HasCause m (Justice j))
-caused_so m j (Ok (Certificate text)) there = tt
-caused_so m j (Ok (NotInvariant x)) there = tt
-caused_so m j (Ok Spent) there = tt
-caused_so m j (Ok Unaccepted) there = tt
-caused_so m j (Err e) there = refused_caused m j e there
-
 pub tried_by_clauses : (m : Parts) (j k : ℕ) (inv : List (List Lit)) (after : Steps) (r : Result Certified CertifyError) (t : Result Tried DecideError) → t ≡ tried_on r → AcceptedLaw → IsWellFormed m →
     IfOk r (IsCertified m (record { property = Justice j; rounds = k }) [] [] inv after) → IfOk t (IsTried m j k)
 tried_by_clauses m j k inv after r t is law well h = subst (λ (q : Result Tried DecideError). IfOk q (IsTried m j k)) (sym is) (tried_so m j k inv after r law well h)
 
-pub caused_by_clauses : (m : Parts) (j : ℕ) (r : Result Certified CertifyError) (t : Result Tried DecideError) → t ≡ tried_on r → HasProperty m (Justice j) → IfErr t (HasCause m (Justice j))
-caused_by_clauses m j r t is there = subst (λ (q : Result Tried DecideError). IfErr q (HasCause m (Justice j))) (sym is) (caused_so m j r there)
-
 -- ---- one number after the other
-
--- a cause for one number is one for all
-pub why_of : (m : Parts) (j k held : ℕ) (after : Steps) (cause : Cause) → held ≤ k → IsCause m j k after cause → IsWhy m j held after cause
-why_of m j k held after Budget le is = is
-why_of m j k held after (Depth steps) le is = (k, le, is)
-why_of m j k held after NoEvidence le is = is
-why_of m j k held after NotAccepted le is = tt
-why_of m j k held after Unbounded le is = absurd is
 
 doubled : (n : ℕ) → 2 ^ suc n ≡ 2 * 2 ^ n
 doubled n =

@@ -1,5 +1,5 @@
 -- Clauses over the latches that are inductive by next literals are so over two times.
-use Rattle.std.proofs.Common.{◌≡◌, ◌≢◌, ℕ, zero, suc, ◌+◌, ◌<◌, ◌≤◌, Bool, true, false, not, ◌||◌, List, [], ◌∷◌, ◌++◌, map, length, get_or, All, ℤ, pos, refl, sym, ◌∙◌, ap, subst, arith}
+use Rattle.std.proofs.Common.{◌≡◌, ◌≢◌, ℕ, zero, suc, ◌+◌, ◌<◌, ◌≤◌, Bool, true, false, not, ◌||◌, List, [], ◌∷◌, ◌++◌, map, get_or, All, ℤ, pos, refl, sym, ◌∙◌, ap, subst, arith}
 use Rattle.std.specs.Prelude.{flat_map}
 use Rattle.std.proofs.lemmas.List.Elements.{All-cons, All-head, All-map, All-append}
 use Rattle.graph.specs.declared.circuit.Lit.{Lit}
@@ -15,7 +15,7 @@ use Rattle.cnf.specs.Clauses.{literal, denial, next_of, truth_clause, gate_claus
 use Rattle.cnf.specs.Formulas.{IsInRange, IsOverLatches}
 use Rattle.cnf.specs.Invariants.{IsInductive}
 use Rattle.cnf.specs.Meaning.{AreSatisfied}
-use Rattle.cnf.specs.Unrolled.{join_clauses, times_from}
+use Rattle.cnf.specs.Unrolled.{join_clauses}
 use Rattle.cnf.proofs.CaseLaws.{clause_range, next_of_range, next_value, nexts_in_range}
 use Rattle.cnf.proofs.Listed.{any_true, satisfied-any, satisfied-unit, satisfied-units, units-satisfied}
 use Rattle.cnf.proofs.Values.{IsLaid, denial_true, literal_true}

@@ -17,15 +17,16 @@ use Rattle.certify3.specs.declared.certify_error.CertifyError.TheVariants as cer
 use Rattle.verdict.specs.declared.decide_error.DecideError.{DecideError}
 use Rattle.verdict.specs.declared.decide_error.DecideError.TheVariants.{Limit, IdsTaken, OutOfMemory}
 use Rattle.rounds.specs.declared.asking.Tried.{Tried}
-use Rattle.rounds.specs.declared.asking.Tried.TheVariants.{Bounded, Exceeded, Unknown}
+use Rattle.rounds.specs.declared.asking.Tried.TheVariants.{Bounded, Exceeded, TooLarge, Unknown}
 use Rattle.rounds.specs.declared.counted.Cause.{Cause}
-use Rattle.rounds.specs.declared.counted.Cause.TheVariants.{Budget, Depth, NoEvidence, Unaccepted, Unbounded}
-use Rattle.rounds.specs.Counted.{IsShownBy}
+use Rattle.rounds.specs.declared.counted.Cause.TheVariants.{Budget, Depth, NoEvidence, Unaccepted, Unbounded, Variables}
+use Rattle.rounds.specs.Counted.{IsShownBy, IsTooLarge}
 
--- the text is accepted and the property upheld, or a run holds more rounds, or nothing is known
+-- the text is accepted and the property upheld, or a run holds more rounds, or they cannot be counted, or nothing is known
 abbrev pub IsTried : Parts → ℕ → ℕ → Tried → Type 0
 IsTried m j k (Bounded text) = IsShownBy m j k text × IsUpheld m (Justice j)
 IsTried m j k Exceeded = HoldsMore m j k
+IsTried m j k TooLarge = IsTooLarge m j k
 IsTried m j k (Unknown cause) = Unit {0}
 
 -- why nothing is known, where the engine is honest
@@ -35,10 +36,12 @@ IsCause m j k after (Depth steps) = IsClear (rounds_of m j k) (Bad 0) steps
 IsCause m j k after NoEvidence = ⊥
 IsCause m j k after Unaccepted = Unit {0}
 IsCause m j k after Unbounded = ⊥
+IsCause m j k after Variables = ⊥
 
 abbrev pub IsMeantFor : Parts → ℕ → ℕ → Steps → Tried → Type 0
 IsMeantFor m j k after (Bounded text) = Unit {0}
 IsMeantFor m j k after Exceeded = Unit {0}
+IsMeantFor m j k after TooLarge = Unit {0}
 IsMeantFor m j k after (Unknown cause) = IsCause m j k after cause
 
 -- the cause that an engine's reason is

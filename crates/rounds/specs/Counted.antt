@@ -9,7 +9,7 @@ use Rattle.extension.specs.Accepted.{Evidence}
 use Rattle.extension.specs.Rounds.{HoldsMore, rounds_of}
 use Rattle.certify3.specs.Outcomes.{IsTextOf}
 use Rattle.rounds.specs.declared.counted.Cause.{Cause}
-use Rattle.rounds.specs.declared.counted.Cause.TheVariants.{Budget, Depth, NoEvidence, Unaccepted, Unbounded}
+use Rattle.rounds.specs.declared.counted.Cause.TheVariants.{Budget, Depth, NoEvidence, Unaccepted, Unbounded, Variables}
 use Rattle.rounds.specs.declared.counted.Counted.{Counted}
 use Rattle.rounds.specs.declared.counted.Counted.TheVariants.{Bounded, Unknown}
 
@@ -17,6 +17,10 @@ use Rattle.rounds.specs.declared.counted.Counted.TheVariants.{Bounded, Unknown}
 pub record IsShownBy (m : Parts) (j k : ℕ) (text : List ℕ) : Type 0 where
   pub evidence : Evidence
   pub is_text : IsTextOf m (record { property = Justice j; rounds = k }) evidence text
+
+-- the circuit that counts so many rounds has a variable over the limit
+abbrev pub IsTooLarge : Parts → ℕ → ℕ → Type 0
+IsTooLarge m j k = 4194303 < (rounds_of m j k).max_var
 
 -- a run that keeps the constraints holds so many rounds
 abbrev pub AreHeld : Parts → ℕ → ℕ → Type 0
@@ -28,14 +32,15 @@ IsBacked m j (Bounded k text) = IsShownBy m j k text × IsUpheld m (Justice j)
 IsBacked m j (Unknown cause held) = AreHeld m j held
 
 -- why nothing is known: the budget is exhausted, or no run so short holds more than a number of rounds that was asked about,
--- or one holds more than there are states; that a certificate is not accepted says nothing, and that there was no evidence
--- is no reason
+-- or one holds more than there are states, or the circuit that counts a number that is no less is too large; that a
+-- certificate is not accepted says nothing, and that there was no evidence is no reason
 abbrev pub IsWhy : Parts → ℕ → ℕ → Steps → Cause → Type 0
 IsWhy m j held after Budget = after.left ≡ 0
 IsWhy m j held after (Depth steps) = (k : ℕ) × (held ≤ k) × IsClear (rounds_of m j k) (Bad 0) steps
 IsWhy m j held after NoEvidence = ⊥
 IsWhy m j held after Unaccepted = Unit {0}
 IsWhy m j held after Unbounded = 2 ^ length m.latches < held
+IsWhy m j held after Variables = (k : ℕ) × (held ≤ k) × IsTooLarge m j k
 
 -- where nothing is known, the cause stands
 abbrev pub IsMeant : Parts → ℕ → Steps → Counted → Type 0

@@ -1,6 +1,6 @@
 //! One number of rounds.
 
-ghost use Rattle.std.specs.Prelude.{◌≡◌, ◌+◌, ◌*◌, ◌^◌, ◌<◌, ◌≤◌, length, IfOk, IfErr};
+ghost use Rattle.std.specs.Prelude.{◌≡◌, ◌+◌, ◌*◌, ◌^◌, ◌<◌, ◌≤◌, length, None, IfOk, IfErr, IfSome};
 ghost use Rattle.base.specs.Budget.{Spends};
 ghost use Rattle.base.specs.Witness.{witness};
 ghost use Rattle.graph.specs.Circuits.{HasProperty};
@@ -14,6 +14,7 @@ ghost use Rattle.extension.specs.Rows.{IsCountable};
 ghost use Rattle.verdict.specs.Causes.{HasCause};
 ghost use Rattle.verdict.specs.declared.decide_error.DecideError.TheVariants.{OutOfMemory};
 ghost use Rattle.rounds.specs.Asked.{IsMeantFor, IsTried, cause_in, tried_on};
+ghost use Rattle.rounds.specs.Counted.{IsTooLarge};
 ghost use Rattle.rounds.specs.declared.asking.Tried.TheVariants.{Exceeded};
 
 use crate::counted::Cause;
@@ -35,27 +36,30 @@ pub enum Tried {
     Bounded(Seq<u8>),
     /// a run does
     Exceeded,
+    /// the circuit that counts them has too many variables
+    TooLarge,
     /// nothing is known
     Unknown(Cause),
 }
 
-/// The circuit that counts so many rounds of a property that is there.
+/// The circuit that counts so many rounds of a property that is there, where it has no variable over the limit.
 fn counter_for(
     alloc: Global,
     circuit: &Model,
     position: u32,
     rounds: u32,
-) -> Result<Model, DecideError>
+) -> Result<Option<Model>, DecideError>
     requires there { HasProperty circuit.now (Justice position) }
-    ensures counter { IfOk result (λ s. s ≡ rounds_of circuit.now position rounds) }
-    ensures countable { IfOk result (λ _. IsCountable circuit.now position rounds) }
-    ensures few { IfOk result (λ _. rounds ≤ 4194303) }
+    ensures counter { IfOk result (λ found. IfSome found (λ s. s ≡ rounds_of circuit.now position rounds)) }
+    ensures countable { IfOk result (λ found. IfSome found (λ _. IsCountable circuit.now position rounds)) }
+    ensures few { IfOk result (λ found. IfSome found (λ _. rounds ≤ 4194303)) }
+    ensures large { IfOk result (λ found. found ≡ None → IsTooLarge circuit.now position rounds) }
     ensures refused { IfErr result (HasCause circuit.now (Justice position)) }
 {
     rounds_laws(circuit, position, rounds);
     match count_rounds(alloc, circuit, position, rounds) {
-        Ok(counter) => Ok(counter),
-        Err(LiveError::Limit) => Err(DecideError::Limit),
+        Ok(counter) => Ok(Some(counter)),
+        Err(LiveError::Limit) => Ok(None),
         Err(LiveError::OutOfMemory(refused)) => Err(DecideError::OutOfMemory(refused)),
         // the property is there
         Err(LiveError::NoProperty(_)) => unreachable!(),
@@ -194,7 +198,8 @@ fn tried_by<E: Engine>(
     }
 }
 
-/// Asks the engine whether a run holds more rounds than this number.
+/// Asks the engine whether a run holds more rounds than this number. It isn't asked where the circuit that counts them has too
+/// many variables.
 pub fn try_rounds<E: Engine>(
     engine: &mut E,
     alloc: Global,
@@ -209,9 +214,11 @@ pub fn try_rounds<E: Engine>(
     ensures stays { E.honest engine.old → E.honest engine.new }
     ensures tried { IfOk result (IsTried circuit.now position rounds) }
     ensures meant { E.honest engine.old → IfOk result (IsMeantFor circuit.now position rounds budget.new) }
-    ensures few { IfOk result (λ _. rounds ≤ 4194303) }
+    ensures few { IfOk result (λ t. t ≡ Exceeded → rounds ≤ 4194303) }
     ensures refused { IfErr result (HasCause circuit.now (Justice position)) }
 {
-    let counter = counter_for(alloc, circuit, position, rounds)?;
-    tried_by(engine, alloc, circuit, &counter, position, rounds, budget)
+    match counter_for(alloc, circuit, position, rounds)? {
+        Some(counter) => tried_by(engine, alloc, circuit, &counter, position, rounds, budget),
+        None => Ok(Tried::TooLarge),
+    }
 }

@@ -15,6 +15,8 @@ pub enum Cause {
     Unaccepted,
     /// A run holds more rounds than there are states. So some run violates the property.
     Unbounded,
+    /// The circuit that counts the next number of rounds has more than 4,194,303 variables.
+    Variables,
 }
 
 /// What is answered of a justice property.

@@ -31,8 +31,8 @@ fn next_of(rounds: u32) -> u32
 /// proved, and the text of the certificate is answered only where it is accepted; a run that it finds is replayed, and
 /// then the next number is asked about. A refusal of the engine ends the call.
 ///
-/// A property that isn't there is refused before all else, and a number with which the circuit that counts
-/// has too many variables. Where nothing is known, the answer has a number of rounds that a run holds.
+/// A property that isn't there is refused before all else. Where nothing is known, as where the circuit that counts the next
+/// number has too many variables, the answer has a number of rounds that a run holds.
 ///
 /// Beside what the engine costs it takes, for each number, a copy of the circuit with three variables more for each round, the
 /// replay of a run, and in the end the certificate.
@@ -68,6 +68,10 @@ pub fn decide_rounds<E: Engine, P: RoundsProgress>(
                 });
             }
             Tried::Unknown(cause) => return Ok(Counted::Unknown { cause, held }),
+            Tried::TooLarge => {
+                let cause = Cause::Variables;
+                return Ok(Counted::Unknown { cause, held });
+            }
             Tried::Exceeded => held = rounds + 1,
         }
         rounds = next_of(rounds);
