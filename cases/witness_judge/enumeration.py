@@ -21,6 +21,9 @@ SEED, COUNT = 65, 300
 # How often each condition has to fail among the random pairs, and how often none: else they show too little.
 LEAST = 10
 
+# How many random pairs are tried for one of which just one condition fails; about one in thirty is.
+TRIES = 10000
+
 value_of = EXHAUSTIVE.value_of
 
 # A circuit that is drawn: inputs, latches (literal, next, reset), bad literal, constraints, gates.
@@ -148,13 +151,43 @@ def judged(model, witness):
     return failed, None if verdict == "safe" else f"yes, but it is {verdict}: {model!r} {witness!r}"
 
 
+def drawn_pair(rng):
+    """The texts of a random model and of a circuit that may be a witness."""
+    model = draw(rng, False)
+    witness = rng.choice((changed(rng, model), draw(rng, True)))
+    return text_of(model), text_of(witness) + named(rng, model, witness)
+
+
+def failing_of(pair):
+    """The conditions that fail of a pair, by their formulas."""
+    failed = ["stratified"] if conditions.stratified(pair.witness) else []
+    return failed + [name for name, make in conditions.ASKED.items() if fails(pair, make)]
+
+
+def failing(*texts):
+    """The conditions that fail of a model and a witness."""
+    return failing_of(conditions.pair_of(*(aiger.read(text.encode()) for text in texts)))
+
+
+def pair_that_fails(rng, wanted):
+    """The texts of a random pair of which just these conditions fail, with resets of 0, 1 and the latch itself."""
+    for _ in range(TRIES):
+        texts = drawn_pair(rng)
+        if failing(*texts) == wanted and not is_odd(texts[1]):
+            return texts
+    raise LookupError(f"none of {TRIES} random pairs fails just {wanted}")
+
+
+def is_odd(text):
+    """Whether a latch of the circuit has another reset than 0, 1 and itself."""
+    return any(it.reset not in (0, 1, it.lit) for it in aiger.read(text.encode()).latches)
+
+
 def random_pairs():
     """The name of each random pair, and what is wrong with it, or nothing."""
     rng, found, count = random.Random(SEED), [], Counter()
     for number in range(COUNT):
-        model = draw(rng, False)
-        witness = rng.choice((changed(rng, model), draw(rng, True)))
-        failed, fault = judged(text_of(model), text_of(witness) + named(rng, model, witness))
+        failed, fault = judged(*drawn_pair(rng))
         count.update(failed or ["none"])
         found.append((f"random pair {number}", fault))
     rare = [name for name in ("none", *conditions.ASKED) if count[name] < LEAST]

@@ -2,9 +2,9 @@
 
 use crate::counterexample::tell_counterexample;
 use crate::extending::claimed_over;
-use crate::third::kept;
+use crate::third::{NO_INVARIANT, kept};
 use aigmc_files::{
-    DONE, EvidenceFile, Role, Stop, about, asked_for, circuit, circuit_of, is_taken, keep,
+    DONE, EvidenceFile, Role, Stop, UNKNOWN, about, asked_for, circuit, circuit_of, is_taken, keep,
     property_in, read_of, read_text,
 };
 use arguments::Claim;
@@ -15,11 +15,6 @@ use inputs::is_standard;
 use std::alloc::Global;
 use transforms::shadow_file;
 use verdict::Verdict;
-
-/// The status of clauses that are no inductive invariant which excludes the property's literal.
-pub const NO_INVARIANT: u8 = 1;
-/// The status of a budget that is exhausted, and of a search that found nothing.
-pub const SPENT: u8 = 2;
 
 /// What became of the clauses.
 #[derive(Drop)]
@@ -70,6 +65,33 @@ fn line_clauses(alloc: Global, text: &[u8]) -> Result<Seq<Seq<Lit>>, Stop> {
     Ok(clauses)
 }
 
+/// Refuses a certificate of version 3: its clauses may be over more than the circuit, and of a justice property they are over the
+/// circuit that counts its rounds.
+fn expect_earlier(rt: &HostRuntime, text: &[u8]) -> Result<(), Stop> {
+    if text.starts_with(b"aigcert 3\n") {
+        let _ = eprintln!(rt;
+            "aigmc: certify takes the clauses of certificates of version 1 and 2, recertify those of version 3"
+        );
+        return Err(Stop::Told);
+    }
+    Ok(())
+}
+
+/// The clauses in the text, over the latches of the circuit that is asked about.
+fn clauses_in(
+    rt: &HostRuntime,
+    text: &[u8],
+    file: &AigerFile,
+    property: Property,
+) -> Result<Seq<Seq<Lit>>, Stop> {
+    expect_earlier(rt, text)?;
+    if is_pla(text) {
+        pla_clauses(rt.alloc(), file, property, text)
+    } else {
+        about(Role::Invariant, line_clauses(rt.alloc(), text))
+    }
+}
+
 /// The clauses in the file of this name, over the latches of the circuit that is asked about.
 fn clauses_of(
     rt: &HostRuntime,
@@ -78,11 +100,7 @@ fn clauses_of(
     property: Property,
 ) -> Result<Seq<Seq<Lit>>, Stop> {
     let text = read_of(Role::Invariant, read_text(rt, name))?;
-    if is_pla(text.as_slice()) {
-        pla_clauses(rt.alloc(), file, property, text.as_slice())
-    } else {
-        about(Role::Invariant, line_clauses(rt.alloc(), text.as_slice()))
-    }
+    clauses_in(rt, text.as_slice(), file, property)
 }
 
 /// Makes a certificate of the clauses, each case of which is proved. Where none was made, standard error says why; the
@@ -109,23 +127,45 @@ fn certified(
         }
         Certified::Spent => {
             let _ = eprintln!(rt; "aigmc: the budget is exhausted");
-            Ok(Some(SPENT))
+            Ok(Some(UNKNOWN))
         }
     }
 }
 
+/// What became of clauses over the circuit.
+#[derive(Drop)]
+enum Tried {
+    /// A certificate was made, or standard error says why none was: the status.
+    Ended(u8),
+    /// They are no invariant, and one that begins with them is to be looked for.
+    Open(Seq<Seq<Lit>>),
+}
+
 /// Makes a certificate of the clauses in the file that is named, of which each case is proved over the circuit.
+fn tried_clauses(
+    rt: &HostRuntime,
+    asked: Claim<'_>,
+    property: Property,
+    file: &AigerFile,
+) -> Result<Tried, Stop> {
+    let clauses = clauses_of(rt, asked.invariant, file, property)?;
+    let made = certified(rt, asked, property, file, clauses.as_slice());
+    match about(Role::Circuit, made)? {
+        Some(status) => Ok(Tried::Ended(status)),
+        None => Ok(Tried::Open(clauses)),
+    }
+}
+
+/// The same, with the circuit where an invariant is to be looked for.
 fn certified_clauses(
     rt: &HostRuntime,
     asked: Claim<'_>,
     property: Property,
     file: AigerFile,
 ) -> Result<Adopted, Stop> {
-    let clauses = clauses_of(rt, asked.invariant, &file, property)?;
-    let made = certified(rt, asked, property, &file, clauses.as_slice());
-    match about(Role::Circuit, made)? {
-        Some(status) => Ok(Adopted::Ended(status)),
-        None => Ok(Adopted::Strengthen {
+    match tried_clauses(rt, asked, property, &file)? {
+        Tried::Ended(status) => Ok(Adopted::Ended(status)),
+        Tried::Open(clauses) => Ok(Adopted::Strengthen {
             file,
             property,
             clauses,

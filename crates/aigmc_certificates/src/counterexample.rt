@@ -50,6 +50,15 @@ pub fn tell_inputs(rt: &HostRuntime, inputs: &[bool]) {
     let _ = eprintln!(rt);
 }
 
+/// Says by which inputs before and after a step, where there are some.
+pub fn tell_both_inputs(rt: &HostRuntime, inputs: &[bool], later: &[bool]) {
+    if !inputs.is_empty() {
+        let (inputs, later) = (Bits(inputs), Bits(later));
+        let _ = eprint!(rt; " with the inputs {inputs} and then {later}");
+    }
+    let _ = eprintln!(rt);
+}
+
 /// Says which case the values satisfy.
 pub fn tell_case(rt: &HostRuntime, case: Case, values: &Values) {
     let _ = eprintln!(rt;

@@ -2,12 +2,14 @@
 #![tactic(auto)]
 
 mod adopting;
+mod conditions;
 mod counterexample;
 mod extending;
 mod recertifying;
 mod third;
 mod witnessed;
 
-pub use adopting::{Adopted, NO_INVARIANT, SPENT, certify_clauses};
+pub use adopting::{Adopted, certify_clauses};
 pub use recertifying::recertify;
+pub use third::NO_INVARIANT;
 pub use witnessed::adopt_witness;

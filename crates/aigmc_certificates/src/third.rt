@@ -1,6 +1,11 @@
 //! Certificates of version 3.
 
+ghost use Rattle.std.specs.Prelude.{◌≡◌, ℕ};
+ghost use Rattle.certify.specs.declared.counterexample.Case.TheVariants as earlier;
+ghost use Rattle.certify3.specs.declared.counterexample.Case.TheVariants.{First, Step, Last};
+
 use crate::counterexample::{Values, tell_case};
+pub use aigmc_files::UNKNOWN;
 use aigmc_files::{Claimed, DONE, Role, Stop, about, make_bytes};
 use base::{Budget, Refused, Seq};
 use certify::Case as EarlierCase;
@@ -10,8 +15,6 @@ use std::alloc::Global;
 
 /// The status of clauses that are no inductive invariant which excludes the property's literal.
 pub const NO_INVARIANT: u8 = 1;
-/// The status where nothing is known.
-pub const UNKNOWN: u8 = 2;
 
 /// The values of the circuit's latches.
 fn state_of(alloc: Global, circuit: &Model, found: &Counterexample) -> Result<Seq<bool>, Refused> {
@@ -41,7 +44,11 @@ fn inputs_of(alloc: Global, circuit: &Model, found: &Counterexample) -> Result<S
 }
 
 /// The case, as one of clauses over latches.
-fn case_of(case: Case) -> EarlierCase {
+fn case_of(case: Case) -> EarlierCase
+    ensures first { (k : ℕ) → case ≡ First k → result ≡ earlier.Initial k }
+    ensures step { (k : ℕ) → case ≡ Step k → result ≡ earlier.Step k }
+    ensures last { case ≡ Last → result ≡ earlier.Bad }
+{
     match case {
         Case::First(clause) => EarlierCase::Initial(clause),
         Case::Step(clause) => EarlierCase::Step(clause),

@@ -1,18 +1,19 @@
 //! The command `adopt-witness`: a witness circuit becomes a certificate of version 3.
 
+use crate::conditions::first_failing;
 use crate::counterexample::{Values, tell_inputs, tell_state, tell_step};
 use crate::third::{NO_INVARIANT, Outcome, UNKNOWN, outcome_of, values_of};
 use aigmc_files::{
     Claimed, DONE, Role, Stop, about, asked_for, circuit, circuit_of, is_taken, property_in,
 };
 use arguments::Adoption;
-use base::{Refused, Seq};
+use base::{Budget, Refused, Seq};
 use certificate3::{Claim, Format};
 use certify3::{Case, Counterexample};
-use graph::{AigerFile, Latch, Model, Property};
+use graph::{AigerFile, Latch, Lit, Model, Property};
 use inputs::is_standard;
 use std::alloc::Global;
-use witness_circuits::{Adopted, adopt};
+use witness_circuits::{Adopted, Pair, Shared, adopt};
 
 /// The only bad literal of the circuit, or the only output of one whose outputs are taken as some.
 fn only_property(circuit: &Model) -> Option<Property> {
@@ -52,6 +53,8 @@ fn claimed_of(property: Property, adopted: Adopted) -> Claimed {
         latches,
         gates,
         invariant,
+        of_property: _,
+        agrees: _,
     } = adopted;
     Claimed {
         format: Format::Three,
@@ -74,28 +77,34 @@ fn add_own(values: &mut Values, latches: &[Latch], found: &Counterexample) -> Re
     Ok(())
 }
 
-/// Says which clause is false: the first one is the witness's property, and the others are its constraints.
-fn tell_clause(rt: &HostRuntime, of_property: &str, of_constraint: &str, clause: u64) {
-    let _ = if clause == 0 {
+/// Says which clause is false: the first ones are the witness's property, and the others are its constraints.
+fn tell_clause(
+    rt: &HostRuntime,
+    of_property: &str,
+    of_constraint: &str,
+    clause: u64,
+    property_clauses: u64,
+) {
+    let _ = if clause < property_clauses {
         eprint!(rt; "  {of_property}: the witness's property is false")
     } else {
         eprint!(rt;
             "  {of_constraint}: the witness's constraint {} is false",
-            clause.saturating_sub(1)
+            clause.saturating_sub(property_clauses)
         )
     };
 }
 
 /// Says which of a witness's conditions the values break.
-fn tell_condition(rt: &HostRuntime, case: Case, values: &Values) {
+fn tell_condition(rt: &HostRuntime, case: Case, values: &Values, property_clauses: u64) {
     let _ = eprintln!(rt; "aigmc: the circuit is no witness of the property");
     match case {
         Case::First(clause) => {
-            tell_clause(rt, "base", "reset", clause);
+            tell_clause(rt, "base", "reset", clause, property_clauses);
             tell_state(rt, values);
         }
         Case::Step(clause) => {
-            tell_clause(rt, "step", "transition", clause);
+            tell_clause(rt, "step", "transition", clause, property_clauses);
             tell_step(rt, values);
         }
         Case::Last => {
@@ -110,17 +119,19 @@ fn tell_condition(rt: &HostRuntime, case: Case, values: &Values) {
 /// that the witness alone has.
 fn kept_of(
     rt: &HostRuntime,
-    asked: Adoption<'_>,
+    out: &str,
     circuit: &Model,
     claimed: Claimed,
+    property_clauses: u64,
+    steps: u64,
 ) -> Result<u8, Stop> {
     let own = Seq::from_slice(rt.alloc(), claimed.latches.as_slice())?;
-    match outcome_of(rt, asked.out, circuit, claimed, asked.budget)? {
+    match outcome_of(rt, out, circuit, claimed, steps)? {
         Outcome::Made => Ok(DONE),
         Outcome::NotInvariant(found) => {
             let mut values = values_of(rt.alloc(), circuit, &found)?;
             add_own(&mut values, own.as_slice(), &found)?;
-            tell_condition(rt, found.case, &values);
+            tell_condition(rt, found.case, &values, property_clauses);
             Ok(NO_INVARIANT)
         }
         Outcome::Unknown => Ok(UNKNOWN),
@@ -133,20 +144,66 @@ fn adopted_of(alloc: Global, circuit: &Model, witness: &AigerFile) -> Result<Ado
     Ok(adopted)
 }
 
-/// What the witness circuit in the file that is named adds to the circuit.
-fn adopted_in(rt: &HostRuntime, name: &str, circuit: &Model) -> Result<Adopted, Stop> {
-    let witness = circuit_of(rt, name, Role::Other)?;
-    about(Role::Other, adopted_of(rt.alloc(), circuit, &witness))
+/// The status of the first condition of the witness that does not hold, where there is one. Standard error says why.
+fn failing(
+    rt: &HostRuntime,
+    circuit: &Model,
+    bad: Lit,
+    witness: &AigerFile,
+    budget: &mut Budget,
+) -> Result<Option<u8>, Stop> {
+    let shared = Shared::of(rt.alloc(), circuit, witness)?;
+    let pair = Pair::of(circuit, bad, witness.model(), &shared)?;
+    first_failing(rt, pair, budget)
+}
+
+/// The literal that a property of safety watches.
+fn watched(circuit: &Model, property: Property) -> Option<Lit> {
+    match property {
+        Property::Bad(n) => circuit.bad().get(n as usize).copied(),
+        Property::Output(n) => circuit.outputs().get(n as usize).copied(),
+        Property::Justice(_) => None,
+    }
+}
+
+/// The same as `adopt_witness` of circuits that were read. Where the witness agrees with the circuit, the cases of its
+/// clauses are its conditions.
+fn adopt_for(
+    rt: &HostRuntime,
+    asked: Adoption<'_>,
+    circuit: &Model,
+    property: Property,
+    bad: Lit,
+    witness: &AigerFile,
+) -> Result<u8, Stop> {
+    let adopted = about(Role::Other, adopted_of(rt.alloc(), circuit, witness))?;
+    let mut budget = Budget::new(asked.budget);
+    if !adopted.agrees {
+        let failed = failing(rt, circuit, bad, witness, &mut budget);
+        if let Some(status) = about(Role::Other, failed)? {
+            return Ok(status);
+        }
+    }
+    let property_clauses = adopted.of_property as u64;
+    let claimed = claimed_of(property, adopted);
+    kept_of(
+        rt,
+        asked.out,
+        circuit,
+        claimed,
+        property_clauses,
+        budget.left(),
+    )
 }
 
 /// The same as `adopt_witness` of a circuit that was read.
-fn adopt_for(rt: &HostRuntime, asked: Adoption<'_>, file: &AigerFile) -> Result<u8, Stop> {
+fn adopt_of(rt: &HostRuntime, asked: Adoption<'_>, file: &AigerFile) -> Result<u8, Stop> {
     let property = asked_property(rt, asked, file)?;
-    if matches!(property, Property::Justice(_)) {
+    let Some(bad) = watched(file.model(), property) else {
         return Err(Stop::BadArgument);
-    }
-    let adopted = adopted_in(rt, asked.witness, file.model())?;
-    kept_of(rt, asked, file.model(), claimed_of(property, adopted))
+    };
+    let witness = circuit_of(rt, asked.witness, Role::Other)?;
+    adopt_for(rt, asked, file.model(), property, bad, &witness)
 }
 
 /// Makes a certificate of version 3 of a witness circuit, in the file of that name.
@@ -159,5 +216,5 @@ pub fn adopt_witness(rt: &HostRuntime, asked: Adoption<'_>) -> Result<u8, Stop> 
         return Err(Stop::Taken);
     }
     let file = circuit(rt, asked.file)?;
-    adopt_for(rt, asked, &file)
+    adopt_of(rt, asked, &file)
 }

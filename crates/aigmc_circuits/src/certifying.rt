@@ -109,6 +109,12 @@ fn witness_of(rt: &HostRuntime, asked: WitnessCircuit<'_>, layout: Layout) -> Re
     witness_in(rt, asked.certificate, file.model(), layout)
 }
 
+/// Makes the file of that name with the witness circuit.
+fn keep_witness(rt: &HostRuntime, out: &str, fitted: &Fitted, layout: Layout) -> Result<u8, Stop> {
+    make(rt, out, &fitted.file, layout)?;
+    Ok(DONE)
+}
+
 /// Makes the file of that name with the witness circuit of a certificate that is accepted.
 pub fn make_witness_circuit(rt: &HostRuntime, asked: WitnessCircuit<'_>) -> Result<u8, Stop> {
     let out = asked.out;
@@ -120,6 +126,5 @@ pub fn make_witness_circuit(rt: &HostRuntime, asked: WitnessCircuit<'_>) -> Resu
         return Err(Stop::Taken);
     }
     let fitted = witness_of(rt, asked, layout)?;
-    make(rt, out, &fitted.file, layout)?;
-    Ok(DONE)
+    keep_witness(rt, out, &fitted, layout)
 }

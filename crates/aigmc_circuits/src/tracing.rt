@@ -16,12 +16,13 @@ fn trace_in(
     stimulus: &str,
     all: bool,
     waveform: Option<&str>,
-) -> Result<(), Stop> {
+) -> Result<u8, Stop> {
     let shown = shown_of(rt, stimulus, file.model())?;
     match waveform {
-        None => print_trace(rt, file, &shown, all),
-        Some(out) => make_waveform(rt, out, file, &shown, all),
+        None => print_trace(rt, file, &shown, all)?,
+        Some(out) => make_waveform(rt, out, file, &shown, all)?,
     }
+    Ok(DONE)
 }
 
 /// Prints the trace of a stimulus, or of a text that leaves values open, by the names of the signals, or makes the file of
@@ -40,6 +41,5 @@ pub fn trace(
         return Err(Stop::Taken);
     }
     let file = circuit(rt, name)?;
-    trace_in(rt, &file, stimulus, all, waveform)?;
-    Ok(DONE)
+    trace_in(rt, &file, stimulus, all, waveform)
 }

@@ -109,6 +109,17 @@ fn witnessed_of(
     witnessed(rt, asked, file, &loose, property)
 }
 
+/// The same of the property that is chosen, where one is.
+fn witnessed_in(
+    rt: &HostRuntime,
+    asked: Counterexample<'_>,
+    file: &AigerFile,
+    word: Option<Asked<'_>>,
+) -> Result<u8, Stop> {
+    let property = chosen_in(rt, asked, file, word)?;
+    witnessed_of(rt, asked, file, property)
+}
+
 /// Makes the file of that name with the strict stimulus of a counterexample.
 pub fn make_witness(rt: &HostRuntime, asked: Counterexample<'_>) -> Result<u8, Stop> {
     let word = chosen(asked)?;
@@ -120,6 +131,5 @@ pub fn make_witness(rt: &HostRuntime, asked: Counterexample<'_>) -> Result<u8, S
         return Err(Stop::Taken);
     }
     let file = circuit(rt, circuit_name)?;
-    let property = chosen_in(rt, asked, &file, word)?;
-    witnessed_of(rt, asked, &file, property)
+    witnessed_in(rt, asked, &file, word)
 }

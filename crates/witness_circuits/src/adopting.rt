@@ -1,28 +1,36 @@
 //! From a witness circuit to latches, gates and clauses.
 
-ghost use Rattle.std.specs.Prelude.{◌≡◌, ◌≢◌, ◌∷◌, [], List, IfErr, IfOk, length};
-ghost use Rattle.graph.specs.declared.circuit.Lit.{Lit as ALit};
+ghost use Rattle.std.specs.Prelude.{◌≡◌, ◌≢◌, ◌⊎◌, ◌≤◌, ◌∷◌, [], IfErr, IfOk, drop, length, take};
+ghost use Rattle.extension.specs.Extended.{IsExtension};
 ghost use Rattle.witness_circuits.specs.Pairs.{IsAbout, IsOther, IsRefused};
-ghost use Rattle.witness_circuits.specs.Renamed.{wanted_clauses};
+ghost use Rattle.witness_circuits.specs.Spread.{AreAdopted, IsAdopted};
 ghost use Rattle.witness_circuits.specs.declared.pair_error.PairError.TheVariants.{Bad};
 
+use crate::naming::{Addition, Naming};
 use crate::pair_error::PairError;
-use crate::renaming::{denial_of, gate_of, latch_of, literal_of};
 use crate::shared::Shared;
-use crate::sizes::MAX_VAR;
-use base::{Lists, Refused, Seq, filled};
+use crate::sizes::variables_left;
+use crate::trimming::{Trimmed, trim};
+use crate::wanted::Wanted;
+use base::{Lists, Refused, Seq};
+use extension::is_extension;
 use graph::{AigerFile, Gate, Latch, Lit, Model};
 use std::alloc::Global;
 
 /// What a witness circuit adds to the model, and what is to be inductive.
 #[derive(Drop)]
 pub struct Adopted {
-    /// the witness's own latches, of the variables behind the model's
+    /// latches of the witness's own, of the variables behind the model's
     pub latches: Seq<Latch>,
-    /// the witness's gates, of the variables behind those, each after the gates that it reads
+    /// gates that the model has not, of the variables behind those, each after the gates that it reads
     pub gates: Seq<Gate>,
     /// that the witness's bad literal is 0, and then that each of its constraints is 1
     pub invariant: Lists<Lit>,
+    /// how many clauses say that the bad literal is 0
+    pub of_property: usize,
+    /// whether the witness has no input of its own, the model's constraints, and the next literal and the reset of each
+    /// latch that it shares, by what structural hashing finds to be the same
+    pub agrees: bool,
 }
 
 /// The only one of the literals.
@@ -37,7 +45,7 @@ fn only(lits: &[Lit]) -> Result<Lit, PairError>
 }
 
 /// The literal that a witness is about: its one bad literal, or the one output that is taken as one.
-fn bad_of(witness: &Model) -> Result<Lit, PairError>
+pub fn bad_of(witness: &Model) -> Result<Lit, PairError>
     ensures about { IfOk result (IsAbout witness.now) }
     ensures refused { IfErr result (IsRefused witness.now) }
 {
@@ -48,143 +56,117 @@ fn bad_of(witness: &Model) -> Result<Lit, PairError>
     }
 }
 
-/// Gives the literal's variable a name.
-fn name(names: &mut [Lit], lit: Lit, given: Lit) {
-    if let Some(place) = names.get_mut(lit.variable() as usize) {
-        *place = given;
+/// How many of the gates are kept: those that are needed, where these come first and all gates extend the model with
+/// the latches, or else all.
+fn kept_of(model: &Model, latches: &Seq<Latch>, gates: &Seq<Gate>, needed: usize) -> usize
+    ensures few { result ≤ length gates.now }
+    ensures extends { (drop result gates.now ≡ []) ⊎ IsExtension model.now latches.now gates.now }
+{
+    model.well_formed();
+    let Some(_) = variables_left(model.max_var(), latches.len(), gates.len()) else {
+        return gates.len();
+    };
+    if is_extension(model.parts(), latches.as_slice(), gates.as_slice()) {
+        needed.min(gates.len())
+    } else {
+        gates.len()
     }
 }
 
-/// The model's literal at the position, where it is shared.
-fn given_at(shared: &[Option<Lit>], position: usize) -> Option<Lit> {
-    match shared.get(position) {
-        Some(given) => *given,
-        None => None,
-    }
+/// The first ones of the gates.
+fn first_of(alloc: Global, gates: &Seq<Gate>, count: usize) -> Result<Seq<Gate>, Refused>
+    requires { count ≤ length gates.now }
+    ensures { IfOk result (λ s. s ≡ take count gates.now) }
+{
+    let first = Seq::from_slice(alloc, &gates.as_slice()[..count])?;
+    Ok(first)
 }
 
-/// Gives the shared inputs the names of the model's. The other ones are false.
-fn name_inputs(names: &mut [Lit], witness: &Model, shared: &[Option<Lit>]) {
-    for (position, lit) in witness.inputs().iter().enumerate() {
-        if let Some(given) = given_at(shared, position) {
-            name(names, *lit, given);
-        }
-    }
-}
-
-/// Gives the shared latches the names of the model's, and the other ones new variables behind this one. Answers the last
-/// of these.
-fn name_latches(names: &mut [Lit], witness: &Model, shared: &[Option<Lit>], last: u32) -> u32 {
-    let mut last = last;
-    for (position, latch) in witness.latches().iter().enumerate() {
-        match given_at(shared, position) {
-            Some(given) => name(names, latch.lit, given),
-            None => {
-                last = last.saturating_add(1);
-                name(names, latch.lit, Lit(last.saturating_mul(2)));
-            }
-        }
-    }
-    last
-}
-
-/// Gives the gates new variables behind this one, in an order in which each comes after those that it reads.
-fn name_gates(names: &mut [Lit], witness: &Model, last: u32) {
-    let mut last = last;
-    for position in witness.order() {
-        if let Some(gate) = witness.gates().get(*position as usize) {
-            last = last.saturating_add(1);
-            name(names, gate.lhs, Lit(last.saturating_mul(2)));
-        }
-    }
-}
-
-/// A literal for each variable of the witness, where the new variables are within the limit.
-fn names_of(
+/// The addition without what the witness's bad literal and constraints do not need once they are clauses.
+fn trimmed_of(
     alloc: Global,
     model: &Model,
     witness: &Model,
-    shared: &Shared,
-) -> Result<Vec<Lit>, PairError>
+    bad: Lit,
+    addition: &Addition,
+) -> Result<Trimmed, Refused> {
+    let wanted = Wanted::of(
+        alloc,
+        model,
+        &addition.names,
+        addition.gates.as_slice(),
+        bad,
+        witness.constraints(),
+    )?;
+    let first = model.max_var().saturating_add(1);
+    trim(alloc, addition, first, &wanted.clauses)
+}
+
+/// What is adopted of an addition.
+fn adopted_of(
+    alloc: Global,
+    model: &Model,
+    witness: &Model,
+    bad: Lit,
+    trimmed: Trimmed,
+    agrees: bool,
+) -> Result<Adopted, Refused>
+    ensures { IfOk result (λ x. AreAdopted model.now witness.now bad x.latches x.gates x.of_property x.invariant) }
+{
+    let Trimmed { addition, needed } = trimmed;
+    let Addition {
+        names,
+        latches,
+        gates,
+    } = addition;
+    let constraints = witness.constraints();
+    let Wanted {
+        clauses,
+        of_property,
+    } = Wanted::of(alloc, model, &names, gates.as_slice(), bad, constraints)?;
+    let kept = kept_of(model, &latches, &gates, needed);
+    let gates = first_of(alloc, &gates, kept)?;
+    Ok(Adopted {
+        latches,
+        gates,
+        invariant: clauses,
+        of_property,
+        agrees,
+    })
+}
+
+/// What a witness adds, where its names are within the limit, and whether it agrees with the model.
+fn addition_of(
+    alloc: Global,
+    model: &Model,
+    witness: &AigerFile,
+) -> Result<(Addition, bool), PairError>
     ensures { IfErr result IsOther }
 {
-    witness.well_formed();
-    let mut names = filled(alloc, Lit(0), witness.max_var() as usize + 1)?;
-    name_inputs(names.as_mut_slice(), witness, &shared.inputs);
-    let last = name_latches(
-        names.as_mut_slice(),
-        witness,
-        &shared.latches,
-        model.max_var(),
-    );
-    if witness.gates().len().saturating_add(last as usize) > MAX_VAR {
-        return Err(PairError::Limit);
-    }
-    name_gates(names.as_mut_slice(), witness, last);
-    Ok(names)
+    let own = witness.model();
+    let shared = Shared::of(alloc, model, witness)?;
+    let naming = Naming::of(alloc, model, own, &shared)?;
+    let agrees = naming.agrees(alloc, model, own, &shared)?;
+    let addition = naming.addition(alloc, own, &shared)?;
+    Ok((addition, agrees))
 }
 
-/// The latches that the witness does not share.
-fn own_latches(
-    alloc: Global,
-    names: &[Lit],
-    latches: &[Latch],
-    shared: &[Option<Lit>],
-) -> Result<Seq<Latch>, Refused> {
-    let mut own = Seq::new(alloc);
-    for (position, latch) in latches.iter().enumerate() {
-        if given_at(shared, position).is_none() {
-            own.push(latch_of(names, *latch))?;
-        }
-    }
-    Ok(own)
-}
-
-/// The gates, in an order in which each comes after those that it reads.
-fn ordered_gates(alloc: Global, names: &[Lit], witness: &Model) -> Result<Seq<Gate>, Refused> {
-    let mut gates = Seq::new(alloc);
-    for position in witness.order() {
-        if let Some(gate) = witness.gates().get(*position as usize) {
-            gates.push(gate_of(names, *gate))?;
-        }
-    }
-    Ok(gates)
-}
-
-/// The clauses of the bad literal and the constraints.
-fn clauses_of(
-    alloc: Global,
-    names: &[Lit],
-    bad: Lit,
-    constraints: &[Lit],
-) -> Result<Lists<Lit>, Refused>
-    ensures { IfOk result (λ clauses. clauses ≡ wanted_clauses names.now bad constraints.now) }
-{
-    let mut clauses = Lists::new(alloc);
-    clauses.push(&[denial_of(names, bad)])?;
-    for lit in constraints {
-        clauses.push(&[literal_of(names, *lit)])?;
-    }
-    Ok(clauses)
-}
-
-/// What a witness circuit adds to the model, and what is to be inductive then: latches of its own, its gates, and clauses
+/// What a witness circuit adds to the model, and what is to be inductive then: latches of its own, gates, and clauses
 /// that say that its bad literal is 0 and its constraints are 1. A shared input or latch is the model's; an input of the
-/// witness alone is 0, since its property has to hold whatever that is. Nothing is believed of the witness.
+/// witness alone is 0, since its property has to hold whatever that is. A gate that has the right sides of another one,
+/// of the model or of the witness, is that one. What the clauses do not need is left out. Nothing is believed of the
+/// witness.
 ///
-/// Refused are first a witness with another number of bad literals than one, then the first symbol that names nothing that
-/// is there, then more than 4,194,303 variables. It costs both circuits.
+/// Refused are first a witness with another number of bad literals than one, then the first symbol that names nothing
+/// that is there, then more than 4,194,303 variables, with those of what is left out. It costs both circuits.
 pub fn adopt(alloc: Global, model: &Model, witness: &AigerFile) -> Result<Adopted, PairError>
-    ensures clauses { IfOk result (λ x. (names : List ALit) × (bad : ALit) × IsAbout witness.now.model bad × (x.invariant ≡ wanted_clauses names bad witness.now.model.constraints)) }
+    ensures clauses { IfOk result (λ x. IsAdopted model.now witness.now.model x.latches x.gates x.of_property x.invariant) }
     ensures refused { IfErr result (IsRefused witness.now.model) }
 {
     let own = witness.model();
     let bad = bad_of(own)?;
-    let shared = Shared::of(alloc, model, witness)?;
-    let names = names_of(alloc, model, own, &shared)?;
-    Ok(Adopted {
-        latches: own_latches(alloc, &names, own.latches(), &shared.latches)?,
-        gates: ordered_gates(alloc, &names, own)?,
-        invariant: clauses_of(alloc, &names, bad, own.constraints())?,
-    })
+    let (addition, agrees) = addition_of(alloc, model, witness)?;
+    let trimmed = trimmed_of(alloc, model, own, bad, &addition)?;
+    let adopted = adopted_of(alloc, model, own, bad, trimmed, agrees)?;
+    Ok(adopted)
 }

@@ -11,16 +11,29 @@
 #![tactic(auto)]
 
 mod adopting;
+mod agreeing;
+mod arranging;
+mod conditions;
+mod conjunctions;
+mod drafting;
 mod error;
+mod frames;
+mod naming;
 mod pair_error;
+mod places;
 mod property;
 mod renaming;
 mod shared;
 mod sizes;
+mod spreading;
 mod symbols;
+mod trimming;
+mod wanted;
 mod writing;
 
 pub use adopting::{Adopted, adopt};
+pub use conditions::{Condition, Facts, Moment, Pair, Question, Times};
 pub use error::MakeError;
 pub use pair_error::PairError;
+pub use shared::Shared;
 pub use writing::witness_of;

@@ -7,7 +7,7 @@ ghost use Rattle.witness_circuits.specs.Renamed.{renamed, renamed_gate, renamed_
 use graph::{Gate, Latch, Lit};
 
 /// The literal's negation.
-fn flipped(lit: Lit) -> Lit
+pub fn flipped(lit: Lit) -> Lit
     ensures { result ≡ negation lit }
 {
     if lit.is_negated() {
@@ -65,5 +65,12 @@ pub fn gate_of(names: &[Lit], gate: Gate) -> Gate
         lhs: literal_of(names, gate.lhs),
         rhs0: literal_of(names, gate.rhs0),
         rhs1: literal_of(names, gate.rhs1),
+    }
+}
+
+/// Gives the literal's variable a name.
+pub fn name(names: &mut [Lit], lit: Lit, given: Lit) {
+    if let Some(place) = names.get_mut(lit.variable() as usize) {
+        *place = given;
     }
 }

@@ -26,6 +26,14 @@ pub struct Shared {
     pub latches: Vec<Option<Lit>>,
 }
 
+/// The model's literal at the position, where it is shared.
+pub fn given_at(shared: &[Option<Lit>], position: usize) -> Option<Lit> {
+    match shared.get(position) {
+        Some(given) => *given,
+        None => None,
+    }
+}
+
 /// What a variable of the model is.
 #[derive(Clone, Copy, PartialEq, Eq)]
 enum Kind {

@@ -1,0 +1,247 @@
+//! The latches and gates of a witness that clauses need.
+
+use crate::naming::Addition;
+use crate::renaming::{gate_of, latch_of, literal_of, name};
+use crate::sizes::MAX_VAR;
+use base::{Lists, Refused, Seq, copied, filled_like, push};
+use graph::{Gate, Latch, Lit};
+use std::alloc::Global;
+
+/// What is needed among the variables from the first one on.
+#[derive(Drop)]
+struct Cone {
+    first: u32,
+    /// for each variable whether it is needed
+    needed: Vec<bool>,
+    /// variables of which what they read is not marked yet
+    open: Vec<u32>,
+}
+
+/// What the latch or the gate of the variable reads.
+fn reads_of(addition: &Addition, first: u32, variable: u32) -> [Lit; 2] {
+    let Some(place) = variable.checked_sub(first) else {
+        return [Lit(0), Lit(0)];
+    };
+    if let Some(latch) = addition.latches.as_slice().get(place as usize) {
+        return [latch.next, Lit(0)];
+    }
+    let place = (place as usize).saturating_sub(addition.latches.len());
+    match addition.gates.as_slice().get(place) {
+        Some(gate) => [gate.rhs0, gate.rhs1],
+        None => [Lit(0), Lit(0)],
+    }
+}
+
+impl Cone {
+    /// Marks the literal's variable, where it is not one of the model.
+    fn mark(&mut self, lit: Lit) -> Result<(), Refused> {
+        if lit.variable() < self.first {
+            return Ok(());
+        }
+        if let Some(needed) = self.needed.get_mut(lit.variable() as usize)
+            && !*needed
+        {
+            *needed = true;
+            push(&mut self.open, lit.variable())?;
+        }
+        Ok(())
+    }
+
+    /// Marks the variables of these literals.
+    fn mark_all(&mut self, lits: &[Lit]) -> Result<(), Refused> {
+        for lit in lits {
+            self.mark(*lit)?;
+        }
+        Ok(())
+    }
+
+    /// Marks the variables of the clauses.
+    fn mark_clauses(&mut self, clauses: &Lists<Lit>) -> Result<(), Refused> {
+        for k in 0..clauses.len() {
+            self.mark_all(clauses.list(k))?;
+        }
+        Ok(())
+    }
+
+    /// Marks all that what is marked reads. Each variable is opened once.
+    fn close(&mut self, addition: &Addition) -> Result<(), Refused> {
+        for _ in 0..self.needed.len() {
+            let Some(variable) = self.open.pop() else {
+                return Ok(());
+            };
+            self.mark_all(&reads_of(addition, self.first, variable))?;
+        }
+        Ok(())
+    }
+}
+
+/// For each variable up to the last one of the addition its literal.
+fn variables_of(alloc: Global, addition: &Addition, first: u32) -> Result<Vec<Lit>, Refused> {
+    let count = addition.latches.len().saturating_add(addition.gates.len());
+    let end = count.saturating_add(first as usize).min(MAX_VAR + 1) as u32;
+    let mut variables = Vec::new(alloc);
+    for variable in 0..end {
+        push(&mut variables, Lit(variable.saturating_mul(2)))?;
+    }
+    Ok(variables)
+}
+
+/// For each variable whether the clauses need it, which are over the model and the addition.
+fn needed_by(
+    alloc: Global,
+    addition: &Addition,
+    first: u32,
+    variables: &[Lit],
+    clauses: &Lists<Lit>,
+) -> Result<Vec<bool>, Refused> {
+    let mut cone = Cone {
+        first,
+        needed: filled_like(alloc, false, variables)?,
+        open: Vec::new(alloc),
+    };
+    cone.mark_clauses(clauses)?;
+    cone.close(addition)?;
+    let Cone {
+        first: _,
+        needed,
+        open: _,
+    } = cone;
+    Ok(needed)
+}
+
+/// Whether the literal's variable is needed.
+fn is_needed(needed: &[bool], lit: Lit) -> bool {
+    match needed.get(lit.variable() as usize) {
+        Some(needed) => *needed,
+        None => false,
+    }
+}
+
+/// New variables for those of an addition.
+#[derive(Drop)]
+struct Numbering {
+    /// for each variable the literal that stands for it
+    literals: Vec<Lit>,
+    /// the next new variable
+    next: u32,
+}
+
+impl Numbering {
+    /// Gives the literal's variable the next new one.
+    fn number(&mut self, lit: Lit) {
+        let new = Lit(self.next.saturating_mul(2));
+        name(self.literals.as_mut_slice(), lit, new);
+        self.next = self.next.saturating_add(1);
+    }
+
+    /// Numbers the latches that are needed. The other ones are false.
+    fn number_latches(&mut self, latches: &[Latch], needed: &[bool]) {
+        for latch in latches {
+            if is_needed(needed, latch.lit) {
+                self.number(latch.lit);
+            } else {
+                name(self.literals.as_mut_slice(), latch.lit, Lit(0));
+            }
+        }
+    }
+
+    /// Numbers the gates that are needed, or those that are not.
+    fn number_gates(&mut self, gates: &[Gate], needed: &[bool], are_needed: bool) {
+        for gate in gates {
+            if is_needed(needed, gate.lhs) == are_needed {
+                self.number(gate.lhs);
+            }
+        }
+    }
+
+    /// The latches that are needed, by their new variables.
+    fn latches(
+        &self,
+        alloc: Global,
+        latches: &[Latch],
+        needed: &[bool],
+    ) -> Result<Seq<Latch>, Refused> {
+        let mut found = Seq::new(alloc);
+        for latch in latches {
+            if is_needed(needed, latch.lit) {
+                found.push(latch_of(&self.literals, *latch))?;
+            }
+        }
+        Ok(found)
+    }
+
+    /// Adds the gates that are needed, or those that are not, by their new variables.
+    fn push_gates(
+        &self,
+        to: &mut Seq<Gate>,
+        gates: &[Gate],
+        needed: &[bool],
+        are_needed: bool,
+    ) -> Result<(), Refused> {
+        for gate in gates {
+            if is_needed(needed, gate.lhs) == are_needed {
+                to.push(gate_of(&self.literals, *gate))?;
+            }
+        }
+        Ok(())
+    }
+
+    /// The names, by the new variables.
+    fn names(&self, alloc: Global, names: &[Lit]) -> Result<Vec<Lit>, Refused> {
+        let mut found = Vec::new(alloc);
+        for lit in names {
+            push(&mut found, literal_of(&self.literals, *lit))?;
+        }
+        Ok(found)
+    }
+}
+
+/// An addition whose first gates are needed.
+#[derive(Drop)]
+pub struct Trimmed {
+    /// latches that are needed, and gates, of which the needed ones come first
+    pub addition: Addition,
+    /// how many gates are needed
+    pub needed: usize,
+}
+
+/// The addition by the new variables.
+fn renumbered(
+    alloc: Global,
+    addition: &Addition,
+    numbering: &Numbering,
+    needed: &[bool],
+) -> Result<Trimmed, Refused> {
+    let mut gates = Seq::new(alloc);
+    numbering.push_gates(&mut gates, addition.gates.as_slice(), needed, true)?;
+    let count = gates.len();
+    numbering.push_gates(&mut gates, addition.gates.as_slice(), needed, false)?;
+    Ok(Trimmed {
+        addition: Addition {
+            names: numbering.names(alloc, &addition.names)?,
+            latches: numbering.latches(alloc, addition.latches.as_slice(), needed)?,
+            gates,
+        },
+        needed: count,
+    })
+}
+
+/// The addition without the latches that the clauses do not need, and with the gates behind the others that they do not
+/// need. Its variables are those from the first one on: latches, and then gates.
+pub fn trim(
+    alloc: Global,
+    addition: &Addition,
+    first: u32,
+    clauses: &Lists<Lit>,
+) -> Result<Trimmed, Refused> {
+    let variables = variables_of(alloc, addition, first)?;
+    let needed = needed_by(alloc, addition, first, &variables, clauses)?;
+    let mut numbering = Numbering {
+        literals: copied(alloc, &variables)?,
+        next: first,
+    };
+    numbering.number_latches(addition.latches.as_slice(), &needed);
+    numbering.number_gates(addition.gates.as_slice(), &needed, true);
+    numbering.number_gates(addition.gates.as_slice(), &needed, false);
+    renumbered(alloc, addition, &numbering, &needed)
+}
