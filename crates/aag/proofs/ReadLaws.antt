@@ -14,8 +14,8 @@ use Rattle.graph.specs.File.{File}
 use Rattle.graph.specs.Refusals.{number_of}
 use Rattle.graph.specs.Symbols.{symbol_counts, AreSymbols}
 use Rattle.graph.specs.WellFormed.{IsWellFormed}
-use Rattle.aag.specs.declared.refusal.Refusal.{Refusal}
-use Rattle.aag.specs.declared.refusal.Refusal.TheVariants as refusal
+use Rattle.aag.specs.declared.read_fault.ReadFault.{ReadFault}
+use Rattle.aag.specs.declared.read_fault.ReadFault.TheVariants as refusal
 use Rattle.aag.specs.declared.lines.NotDefining.{NotDefining}
 use Rattle.aag.specs.Ascii.{SpellsAscii, file_of}
 use Rattle.aag.specs.Refusals.{at_byte, error_of, refusal_numbers}
@@ -36,12 +36,12 @@ is_only text f g m parts xs o whole same read spells =
 
 -- ---- a fault of the text
 
-pub only_memory : {L : Type 0} → (own : L → ℕ → ReadError) (length : ℕ) (text : List ℕ) (fault : Fault (Refusal L)) → Refuses (λ f. AreSymbols (symbol_counts f.model) f.symbols) fault (text_at text)
+pub only_memory : {L : Type 0} → (own : L → ℕ → ReadError) (length : ℕ) (text : List ℕ) (fault : Fault (ReadFault L)) → Refuses (λ f. AreSymbols (symbol_counts f.model) f.symbols) fault (text_at text)
     → (f : File) → SpellsAscii text f → error_of own length fault ≡ OutOfMemory witness
 only_memory own length text (Memory refused) refuses f spells = refl
 only_memory own length text (Text kind left) refuses f spells = absurd (refuses f (text_again text f spells) spells.are_symbols)
 
-byte_number : (kind : Refusal NotDefining) (p : ℕ) → Contains refusal_numbers (number_of (at_byte (λ _ place. Defining place) kind p))
+byte_number : (kind : ReadFault NotDefining) (p : ℕ) → Contains refusal_numbers (number_of (at_byte (λ _ place. Defining place) kind p))
 byte_number refusal.Header p = (1, omega arith, refl)
 byte_number refusal.Number p = (2, omega arith, refl)
 byte_number refusal.Limit p = (3, omega arith, refl)
@@ -53,7 +53,7 @@ byte_number refusal.Counts p = (13, omega arith, refl)
 byte_number refusal.Symbol p = (12, omega arith, refl)
 byte_number (refusal.Layout own) p = (7, omega arith, refl)
 
-pub fault_number : (length : ℕ) (fault : Fault (Refusal NotDefining)) → Contains refusal_numbers (number_of (error_of (λ _ place. Defining place) length fault))
+pub fault_number : (length : ℕ) (fault : Fault (ReadFault NotDefining)) → Contains refusal_numbers (number_of (error_of (λ _ place. Defining place) length fault))
 fault_number length (Memory refused) = (14, omega arith, refl)
 fault_number length (Text kind left) = byte_number kind (length - left)
 

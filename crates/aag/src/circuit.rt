@@ -6,7 +6,7 @@ ghost use Rattle.aag.specs.Sections.{lists_at, circuit_at};
 
 use crate::header::{Header, read_header};
 use crate::lines::{GREATEST, GateLine, InputLine, LatchLine, NotDefining};
-use crate::refusal::Refusal;
+use crate::read_fault::ReadFault;
 use crate::uses::read_uses;
 use graph::Parts;
 use scan::{Fault, lines};
@@ -18,7 +18,7 @@ fn lists(
     alloc: Global,
     header: Header,
     text: &[u8],
-) -> Result<(Parts, &[u8]), Fault<Refusal<NotDefining>>>
+) -> Result<(Parts, &[u8]), Fault<ReadFault<NotDefining>>>
     requires { header.max_var ≤ GREATEST }
     ensures { Gives (λ x. (x.0, x.1.now)) result (lists_at header text.now) }
 {
@@ -34,14 +34,14 @@ fn lists(
 /// The circuit that the text begins with, and what follows the last gate's line. Nothing is asked
 /// of it yet beyond what each line says by itself.
 #[tactic(auto, unfolding(crate::specs::Sections::circuit_at))]
-pub fn circuit(alloc: Global, text: &[u8]) -> Result<(Parts, &[u8]), Fault<Refusal<NotDefining>>>
+pub fn circuit(alloc: Global, text: &[u8]) -> Result<(Parts, &[u8]), Fault<ReadFault<NotDefining>>>
     ensures { Gives (λ x. (x.0, x.1.now)) result (circuit_at text.now) }
 {
     let (header, rest) = read_header::<NotDefining>(text, b"aag ")?;
     let defined = u64::from(header.inputs) + u64::from(header.latches) + u64::from(header.gates);
     if defined > u64::from(header.max_var) {
         return Err(Fault::Text {
-            kind: Refusal::Counts,
+            kind: ReadFault::Counts,
             left: rest.len() + 1,
         });
     }

@@ -5,7 +5,7 @@ ghost use Rattle.scan.specs.Reading.{Gives};
 ghost use Rattle.aag.specs.Sections.{header_at};
 
 use crate::lines::GREATEST;
-use crate::refusal::Refusal;
+use crate::read_fault::ReadFault;
 use scan::{Fault, counts, field, tag};
 
 /// What a header states: the greatest variable, and how many there are of each kind.
@@ -27,11 +27,11 @@ pub struct Header {
 pub fn read_header<'a, L: Copy>(
     text: &'a [u8],
     word: &[u8],
-) -> Result<(Header, &'a [u8]), Fault<Refusal<L>>>
+) -> Result<(Header, &'a [u8]), Fault<ReadFault<L>>>
     ensures value { Gives (λ x. (x.0, x.1.now)) result (header_at word.now text.now) }
     ensures within { IfOk result (λ x. x.0.max_var ≤ GREATEST) }
 {
-    let kinds = Refusal::<L>::IN_HEADER;
+    let kinds = ReadFault::<L>::IN_HEADER;
     let rest = tag(text, word, kinds)?;
     let (max_var, rest) = field(rest, GREATEST, b' ', kinds)?;
     let (counts, rest) = counts(rest, GREATEST, kinds)?;

@@ -5,7 +5,7 @@ ghost use Rattle.scan.specs.Reading.{Gives};
 ghost use Rattle.aag.specs.Justice.{sizes_at, properties_at, justice_at};
 
 use crate::lines::{GREATEST, UseLine};
-use crate::refusal::Refusal;
+use crate::read_fault::ReadFault;
 use base::{Seq, push};
 use graph::Lit;
 use scan::{Fault, field, lines};
@@ -17,14 +17,14 @@ fn sizes<L: Copy>(
     alloc: Global,
     count: u32,
     text: &[u8],
-) -> Result<(Vec<u32>, &[u8]), Fault<Refusal<L>>>
+) -> Result<(Vec<u32>, &[u8]), Fault<ReadFault<L>>>
     ensures { Gives (λ x. (x.0.items, x.1.now)) result (sizes_at GREATEST count text.now) }
 {
     let mut sizes = Vec::new(alloc);
     let mut room = GREATEST;
     let mut rest = text;
     for _ in 0..count {
-        let (size, after) = field(rest, room, b'\n', Refusal::<L>::IN_SIZE)?;
+        let (size, after) = field(rest, room, b'\n', ReadFault::<L>::IN_SIZE)?;
         push(&mut sizes, size)?;
         room -= size;
         rest = after;
@@ -56,10 +56,10 @@ fn properties<'a, K: Copy>(
 #[tactic(auto, unfolding(crate::specs::Justice::justice_at))]
 pub fn justice<L: Copy>(
     alloc: Global,
-    line: UseLine<Refusal<L>>,
+    line: UseLine<ReadFault<L>>,
     count: u32,
     text: &[u8],
-) -> Result<(Seq<Seq<Lit>>, &[u8]), Fault<Refusal<L>>>
+) -> Result<(Seq<Seq<Lit>>, &[u8]), Fault<ReadFault<L>>>
     requires { line.max_var ≤ GREATEST }
     ensures { Gives (λ x. (x.0, x.1.now)) result (justice_at line.max_var count text.now) }
 {

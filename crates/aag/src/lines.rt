@@ -6,7 +6,7 @@ ghost use Rattle.scan.specs.Words.{any};
 ghost use Rattle.graph.specs.declared.error.ReadError.TheVariants.{Defining};
 ghost use Rattle.aag.specs.Lines.{greatest, literal_at, defines, next_at, reset_at, latch_at, gate_at};
 
-use crate::refusal::{LayoutRefusal, Refusal};
+use crate::read_fault::{LayoutFault, ReadFault};
 use graph::{Gate, Latch, Lit, MOST_VARIABLES, ReadError};
 use scan::{Fault, Kinds, LineKind, byte, field, number, word};
 use std::alloc::Global;
@@ -18,7 +18,7 @@ pub const GREATEST: u32 = MOST_VARIABLES;
 #[derive(Clone, Copy, PartialEq, Eq)]
 pub struct NotDefining;
 
-impl LayoutRefusal for NotDefining {
+impl LayoutFault for NotDefining {
     ghost at_byte = { λ _. Defining };
 
     fn at(self, place: u64) -> ReadError {
@@ -45,15 +45,15 @@ fn literal<K: Copy>(
 /// A literal that defines its variable, and what follows the byte behind it.
 #[tactic(auto, unfolding(crate::specs::Lines::literal_at, scan::specs::Words::field_at))]
 #[inline(always)]
-fn defining(text: &[u8], max_var: u32, end: u8) -> Result<(Lit, &[u8]), Fault<Refusal<NotDefining>>>
+fn defining(text: &[u8], max_var: u32, end: u8) -> Result<(Lit, &[u8]), Fault<ReadFault<NotDefining>>>
     requires { max_var ≤ GREATEST }
     ensures { Gives (λ x. (x.0, x.1.now)) result (literal_at max_var defines end text.now) }
 {
-    let kinds = Refusal::<NotDefining>::IN_LITERAL;
+    let kinds = ReadFault::<NotDefining>::IN_LITERAL;
     let (lit, rest) = number(text, 2 * max_var + 1, kinds)?;
     if lit % 2 == 1 || lit < 2 {
         return Err(Fault::Text {
-            kind: Refusal::Layout(NotDefining),
+            kind: ReadFault::Layout(NotDefining),
             left: text.len(),
         });
     }
@@ -63,7 +63,7 @@ fn defining(text: &[u8], max_var: u32, end: u8) -> Result<(Lit, &[u8]), Fault<Re
 
 /// A latch's next literal, the byte that ends it, and what follows that.
 #[tactic(auto, unfolding(crate::specs::Lines::next_at))]
-pub fn next<L: Copy>(text: &[u8], max_var: u32) -> Result<(Lit, u8, &[u8]), Fault<Refusal<L>>>
+pub fn next<L: Copy>(text: &[u8], max_var: u32) -> Result<(Lit, u8, &[u8]), Fault<ReadFault<L>>>
     requires { max_var ≤ GREATEST }
     ensures { Gives (λ x. ((x.0, x.1), x.2.now)) result (next_at max_var text.now) }
 {
@@ -71,21 +71,21 @@ pub fn next<L: Copy>(text: &[u8], max_var: u32) -> Result<(Lit, u8, &[u8]), Faul
         text,
         2 * max_var + 1,
         (b' ', b'\n'),
-        Refusal::<L>::IN_LITERAL,
+        ReadFault::<L>::IN_LITERAL,
     )?;
     Ok((Lit(lit), end, rest))
 }
 
 /// The reset of the latch with this literal, and what follows its line.
 #[tactic(auto, unfolding(crate::specs::Lines::reset_at, scan::specs::Words::field_at))]
-pub fn reset<L: Copy>(text: &[u8], lit: Lit) -> Result<(Lit, &[u8]), Fault<Refusal<L>>>
+pub fn reset<L: Copy>(text: &[u8], lit: Lit) -> Result<(Lit, &[u8]), Fault<ReadFault<L>>>
     ensures { Gives (λ x. (x.0, x.1.now)) result (reset_at lit text.now) }
 {
-    let kinds = Refusal::<L>::IN_RESET;
+    let kinds = ReadFault::<L>::IN_RESET;
     let (reset, rest) = number(text, u32::MAX, kinds)?;
     if reset > 1 && reset != lit.0 {
         return Err(Fault::Text {
-            kind: Refusal::Reset,
+            kind: ReadFault::Reset,
             left: text.len(),
         });
     }
@@ -101,7 +101,7 @@ impl LineKind for InputLine {
 
     type Context = u32;
 
-    type Refusal = Refusal<NotDefining>;
+    type Fault = ReadFault<NotDefining>;
 
     ghost allows = { λ max_var. max_var ≤ greatest };
 
@@ -111,7 +111,7 @@ impl LineKind for InputLine {
         _alloc: Global,
         text: &[u8],
         max_var: u32,
-    ) -> Result<(Lit, &[u8]), Fault<Refusal<NotDefining>>> {
+    ) -> Result<(Lit, &[u8]), Fault<ReadFault<NotDefining>>> {
         defining(text, max_var, b'\n')
     }
 }
@@ -132,7 +132,7 @@ impl<K: Copy> LineKind for UseLine<K> {
 
     type Context = UseLine<K>;
 
-    type Refusal = K;
+    type Fault = K;
 
     ghost allows = { λ line. line.max_var ≤ greatest };
 
@@ -151,7 +151,7 @@ impl LineKind for LatchLine {
 
     type Context = u32;
 
-    type Refusal = Refusal<NotDefining>;
+    type Fault = ReadFault<NotDefining>;
 
     ghost allows = { λ max_var. max_var ≤ greatest };
 
@@ -162,7 +162,7 @@ impl LineKind for LatchLine {
         _alloc: Global,
         text: &[u8],
         max_var: u32,
-    ) -> Result<(Latch, &[u8]), Fault<Refusal<NotDefining>>> {
+    ) -> Result<(Latch, &[u8]), Fault<ReadFault<NotDefining>>> {
         let (lit, rest) = defining(text, max_var, b' ')?;
         let (next, end, rest) = next::<NotDefining>(rest, max_var)?;
         if end == b'\n' {
@@ -182,7 +182,7 @@ impl LineKind for GateLine {
 
     type Context = u32;
 
-    type Refusal = Refusal<NotDefining>;
+    type Fault = ReadFault<NotDefining>;
 
     ghost allows = { λ max_var. max_var ≤ greatest };
 
@@ -193,9 +193,9 @@ impl LineKind for GateLine {
         _alloc: Global,
         text: &[u8],
         max_var: u32,
-    ) -> Result<(Gate, &[u8]), Fault<Refusal<NotDefining>>> {
+    ) -> Result<(Gate, &[u8]), Fault<ReadFault<NotDefining>>> {
         let (lhs, rest) = defining(text, max_var, b' ')?;
-        let kinds = Refusal::<NotDefining>::IN_LITERAL;
+        let kinds = ReadFault::<NotDefining>::IN_LITERAL;
         let (rhs0, rest) = literal(rest, max_var, b' ', kinds)?;
         let (rhs1, rest) = literal(rest, max_var, b'\n', kinds)?;
         Ok((Gate { lhs, rhs0, rhs1 }, rest))

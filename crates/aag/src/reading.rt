@@ -12,7 +12,7 @@ ghost use Rattle.aag.specs.Ascii.{SpellsAscii, IsRead, file_of};
 use crate::circuit::circuit;
 use crate::comments::comment;
 use crate::lines::NotDefining;
-use crate::refusal::{Refusal, told};
+use crate::read_fault::{ReadFault, told};
 use crate::symbol::symbols;
 use base::Seq;
 use graph::{AigerFile, LONGEST_TEXT, Model, Parts, ReadError, Symbols};
@@ -26,7 +26,7 @@ fn tail<L: Copy>(
     alloc: Global,
     parts: &Parts,
     text: &[u8],
-) -> Result<(Symbols, Option<Seq<u8>>), Fault<Refusal<L>>>
+) -> Result<(Symbols, Option<Seq<u8>>), Fault<ReadFault<L>>>
     ensures value { GivesOnly (λ f. AreSymbols (symbol_counts f.model) f.symbols) (λ x. file_of parts.now x.0.symbols x.1) result (file_at parts.now text.now) }
     ensures counts { IfOk result (λ x. x.0.counts ≡ symbol_counts parts.now) }
 {
@@ -41,7 +41,7 @@ pub fn with_tail<L: Copy>(
     alloc: Global,
     parts: Parts,
     text: &[u8],
-) -> Result<(Parts, Symbols, Option<Seq<u8>>), Fault<Refusal<L>>>
+) -> Result<(Parts, Symbols, Option<Seq<u8>>), Fault<ReadFault<L>>>
     ensures value { GivesOnly (λ f. AreSymbols (symbol_counts f.model) f.symbols) (λ x. file_of x.0 x.1.symbols x.2) result (file_at parts text.now) }
     ensures counts { IfOk result (λ x. x.1.counts ≡ symbol_counts x.0) }
 {
@@ -54,7 +54,7 @@ pub fn with_tail<L: Copy>(
 fn parse(
     alloc: Global,
     text: &[u8],
-) -> Result<(Parts, Symbols, Option<Seq<u8>>), Fault<Refusal<NotDefining>>>
+) -> Result<(Parts, Symbols, Option<Seq<u8>>), Fault<ReadFault<NotDefining>>>
     ensures value { GivesOnly (λ f. AreSymbols (symbol_counts f.model) f.symbols) (λ x. file_of x.0 x.1.symbols x.2) result (text_at text.now) }
     ensures counts { IfOk result (λ x. x.1.counts ≡ symbol_counts x.0) }
 {

@@ -8,7 +8,7 @@ ghost use Rattle.aag.specs.Whole.{Refuses, GivesOnly, Adds};
 
 use crate::comments::ends_symbols;
 use crate::name::name;
-use crate::refusal::Refusal;
+use crate::read_fault::ReadFault;
 use base::Seq;
 use graph::{Parts, Symbol, SymbolKind, Symbols};
 use scan::{Fault, byte, number};
@@ -32,30 +32,30 @@ fn kind_of(letter: u8) -> Option<SymbolKind>
 
 /// The kind that the next letter stands for, and what follows the letter.
 #[tactic(auto, unfolding(crate::specs::Symbols::kind_at))]
-fn kind<L>(text: &[u8]) -> Result<(SymbolKind, &[u8]), Fault<Refusal<L>>>
+fn kind<L>(text: &[u8]) -> Result<(SymbolKind, &[u8]), Fault<ReadFault<L>>>
     ensures { Gives (λ x. (x.0, x.1.now)) result (kind_at text.now) }
 {
     let [letter, rest @ ..] = text else {
         return Err(Fault::Text {
-            kind: Refusal::Truncated,
+            kind: ReadFault::Truncated,
             left: 0,
         });
     };
     match kind_of(*letter) {
         Some(kind) => Ok((kind, rest)),
         None => Err(Fault::Text {
-            kind: Refusal::Symbol,
+            kind: ReadFault::Symbol,
             left: text.len(),
         }),
     }
 }
 
 /// The name behind a symbol's position, and what follows its line.
-fn label<L: Copy>(alloc: Global, text: &[u8]) -> Result<(Seq<u8>, &[u8]), Fault<Refusal<L>>>
+fn label<L: Copy>(alloc: Global, text: &[u8]) -> Result<(Seq<u8>, &[u8]), Fault<ReadFault<L>>>
     ensures value { Gives (λ x. (x.0, x.1.now)) result (label_at text.now) }
     ensures named { IfOk result (λ x. IsName x.0) }
 {
-    let rest = byte(text, b' ', Refusal::<L>::IN_SYMBOL)?;
+    let rest = byte(text, b' ', ReadFault::<L>::IN_SYMBOL)?;
     name(alloc, rest)
 }
 
@@ -65,15 +65,15 @@ fn add_symbol<'a, L: Copy>(
     alloc: Global,
     symbols: &mut Symbols,
     text: &'a [u8],
-) -> Result<&'a [u8], Fault<Refusal<L>>>
+) -> Result<&'a [u8], Fault<ReadFault<L>>>
     ensures added { IfOk result (λ rest. Adds symbols.old symbols.new (symbol_at text.now) rest.now) }
     ensures refused { IfErr result (λ e. Refuses (λ s. IsFree symbols.old.counts symbols.old.symbols s.0) e (symbol_at text.now)) }
 {
     let (kind, digits) = kind::<L>(text)?;
-    let (position, behind) = number(digits, u32::MAX, Refusal::<L>::IN_SYMBOL)?;
+    let (position, behind) = number(digits, u32::MAX, ReadFault::<L>::IN_SYMBOL)?;
     if !symbols.is_free(kind, position) {
         return Err(Fault::Text {
-            kind: Refusal::Symbol,
+            kind: ReadFault::Symbol,
             left: digits.len(),
         });
     }
@@ -96,7 +96,7 @@ pub fn symbols<'a, L: Copy>(
     alloc: Global,
     parts: &Parts,
     text: &'a [u8],
-) -> Result<(Symbols, &'a [u8]), Fault<Refusal<L>>>
+) -> Result<(Symbols, &'a [u8]), Fault<ReadFault<L>>>
     ensures value { GivesOnly (λ x. AreSymbols (symbol_counts parts.now) x.0) (λ x. (x.0.symbols, x.1.now)) result (symbols_at text.now) }
     ensures counts { IfOk result (λ x. x.0.counts ≡ symbol_counts parts.now) }
 {
@@ -109,7 +109,7 @@ pub fn symbols<'a, L: Copy>(
         rest = add_symbol::<L>(alloc, &mut symbols, rest)?;
     }
     Err(Fault::Text {
-        kind: Refusal::Truncated,
+        kind: ReadFault::Truncated,
         left: 0,
     })
 }

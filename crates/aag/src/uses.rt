@@ -7,7 +7,7 @@ ghost use Rattle.aag.specs.Sections.{uses_at};
 use crate::header::Header;
 use crate::justice::justice;
 use crate::lines::{GREATEST, UseLine};
-use crate::refusal::Refusal;
+use crate::read_fault::ReadFault;
 use base::Seq;
 use graph::{Gate, Latch, Lit, Parts};
 use scan::{Fault, lines};
@@ -62,19 +62,19 @@ pub fn read_uses<L: Copy>(
     alloc: Global,
     header: Header,
     text: &[u8],
-) -> Result<(Uses, &[u8]), Fault<Refusal<L>>>
+) -> Result<(Uses, &[u8]), Fault<ReadFault<L>>>
     requires { header.max_var ≤ GREATEST }
     ensures { Gives (λ x. (x.0, x.1.now)) result (uses_at header text.now) }
 {
     let line = UseLine {
         max_var: header.max_var,
-        kinds: Refusal::<L>::IN_LITERAL,
+        kinds: ReadFault::<L>::IN_LITERAL,
     };
-    let (outputs, rest) = lines::<UseLine<Refusal<L>>>(alloc, header.outputs, text, line)?;
-    let (bad, rest) = lines::<UseLine<Refusal<L>>>(alloc, header.bad, rest, line)?;
-    let (constraints, rest) = lines::<UseLine<Refusal<L>>>(alloc, header.constraints, rest, line)?;
+    let (outputs, rest) = lines::<UseLine<ReadFault<L>>>(alloc, header.outputs, text, line)?;
+    let (bad, rest) = lines::<UseLine<ReadFault<L>>>(alloc, header.bad, rest, line)?;
+    let (constraints, rest) = lines::<UseLine<ReadFault<L>>>(alloc, header.constraints, rest, line)?;
     let (justice, rest) = justice(alloc, line, header.justice, rest)?;
-    let (fairness, rest) = lines::<UseLine<Refusal<L>>>(alloc, header.fairness, rest, line)?;
+    let (fairness, rest) = lines::<UseLine<ReadFault<L>>>(alloc, header.fairness, rest, line)?;
     let uses = Uses {
         outputs: Seq::from_vec(outputs),
         bad: Seq::from_vec(bad),

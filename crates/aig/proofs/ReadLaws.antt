@@ -17,8 +17,8 @@ use Rattle.graph.specs.WellFormed.{IsWellFormed}
 use Rattle.aag.specs.Ascii.{file_of}
 use Rattle.aag.specs.Whole.{Refuses}
 use Rattle.aag.proofs.ReadLaws.{memory_or_cause}
-use Rattle.aag.specs.declared.refusal.Refusal.{Refusal}
-use Rattle.aag.specs.declared.refusal.Refusal.TheVariants.{Header, Number, Limit, Byte, Truncated, LiteralRange, Reset, Counts, Symbol as SymbolFault, Layout}
+use Rattle.aag.specs.declared.read_fault.ReadFault.{ReadFault}
+use Rattle.aag.specs.declared.read_fault.ReadFault.TheVariants.{Header, Number, Limit, Byte, Truncated, LiteralRange, Reset, Counts, Symbol as SymbolFault, Layout}
 use Rattle.aag.specs.Refusals.{at_byte, error_of}
 use Rattle.aig.specs.declared.delta.NoDelta.{NoDelta}
 use Rattle.aig.specs.Whole.{text_at}
@@ -41,12 +41,12 @@ is_only text f g m parts xs o whole same read spells =
 
 -- ---- a fault of the text
 
-pub only_memory : {L : Type 0} → (own : L → ℕ → ReadError) (length : ℕ) (text : List ℕ) (fault : Fault (Refusal L)) → Refuses (λ f. AreSymbols (symbol_counts f.model) f.symbols) fault (text_at text)
+pub only_memory : {L : Type 0} → (own : L → ℕ → ReadError) (length : ℕ) (text : List ℕ) (fault : Fault (ReadFault L)) → Refuses (λ f. AreSymbols (symbol_counts f.model) f.symbols) fault (text_at text)
     → (f : File) → SpellsBinary text f → error_of own length fault ≡ OutOfMemory witness
 only_memory own length text (Memory refused) refuses f spells = refl
 only_memory own length text (Text kind left) refuses f spells = absurd (refuses f (text_again text f spells) spells.are_symbols)
 
-byte_number : (kind : Refusal NoDelta) (p : ℕ) → Contains refusal_numbers (number_of (at_byte (λ _ place. Delta place) kind p))
+byte_number : (kind : ReadFault NoDelta) (p : ℕ) → Contains refusal_numbers (number_of (at_byte (λ _ place. Delta place) kind p))
 byte_number Header p = (1, omega arith, refl)
 byte_number Number p = (2, omega arith, refl)
 byte_number Limit p = (3, omega arith, refl)
@@ -58,7 +58,7 @@ byte_number (Layout own) p = (8, omega arith, refl)
 byte_number SymbolFault p = (9, omega arith, refl)
 byte_number Counts p = (10, omega arith, refl)
 
-pub fault_number : (length : ℕ) (fault : Fault (Refusal NoDelta)) → Contains refusal_numbers (number_of (error_of (λ _ place. Delta place) length fault))
+pub fault_number : (length : ℕ) (fault : Fault (ReadFault NoDelta)) → Contains refusal_numbers (number_of (error_of (λ _ place. Delta place) length fault))
 fault_number length (Memory refused) = (11, omega arith, refl)
 fault_number length (Text kind left) = byte_number kind (length - left)
 

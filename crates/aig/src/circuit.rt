@@ -7,7 +7,7 @@ ghost use Rattle.aig.specs.Sections.{lists_at, circuit_at};
 use crate::delta::NoDelta;
 use crate::lines::{GateDeltas, Input, LatchLine};
 use crate::numbered::numbered;
-use aag::{Header, Refusal, read_header, read_uses};
+use aag::{Header, ReadFault, read_header, read_uses};
 use graph::Parts;
 use scan::Fault;
 use std::alloc::Global;
@@ -19,7 +19,7 @@ fn lists(
     alloc: Global,
     header: Header,
     text: &[u8],
-) -> Result<(Parts, &[u8]), Fault<Refusal<NoDelta>>>
+) -> Result<(Parts, &[u8]), Fault<ReadFault<NoDelta>>>
     requires most { header.max_var ≤ 4194303 }
     requires defined { header.inputs + header.latches + header.gates ≡ header.max_var }
     ensures { Gives (λ x. (x.0, x.1.now)) result (lists_at header text.now) }
@@ -37,14 +37,14 @@ fn lists(
 
 /// The circuit that the text begins with, and what follows the last gate.
 #[tactic(auto, unfolding(crate::specs::Sections::circuit_at))]
-pub fn circuit(alloc: Global, text: &[u8]) -> Result<(Parts, &[u8]), Fault<Refusal<NoDelta>>>
+pub fn circuit(alloc: Global, text: &[u8]) -> Result<(Parts, &[u8]), Fault<ReadFault<NoDelta>>>
     ensures { Gives (λ x. (x.0, x.1.now)) result (circuit_at text.now) }
 {
     let (header, rest) = read_header::<NoDelta>(text, b"aig ")?;
     let defined = u64::from(header.inputs) + u64::from(header.latches) + u64::from(header.gates);
     if defined != u64::from(header.max_var) {
         return Err(Fault::Text {
-            kind: Refusal::Counts,
+            kind: ReadFault::Counts,
             left: rest.len() + 1,
         });
     }

@@ -5,7 +5,7 @@ ghost use Rattle.scan.specs.Reading.{Gives};
 ghost use Rattle.graph.specs.declared.error.ReadError.TheVariants.{Delta};
 ghost use Rattle.aig.specs.Lines.{groups_at, delta_at};
 
-use aag::{LayoutRefusal, Refusal};
+use aag::{LayoutFault, ReadFault};
 use graph::ReadError;
 use scan::Fault;
 
@@ -13,7 +13,7 @@ use scan::Fault;
 #[derive(Clone, Copy, PartialEq, Eq)]
 pub struct NoDelta;
 
-impl LayoutRefusal for NoDelta {
+impl LayoutFault for NoDelta {
     ghost at_byte = { λ _. Delta };
 
     fn at(self, place: u64) -> ReadError {
@@ -31,18 +31,18 @@ fn group(byte: u8) -> u32
 /// The number that comes next, in at most four groups of seven bits, and what follows it.
 #[tactic(auto, unfolding(crate::specs::Lines::groups_at))]
 #[inline(always)]
-fn groups(text: &[u8]) -> Result<(u32, &[u8]), Fault<Refusal<NoDelta>>>
+fn groups(text: &[u8]) -> Result<(u32, &[u8]), Fault<ReadFault<NoDelta>>>
     ensures { Gives (λ x. (x.0, x.1.now)) result (groups_at 4 text.now) }
 {
     match text {
         [a, rest @ ..] if *a < 128 => Ok((u32::from(*a), rest)),
         [_, 0, ..] => Err(Fault::Text {
-            kind: Refusal::Layout(NoDelta),
+            kind: ReadFault::Layout(NoDelta),
             left: text.len(),
         }),
         [a, b, rest @ ..] if *b < 128 => Ok((group(*a) + 128 * u32::from(*b), rest)),
         [_, _, 0, ..] => Err(Fault::Text {
-            kind: Refusal::Layout(NoDelta),
+            kind: ReadFault::Layout(NoDelta),
             left: text.len(),
         }),
         [a, b, c, rest @ ..] if *c < 128 => Ok((
@@ -54,11 +54,11 @@ fn groups(text: &[u8]) -> Result<(u32, &[u8]), Fault<Refusal<NoDelta>>>
             rest,
         )),
         [_, _, _, _, ..] => Err(Fault::Text {
-            kind: Refusal::Layout(NoDelta),
+            kind: ReadFault::Layout(NoDelta),
             left: text.len(),
         }),
         _ => Err(Fault::Text {
-            kind: Refusal::Truncated,
+            kind: ReadFault::Truncated,
             left: 0,
         }),
     }
@@ -67,14 +67,14 @@ fn groups(text: &[u8]) -> Result<(u32, &[u8]), Fault<Refusal<NoDelta>>>
 /// The difference that comes next, from `least` to `most`, and what follows it.
 #[tactic(auto, unfolding(crate::specs::Lines::delta_at))]
 #[inline(always)]
-pub fn delta(text: &[u8], least: u32, most: u32) -> Result<(u32, &[u8]), Fault<Refusal<NoDelta>>>
+pub fn delta(text: &[u8], least: u32, most: u32) -> Result<(u32, &[u8]), Fault<ReadFault<NoDelta>>>
     ensures value { Gives (λ x. (x.0, x.1.now)) result (delta_at least most text.now) }
     ensures within { IfOk result (λ x. x.0 ≤ most) }
 {
     let (number, rest) = groups(text)?;
     if number < least || most < number {
         return Err(Fault::Text {
-            kind: Refusal::Layout(NoDelta),
+            kind: ReadFault::Layout(NoDelta),
             left: text.len(),
         });
     }

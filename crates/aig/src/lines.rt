@@ -4,7 +4,7 @@ ghost use Rattle.aig.specs.Lines.{input_at, latch_at, gate_at};
 
 use crate::delta::{NoDelta, delta};
 use crate::numbered::DefinitionKind;
-use aag::{Refusal, next, reset};
+use aag::{ReadFault, next, reset};
 use graph::{Gate, Latch, Lit};
 use scan::Fault;
 
@@ -16,7 +16,7 @@ impl DefinitionKind for Input {
 
     ghost at = { λ _. input_at };
 
-    fn item(text: &[u8], _max_var: u32, own: Lit) -> Result<(Lit, &[u8]), Fault<Refusal<NoDelta>>> {
+    fn item(text: &[u8], _max_var: u32, own: Lit) -> Result<(Lit, &[u8]), Fault<ReadFault<NoDelta>>> {
         Ok((own, text))
     }
 }
@@ -34,7 +34,7 @@ impl DefinitionKind for LatchLine {
         text: &[u8],
         max_var: u32,
         own: Lit,
-    ) -> Result<(Latch, &[u8]), Fault<Refusal<NoDelta>>> {
+    ) -> Result<(Latch, &[u8]), Fault<ReadFault<NoDelta>>> {
         let (next, end, rest) = next::<NoDelta>(text, max_var)?;
         if end == b'\n' {
             let reset = Lit(0);
@@ -72,7 +72,7 @@ impl DefinitionKind for GateDeltas {
         text: &[u8],
         _max_var: u32,
         own: Lit,
-    ) -> Result<(Gate, &[u8]), Fault<Refusal<NoDelta>>> {
+    ) -> Result<(Gate, &[u8]), Fault<ReadFault<NoDelta>>> {
         let (first, rest) = delta(text, 1, own.0)?;
         let rhs0 = own.0 - first;
         let (second, rest) = delta(rest, 0, rhs0)?;

@@ -7,7 +7,7 @@ ghost use Rattle.scan.specs.Reading.{Gives};
 ghost use Rattle.aig.specs.Lines.{numbered_at};
 
 use crate::delta::NoDelta;
-use aag::Refusal;
+use aag::ReadFault;
 use base::push;
 use graph::Lit;
 use scan::Fault;
@@ -29,7 +29,7 @@ pub trait DefinitionKind {
         text: &[u8],
         max_var: u32,
         own: Lit,
-    ) -> Result<(Self::Item, &[u8]), Fault<Refusal<NoDelta>>>
+    ) -> Result<(Self::Item, &[u8]), Fault<ReadFault<NoDelta>>>
         requires { max_var ≤ 4194303 }
         ensures { Gives (λ x. (x.0, x.1.now)) result (at max_var own text.now) };
 }
@@ -42,7 +42,7 @@ pub fn numbered<D: DefinitionKind>(
     first: u32,
     count: u32,
     text: &[u8],
-) -> Result<(Vec<D::Item>, &[u8]), Fault<Refusal<NoDelta>>>
+) -> Result<(Vec<D::Item>, &[u8]), Fault<ReadFault<NoDelta>>>
     requires item { IsItemSize (type_size D.Item.row) }
     requires most { max_var ≤ 4194303 }
     requires room { first + count ≤ max_var + 1 }

@@ -13,7 +13,7 @@ ghost use Rattle.aig.specs.Whole.{text_at};
 
 use crate::circuit::circuit;
 use crate::delta::NoDelta;
-use aag::{Refusal, told, with_tail};
+use aag::{ReadFault, told, with_tail};
 use base::Seq;
 use graph::{AigerFile, LONGEST_TEXT, Model, Parts, ReadError, Symbols};
 use scan::Fault;
@@ -24,7 +24,7 @@ use std::alloc::Global;
 fn parse(
     alloc: Global,
     text: &[u8],
-) -> Result<(Parts, Symbols, Option<Seq<u8>>), Fault<Refusal<NoDelta>>>
+) -> Result<(Parts, Symbols, Option<Seq<u8>>), Fault<ReadFault<NoDelta>>>
     ensures value { GivesOnly (λ f. AreSymbols (symbol_counts f.model) f.symbols) (λ x. file_of x.0 x.1.symbols x.2) result (text_at text.now) }
     ensures counts { IfOk result (λ x. x.1.counts ≡ symbol_counts x.0) }
 {

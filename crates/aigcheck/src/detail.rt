@@ -1,11 +1,11 @@
 //! What standard error says beside the line of an answer or a fault.
 
 use crate::judging::Names;
-use crate::no_answer::{NoAnswer, Role, given};
+use crate::exit_error::{ExitError, Role, given};
 use checker::RunError;
 use explanations::{Printable, is_at_byte, meaning, other_format, position_behind};
 use graph::{AigerFile, Property, ReadError};
-use property_names::{Called, Listing, Unnamed, symbol_of};
+use property_names::{Called, Listing, NameError, symbol_of};
 use std::io::Write;
 use std::{fs, io};
 
@@ -27,7 +27,7 @@ pub fn number_of(line: &[u8]) -> Option<u8> {
 
 /// Puts the line of an answer. Where it is a no, standard error says what its number means of the file of this name,
 /// if that is asked for.
-pub fn put_line(rt: &HostRuntime, line: &[u8], name: &str, verbose: bool) -> Result<(), NoAnswer> {
+pub fn put_line(rt: &HostRuntime, line: &[u8], name: &str, verbose: bool) -> Result<(), ExitError> {
     given(io::writer(rt).write_all(line))?;
     if verbose {
         tell_meaning(rt, line, name);
@@ -74,7 +74,7 @@ fn tell_place(rt: &HostRuntime, text: &[u8], place: u64) {
 }
 
 /// Says why a name is of no property, and which names there are.
-pub fn tell_unnamed(rt: &HostRuntime, circuit: &str, file: &AigerFile, word: &str, why: Unnamed) {
+pub fn tell_unnamed(rt: &HostRuntime, circuit: &str, file: &AigerFile, word: &str, why: NameError) {
     let called = Printable(word.as_bytes());
     let _ = eprintln!(rt; "  {circuit}: {why} {called}{}", Listing(file));
 }
@@ -95,20 +95,20 @@ fn is_folder(rt: &HostRuntime, name: &str) -> bool {
 }
 
 /// Says which file a fault is about, and why, where that is known.
-pub fn tell_file(rt: &HostRuntime, names: Names<'_>, why: NoAnswer) {
+pub fn tell_file(rt: &HostRuntime, names: Names<'_>, why: ExitError) {
     let _ = match why {
-        NoAnswer::At {
+        ExitError::At {
             role: Role::Circuit,
             word,
         } => eprintln!(rt; "  {}: {word}", names.circuit),
-        NoAnswer::At {
+        ExitError::At {
             role: Role::Evidence,
             word,
         } => eprintln!(rt; "  {}: {word}", names.evidence),
-        NoAnswer::Call(RunError::Device) if is_folder(rt, names.circuit) => {
+        ExitError::Call(RunError::Device) if is_folder(rt, names.circuit) => {
             eprintln!(rt; "  {}: it is a folder", names.circuit)
         }
-        NoAnswer::Call(RunError::Device) if is_folder(rt, names.evidence) => {
+        ExitError::Call(RunError::Device) if is_folder(rt, names.evidence) => {
             eprintln!(rt; "  {}: it is a folder", names.evidence)
         }
         _ => Ok(()),

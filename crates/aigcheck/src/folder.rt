@@ -5,7 +5,7 @@ ghost use Rattle.std.specs.Prelude.{◌≡◌, None, IfSome, false};
 use crate::counts::{Counts, Shown};
 use crate::detail::{number_of, put_line, tell_circuit, tell_meaning, tell_symbol};
 use crate::judging::{Names, answer_in_memory, judge, text_of};
-use crate::no_answer::{NoAnswer, Role, given, opened};
+use crate::exit_error::{ExitError, Role, given, opened};
 use crate::reporting::{Said, put_shown};
 use crate::status::FAULT;
 use aiger::read;
@@ -31,7 +31,7 @@ struct Folder<'a> {
 }
 
 /// The file of this name, where there is one.
-fn found(rt: &HostRuntime, name: &str) -> Result<Option<File>, NoAnswer> {
+fn found(rt: &HostRuntime, name: &str) -> Result<Option<File>, ExitError> {
     match File::open(rt, name) {
         Err(error) if error.kind() == ErrorKind::NotFound => Ok(None),
         opened => Ok(Some(given(opened)?)),
@@ -57,7 +57,7 @@ impl Folder<'_> {
         property: Property,
         evidence: Evidence,
         file: File,
-    ) -> Result<bool, NoAnswer> {
+    ) -> Result<bool, ExitError> {
         let circuit = &mut FromBytes::new(self.circuit);
         let file = &mut FromRead::new(file);
         let out = &mut ToWrite::new(io::writer(rt));
@@ -72,7 +72,7 @@ impl Folder<'_> {
         evidence: Evidence,
         name: &str,
         file: File,
-    ) -> Result<bool, NoAnswer> {
+    ) -> Result<bool, ExitError> {
         let circuit = &mut FromBytes::new(self.circuit);
         let file = &mut FromRead::new(file);
         let out = &mut ToVec::new(rt.alloc());
@@ -88,10 +88,10 @@ impl Folder<'_> {
         rt: &HostRuntime,
         property: Property,
         evidence: Evidence,
-    ) -> Result<String, NoAnswer> {
+    ) -> Result<String, ExitError> {
         match evidence_name(rt.alloc(), self.names.evidence, property, evidence) {
             Ok(name) => Ok(name),
-            Err(_) => Err(NoAnswer::Memory),
+            Err(_) => Err(ExitError::Memory),
         }
     }
 
@@ -101,7 +101,7 @@ impl Folder<'_> {
         rt: &HostRuntime,
         property: Property,
         evidence: Evidence,
-    ) -> Result<Option<bool>, NoAnswer> {
+    ) -> Result<Option<bool>, ExitError> {
         let name = self.name_of(rt, property, evidence)?;
         let Some(file) = found(rt, name.as_str())? else {
             return Ok(None);
@@ -116,7 +116,7 @@ impl Folder<'_> {
 
     /// What the evidence in the folder shows of a property: the certificate, or else the stimulus. Where it
     /// has neither, the line says so.
-    fn shown(&self, rt: &HostRuntime, property: Property) -> Result<Shown, NoAnswer> {
+    fn shown(&self, rt: &HostRuntime, property: Property) -> Result<Shown, ExitError> {
         let safe = self.answer(rt, property, Evidence::Certificate)?;
         if safe == Some(true) {
             return Ok(Shown::Safe);
@@ -137,7 +137,7 @@ impl Folder<'_> {
         rt: &HostRuntime,
         property: Property,
         evidence: Evidence,
-    ) -> Result<Option<Said>, NoAnswer> {
+    ) -> Result<Option<Said>, ExitError> {
         let name = self.name_of(rt, property, evidence)?;
         let Some(file) = found(rt, name.as_str())? else {
             return Ok(None);
@@ -164,7 +164,7 @@ impl Folder<'_> {
         rt: &HostRuntime,
         file: &AigerFile,
         property: Property,
-    ) -> Result<Shown, NoAnswer> {
+    ) -> Result<Shown, ExitError> {
         let begun = Instant::now(rt).ok();
         let circuit = self.names.circuit;
         let certificate = self.said(rt, property, Evidence::Certificate)?;
@@ -201,7 +201,7 @@ impl Folder<'_> {
         rt: &HostRuntime,
         file: &AigerFile,
         property: Property,
-    ) -> Result<Shown, NoAnswer> {
+    ) -> Result<Shown, ExitError> {
         if self.json {
             self.shown_in_json(rt, file, property)
         } else {
@@ -211,7 +211,7 @@ impl Folder<'_> {
 
     /// How many properties of the circuit the evidence shows safe, and how many violated. The last line says
     /// so, but in JSON.
-    fn count(&self, rt: &HostRuntime, file: &AigerFile) -> Result<Counts, NoAnswer> {
+    fn count(&self, rt: &HostRuntime, file: &AigerFile) -> Result<Counts, ExitError> {
         let mut counts = Counts::NONE;
         for property in all_properties(rt.alloc(), file.model())? {
             counts = counts.with(self.put(rt, file, property)?);
@@ -231,7 +231,7 @@ impl Folder<'_> {
     }
 
     /// Says why the text is no circuit, and answers the status of that.
-    fn refused(&self, rt: &HostRuntime, error: ReadError) -> Result<u8, NoAnswer> {
+    fn refused(&self, rt: &HostRuntime, error: ReadError) -> Result<u8, ExitError> {
         put_no_circuit(rt, error.number(), self.json)?;
         if self.verbose {
             tell_circuit(rt, self.names.circuit, self.circuit, error);
@@ -240,17 +240,17 @@ impl Folder<'_> {
     }
 
     /// The status of what the evidence shows of the properties of the circuit that the text spells.
-    fn status(&self, rt: &HostRuntime) -> Result<u8, NoAnswer> {
+    fn status(&self, rt: &HostRuntime) -> Result<u8, ExitError> {
         match read(rt.alloc(), self.circuit) {
             Ok(file) => Ok(self.count(rt, &file)?.status()),
-            Err(ReadError::OutOfMemory(refused)) => Err(NoAnswer::from(refused)),
+            Err(ReadError::OutOfMemory(refused)) => Err(ExitError::from(refused)),
             Err(error) => self.refused(rt, error),
         }
     }
 }
 
 /// Says that the text is no circuit: the no of its refusal, which in JSON would be of no property.
-fn put_no_circuit(rt: &HostRuntime, number: u8, json: bool) -> Result<(), NoAnswer> {
+fn put_no_circuit(rt: &HostRuntime, number: u8, json: bool) -> Result<(), ExitError> {
     if json {
         let _ = eprintln!(rt; "aigcheck: no {number}");
         return Ok(());
@@ -262,12 +262,12 @@ fn put_no_circuit(rt: &HostRuntime, number: u8, json: bool) -> Result<(), NoAnsw
 /// circuit it puts the no of its refusal, and there is no answer.
 // What it needs of the stack is not added to that of the other commands.
 #[inline(never)]
-pub fn all(rt: &HostRuntime, names: Names<'_>, verbose: bool, json: bool) -> Result<u8, NoAnswer> {
+pub fn all(rt: &HostRuntime, names: Names<'_>, verbose: bool, json: bool) -> Result<u8, ExitError> {
     let found = opened(Role::Evidence, fs::metadata(rt, names.evidence))?;
     if !found.is_dir() {
         let word = "it is no folder";
         let role = Role::Evidence;
-        return Err(NoAnswer::At { role, word });
+        return Err(ExitError::At { role, word });
     }
     let text = text_of(rt, opened(Role::Circuit, open(rt, names.circuit))?)?;
     let evidence = Folder {

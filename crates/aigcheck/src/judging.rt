@@ -9,7 +9,7 @@ ghost use Rattle.property_names.specs.Symbols.{IsAskedFor};
 ghost use Rattle.aigcheck.specs.Judged.{IsAccepted, IsNo, question_of};
 
 use crate::detail::{put_line, tell_circuit, tell_unnamed};
-use crate::no_answer::{NoAnswer, Role, opened};
+use crate::exit_error::{ExitError, Role, opened};
 use base::{FromBytes, FromRead, ReadToEndError, Sink, Source, ToVec, ToWrite, read_to_end};
 use checker::{
     RunError, run_of_readers, run_safe, run_safe_for, run_stimulus, run_stimulus_for,
@@ -51,11 +51,11 @@ pub struct Question<'a> {
 /// The bytes of a circuit's file.
 // Its buffer is off the stack before anything is judged.
 #[inline(never)]
-pub fn text_of(rt: &HostRuntime, file: Input) -> Result<Vec<u8>, NoAnswer> {
+pub fn text_of(rt: &HostRuntime, file: Input) -> Result<Vec<u8>, ExitError> {
     match read_to_end(rt.alloc(), &mut FromRead::new(file.take(MOST))) {
         Ok(text) => Ok(text),
-        Err(ReadToEndError::OutOfMemory(refused)) => Err(NoAnswer::from(refused)),
-        Err(ReadToEndError::Device) => Err(NoAnswer::Call(RunError::Device)),
+        Err(ReadToEndError::OutOfMemory(refused)) => Err(ExitError::from(refused)),
+        Err(ReadToEndError::Device) => Err(ExitError::Call(RunError::Device)),
     }
 }
 
@@ -91,18 +91,18 @@ pub fn judge<M: Source, C: Source, W: Sink>(
 }
 
 /// The answer of a judge that puts its line into memory: where that fails, there is none left.
-pub fn answer_in_memory(answer: Result<bool, RunError>, out: &ToVec) -> Result<bool, NoAnswer>
+pub fn answer_in_memory(answer: Result<bool, RunError>, out: &ToVec) -> Result<bool, ExitError>
     ensures { IfOk result (λ yes. answer ≡ Ok yes) }
 {
     match answer {
-        Err(RunError::Device) if out.failures() > 0 => Err(NoAnswer::Memory),
+        Err(RunError::Device) if out.failures() > 0 => Err(ExitError::Memory),
         answer => Ok(answer?),
     }
 }
 
 impl Question<'_> {
     /// Whether the evidence is accepted: both files are opened first.
-    pub fn answer(self, rt: &HostRuntime) -> Result<bool, NoAnswer> {
+    pub fn answer(self, rt: &HostRuntime) -> Result<bool, ExitError> {
         let circuit = opened(Role::Circuit, open(rt, self.names.circuit))?;
         let file = opened(Role::Evidence, open(rt, self.names.evidence))?;
         let property = match self.asked {
@@ -122,7 +122,7 @@ impl Question<'_> {
     }
 
     /// The same, once the circuit was read for its symbol table, or for the place of its fault.
-    fn of_text(self, rt: &HostRuntime, circuit: Input, file: Input) -> Result<bool, NoAnswer> {
+    fn of_text(self, rt: &HostRuntime, circuit: Input, file: Input) -> Result<bool, ExitError> {
         let text = text_of(rt, circuit)?;
         let (property, fault) = self.in_text(rt, text.as_slice())?;
         let yes = self.judged(rt, property, text.as_slice(), file, fault.is_none())?;
@@ -139,10 +139,10 @@ impl Question<'_> {
         self,
         rt: &HostRuntime,
         text: &[u8],
-    ) -> Result<(Option<Property>, Option<ReadError>), NoAnswer> {
+    ) -> Result<(Option<Property>, Option<ReadError>), ExitError> {
         match aiger::read(rt.alloc(), text) {
             Ok(circuit) => Ok((self.property_in(rt, &circuit)?, None)),
-            Err(ReadError::OutOfMemory(refused)) => Err(NoAnswer::from(refused)),
+            Err(ReadError::OutOfMemory(refused)) => Err(ExitError::from(refused)),
             Err(error) => Ok((None, Some(error))),
         }
     }
@@ -156,7 +156,7 @@ impl Question<'_> {
         text: &[u8],
         file: Input,
         is_circuit: bool,
-    ) -> Result<bool, NoAnswer> {
+    ) -> Result<bool, ExitError> {
         let circuit = &mut FromBytes::new(text);
         let file = &mut FromRead::new(file);
         let out = &mut ToVec::new(rt.alloc());
@@ -172,7 +172,7 @@ impl Question<'_> {
         self,
         rt: &HostRuntime,
         circuit: &AigerFile,
-    ) -> Result<Option<Property>, NoAnswer>
+    ) -> Result<Option<Property>, ExitError>
         ensures asked { IfSome self.entry.asked (λ asked. IfOk result (λ wanted. IsSome wanted × IfSome wanted (IsAskedFor circuit.now.symbols asked))) }
         ensures none { self.entry.asked ≡ None → result ≡ Ok None }
     {
@@ -186,7 +186,7 @@ impl Question<'_> {
                     if self.verbose {
                         tell_unnamed(rt, self.names.circuit, circuit, word, why);
                     }
-                    Err(NoAnswer::Told)
+                    Err(ExitError::Told)
                 }
             },
         }

@@ -34,7 +34,7 @@ mod counts;
 mod detail;
 mod folder;
 mod judging;
-mod no_answer;
+mod exit_error;
 mod reporting;
 mod status;
 mod words;
@@ -47,7 +47,7 @@ use explanations::explained;
 use folder::all;
 use inputs::is_standard;
 use judging::{Names, Question};
-use no_answer::{NoAnswer, fault, given};
+use exit_error::{ExitError, fault, given};
 use properties::Evidence;
 use property_names::{Asked, asked_by};
 use status::{FAULT, YES, status_of};
@@ -56,11 +56,11 @@ use std::process::ExitCode;
 use words::command;
 
 /// The property that is asked about alone, where the words name one.
-fn asked<'a>(words: &ArgMatches<'a>) -> Result<Option<Asked<'a>>, NoAnswer> {
+fn asked<'a>(words: &ArgMatches<'a>) -> Result<Option<Asked<'a>>, ExitError> {
     match words.get_str("property") {
         Some(word) => match asked_by(word) {
             Some(asked) => Ok(Some(asked)),
-            None => Err(NoAnswer::BadArgument),
+            None => Err(ExitError::BadArgument),
         },
         None => Ok(None),
     }
@@ -72,7 +72,7 @@ fn judged(
     words: &ArgMatches<'_>,
     evidence: Evidence,
     names: Names<'_>,
-) -> Result<u8, NoAnswer> {
+) -> Result<u8, ExitError> {
     let question = Question {
         names,
         evidence,
@@ -80,16 +80,16 @@ fn judged(
         verbose: words.get_flag("verbose"),
     };
     if is_standard(names.circuit) && is_standard(names.evidence) {
-        return Err(NoAnswer::BadArgument);
+        return Err(ExitError::BadArgument);
     }
     Ok(status_of(question.answer(rt)?))
 }
 
 /// Says what the number means.
-fn explain(rt: &HostRuntime, words: &ArgMatches<'_>) -> Result<u8, NoAnswer> {
+fn explain(rt: &HostRuntime, words: &ArgMatches<'_>) -> Result<u8, ExitError> {
     let number = words.get_one::<u8>("NUMBER").unwrap_or(0);
     let Some(row) = explained(number) else {
-        return Err(NoAnswer::BadArgument);
+        return Err(ExitError::BadArgument);
     };
     given(println!(rt; "{number}: {}", row.meaning))?;
     given(println!(rt; "{}", row.remedy))?;
@@ -110,13 +110,13 @@ fn done(
     command: &str,
     words: &ArgMatches<'_>,
     names: Names<'_>,
-) -> Result<u8, NoAnswer> {
+) -> Result<u8, ExitError> {
     match command {
         "safe" => judged(rt, words, Evidence::Certificate, names),
         "run" => judged(rt, words, Evidence::Stimulus, names),
         "all" => all(rt, names, words.get_flag("verbose"), words.get_flag("json")),
         "explain" => explain(rt, words),
-        _ => Err(NoAnswer::BadArgument),
+        _ => Err(ExitError::BadArgument),
     }
 }
 
@@ -150,7 +150,7 @@ fn answer(rt: &HostRuntime, matches: &ArgMatches<'_>) -> ExitCode {
 /// Tells what is wrong with the words, or the help that they ask for.
 fn wrong(rt: &HostRuntime, error: &Error) -> ExitCode {
     if error.kind() == ErrorKind::OutOfMemory {
-        return fault(rt, NoAnswer::Memory);
+        return fault(rt, ExitError::Memory);
     }
     let is_help = error.exit_code() == 0;
     match given(error.print(rt)) {
@@ -172,11 +172,11 @@ fn main(rt: HostRuntime) -> ExitCode {
     let mut words: Vec<String> = Vec::new(alloc);
     for word in args {
         if push(&mut words, word).is_err() {
-            return fault(&rt, NoAnswer::Memory);
+            return fault(&rt, ExitError::Memory);
         }
     }
     let Ok(command) = command(alloc) else {
-        return fault(&rt, NoAnswer::Memory);
+        return fault(&rt, ExitError::Memory);
     };
     match command.try_get_matches_from(words.as_slice()) {
         Ok(matches) => answer(&rt, &matches),

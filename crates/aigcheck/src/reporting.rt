@@ -4,7 +4,7 @@ ghost use Rattle.std.specs.Prelude.{◌≡◌, None, IfSome, IsTrue, false, code
 ghost use Rattle.aigcheck.specs.declared.counts.Shown.TheVariants.{Nothing, Safe, Violated};
 
 use crate::counts::Shown;
-use crate::no_answer::{NoAnswer, given};
+use crate::exit_error::{ExitError, given};
 use graph::{AigerFile, Property};
 use property_names::{Line, symbol_of};
 use std::time::{Duration, Instant};
@@ -67,7 +67,7 @@ pub fn put_shown(
     shown: Shown,
     last: &Option<Said>,
     begun: Option<Instant>,
-) -> Result<(), NoAnswer> {
+) -> Result<(), ExitError> {
     let (evidence, number) = match last {
         Some(said) => (Some(said.name.as_str()), said.number),
         None => (None, None),

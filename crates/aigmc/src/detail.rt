@@ -1,6 +1,6 @@
 //! The second line of a fault: which file it is about, and why.
 
-use aigmc_files::{DEVICE, Has, NO_HEADER, Role, Stop, is_terminal};
+use aigmc_files::{DEVICE, Has, NO_HEADER, Role, ExitError, is_terminal};
 use arguments::{Asked, Request};
 use base::{FromRead, read_to_end};
 use explanations::{is_at_byte, meaning, other_format, position_behind};
@@ -149,18 +149,18 @@ fn tell_file(rt: &HostRuntime, name: &str, number: u8, place: u64, word: &str) {
 }
 
 /// Says which file a fault is about, and why, where that is asked for or standard error is a terminal.
-pub fn tell_detail(rt: &HostRuntime, asked: Asked<'_>, stop: Stop) {
+pub fn tell_detail(rt: &HostRuntime, asked: Asked<'_>, stop: ExitError) {
     let request = asked.request;
     if !asked.verbose && !is_terminal(rt) {
         return;
     }
     match stop {
-        Stop::NoProperty { property, has, .. } => {
+        ExitError::NoProperty { property, has, .. } => {
             if let Some(name) = name_of(request, Role::Circuit) {
                 tell_properties(rt, name, property, has);
             }
         }
-        Stop::At {
+        ExitError::At {
             role,
             number,
             place,
@@ -170,7 +170,7 @@ pub fn tell_detail(rt: &HostRuntime, asked: Asked<'_>, stop: Stop) {
                 tell_file(rt, name, number, place, word);
             }
         }
-        Stop::Taken => {
+        ExitError::Taken => {
             if let Some(name) = name_of(request, Role::Made) {
                 let _ = eprintln!(rt; "  {name}: it is read, or standard output goes to it");
             }

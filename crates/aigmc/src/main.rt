@@ -89,8 +89,8 @@ use aigmc_circuits::{
     Pair, extract, make_fitting, make_shadow, make_witness, make_witness_circuit, trace,
 };
 use aigmc_commands::{begin, certify_clauses, check, check_all, check_miter, cover};
-use aigmc_files::{DONE, FAULT, Stop, circuit, finished, print_table, stimulus_of, tell};
-use arguments::{AskedLayout, Request, Search, Wrong, parse};
+use aigmc_files::{DONE, FAULT, ExitError, circuit, finished, print_table, stimulus_of, tell};
+use arguments::{AskedLayout, Request, Search, UsageError, parse};
 use base::push;
 use detail::tell_detail;
 use explaining::explain;
@@ -109,23 +109,23 @@ fn layout_of(asked: AskedLayout, out: &str) -> Option<Layout> {
 }
 
 /// Writes a circuit in the layout that is asked for.
-fn convert(rt: &HostRuntime, name: &str, out: &str, asked: AskedLayout) -> Result<u8, Stop> {
-    let layout = layout_of(asked, out).ok_or(Stop::BadArgument)?;
+fn convert(rt: &HostRuntime, name: &str, out: &str, asked: AskedLayout) -> Result<u8, ExitError> {
+    let layout = layout_of(asked, out).ok_or(ExitError::BadArgument)?;
     let file = circuit(rt, name)?;
     make_fitting(rt, out, file, layout)?;
     Ok(DONE)
 }
 
 /// The same as `sim` of a circuit that was read.
-fn print_values(rt: &HostRuntime, file: &AigerFile, stimulus: &str) -> Result<(), Stop> {
+fn print_values(rt: &HostRuntime, file: &AigerFile, stimulus: &str) -> Result<(), ExitError> {
     let stimulus = stimulus_of(rt, stimulus)?;
     print_table(rt, file, &stimulus)
 }
 
 /// Prints the values in the replay of a stimulus.
-fn sim(rt: &HostRuntime, name: &str, stimulus: &str) -> Result<u8, Stop> {
+fn sim(rt: &HostRuntime, name: &str, stimulus: &str) -> Result<u8, ExitError> {
     if is_standard(name) && is_standard(stimulus) {
-        return Err(Stop::BadArgument);
+        return Err(ExitError::BadArgument);
     }
     let file = circuit(rt, name)?;
     print_values(rt, &file, stimulus)?;
@@ -139,7 +139,7 @@ fn compare(
     other: &str,
     folder: Option<&str>,
     search: Search,
-) -> Result<u8, Stop> {
+) -> Result<u8, ExitError> {
     let pair = Pair {
         one,
         other,
@@ -153,7 +153,7 @@ fn compare(
 }
 
 /// Does what is asked for.
-fn done(rt: &HostRuntime, request: Request<'_>) -> Result<u8, Stop> {
+fn done(rt: &HostRuntime, request: Request<'_>) -> Result<u8, ExitError> {
     match request {
         Request::Convert { file, out, layout } => convert(rt, file, out, layout),
         Request::Sim { file, stimulus } => sim(rt, file, stimulus),
@@ -193,9 +193,9 @@ fn done(rt: &HostRuntime, request: Request<'_>) -> Result<u8, Stop> {
 }
 
 /// Tells what is wrong with the words, or the help that they ask for.
-fn refuse(rt: &HostRuntime, wrong: &Wrong) -> ExitCode {
+fn refuse(rt: &HostRuntime, wrong: &UsageError) -> ExitCode {
     if wrong.is_out_of_memory() {
-        return tell(rt, Stop::Memory);
+        return tell(rt, ExitError::Memory);
     }
     let is_help = wrong.is_help();
     match finished(wrong.print(rt)) {
@@ -209,7 +209,7 @@ fn refuse(rt: &HostRuntime, wrong: &Wrong) -> ExitCode {
 fn answer(rt: &HostRuntime, words: &[String]) -> ExitCode {
     let asked = match parse(rt.alloc(), words) {
         Ok(Some(asked)) => asked,
-        Ok(None) => return tell(rt, Stop::BadArgument),
+        Ok(None) => return tell(rt, ExitError::BadArgument),
         Err(error) => return refuse(rt, &error),
     };
     match done(rt, asked.request) {
@@ -233,7 +233,7 @@ fn main(rt: HostRuntime) -> ExitCode {
     let mut words: Vec<String> = Vec::new(rt.alloc());
     for word in args {
         if push(&mut words, word).is_err() {
-            return tell(&rt, Stop::Memory);
+            return tell(&rt, ExitError::Memory);
         }
     }
     answer(&rt, words.as_slice())

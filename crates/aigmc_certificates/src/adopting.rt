@@ -4,7 +4,7 @@ use crate::counterexample::tell_counterexample;
 use crate::extending::claimed_over;
 use crate::third::{NO_INVARIANT, kept};
 use aigmc_files::{
-    DONE, EvidenceFile, Role, Stop, UNKNOWN, about, asked_for, circuit, circuit_of, is_taken, keep,
+    DONE, EvidenceFile, Role, ExitError, UNKNOWN, about, asked_for, circuit, circuit_of, is_taken, keep,
     property_in, read_of, read_text,
 };
 use arguments::Claim;
@@ -38,7 +38,7 @@ fn is_pla(text: &[u8]) -> bool {
 }
 
 /// The clauses that the PLA spells, over the latches of the circuit in `file`.
-fn pla_over(alloc: Global, file: &AigerFile, text: &[u8]) -> Result<Seq<Seq<Lit>>, Stop> {
+fn pla_over(alloc: Global, file: &AigerFile, text: &[u8]) -> Result<Seq<Seq<Lit>>, ExitError> {
     let clauses = invariant::read_pla(alloc, file, text)?;
     Ok(clauses)
 }
@@ -50,29 +50,29 @@ fn pla_clauses(
     file: &AigerFile,
     property: Property,
     text: &[u8],
-) -> Result<Seq<Seq<Lit>>, Stop> {
+) -> Result<Seq<Seq<Lit>>, ExitError> {
     let Property::Justice(position) = property else {
         return about(Role::Invariant, pla_over(alloc, file, text));
     };
-    let shadow = shadow_file(alloc, file, position).map_err(Stop::from);
+    let shadow = shadow_file(alloc, file, position).map_err(ExitError::from);
     let shadow = about(Role::Circuit, shadow)?;
     about(Role::Invariant, pla_over(alloc, &shadow, text))
 }
 
 /// The clauses that the text spells, a line for each or in a certificate.
-fn line_clauses(alloc: Global, text: &[u8]) -> Result<Seq<Seq<Lit>>, Stop> {
+fn line_clauses(alloc: Global, text: &[u8]) -> Result<Seq<Seq<Lit>>, ExitError> {
     let clauses = invariant::read(alloc, text)?;
     Ok(clauses)
 }
 
 /// Refuses a certificate of version 3: its clauses may be over more than the circuit, and of a justice property they are over the
 /// circuit that counts its rounds.
-fn expect_earlier(rt: &HostRuntime, text: &[u8]) -> Result<(), Stop> {
+fn expect_earlier(rt: &HostRuntime, text: &[u8]) -> Result<(), ExitError> {
     if text.starts_with(b"aigcert 3\n") {
         let _ = eprintln!(rt;
             "aigmc: certify takes the clauses of certificates of version 1 and 2, recertify those of version 3"
         );
-        return Err(Stop::Told);
+        return Err(ExitError::Told);
     }
     Ok(())
 }
@@ -83,7 +83,7 @@ fn clauses_in(
     text: &[u8],
     file: &AigerFile,
     property: Property,
-) -> Result<Seq<Seq<Lit>>, Stop> {
+) -> Result<Seq<Seq<Lit>>, ExitError> {
     expect_earlier(rt, text)?;
     if is_pla(text) {
         pla_clauses(rt.alloc(), file, property, text)
@@ -98,7 +98,7 @@ fn clauses_of(
     name: &str,
     file: &AigerFile,
     property: Property,
-) -> Result<Seq<Seq<Lit>>, Stop> {
+) -> Result<Seq<Seq<Lit>>, ExitError> {
     let text = read_of(Role::Invariant, read_text(rt, name))?;
     clauses_in(rt, text.as_slice(), file, property)
 }
@@ -111,7 +111,7 @@ fn certified(
     property: Property,
     file: &AigerFile,
     clauses: &[Seq<Lit>],
-) -> Result<Option<u8>, Stop> {
+) -> Result<Option<u8>, ExitError> {
     let mut budget = Budget::new(asked.budget);
     let outcome = certify(rt.alloc(), file.model(), property, clauses, &mut budget)?;
     match outcome {
@@ -147,7 +147,7 @@ fn tried_clauses(
     asked: Claim<'_>,
     property: Property,
     file: &AigerFile,
-) -> Result<Tried, Stop> {
+) -> Result<Tried, ExitError> {
     let clauses = clauses_of(rt, asked.invariant, file, property)?;
     let made = certified(rt, asked, property, file, clauses.as_slice());
     match about(Role::Circuit, made)? {
@@ -162,7 +162,7 @@ fn certified_clauses(
     asked: Claim<'_>,
     property: Property,
     file: AigerFile,
-) -> Result<Adopted, Stop> {
+) -> Result<Adopted, ExitError> {
     match tried_clauses(rt, asked, property, &file)? {
         Tried::Ended(status) => Ok(Adopted::Ended(status)),
         Tried::Open(clauses) => Ok(Adopted::Strengthen {
@@ -180,7 +180,7 @@ fn keep_over(
     property: Property,
     circuit: &Model,
     extended: &AigerFile,
-) -> Result<u8, Stop> {
+) -> Result<u8, ExitError> {
     let clauses = clauses_of(rt, asked.invariant, extended, property)?;
     let claimed = claimed_over(rt, circuit, extended.model(), property, clauses)?;
     let out = asked.certificate;
@@ -195,29 +195,29 @@ fn certified_over(
     property: Property,
     file: &AigerFile,
     extension: &str,
-) -> Result<u8, Stop> {
+) -> Result<u8, ExitError> {
     if let Property::Justice(_) = property {
-        return Err(Stop::BadArgument);
+        return Err(ExitError::BadArgument);
     }
     if asked.strengthen || is_standard(extension) {
-        return Err(Stop::BadArgument);
+        return Err(ExitError::BadArgument);
     }
     if is_taken(rt, extension, asked.certificate) {
-        return Err(Stop::Taken);
+        return Err(ExitError::Taken);
     }
     let extended = circuit_of(rt, extension, Role::Other)?;
     keep_over(rt, asked, property, file.model(), &extended)
 }
 
 /// Makes a certificate of the clauses in a file, in the file of that name.
-pub fn certify_clauses(rt: &HostRuntime, asked: Claim<'_>) -> Result<Adopted, Stop> {
+pub fn certify_clauses(rt: &HostRuntime, asked: Claim<'_>) -> Result<Adopted, ExitError> {
     let word = asked_for(asked.property)?;
     if is_standard(asked.file) && is_standard(asked.invariant) {
-        return Err(Stop::BadArgument);
+        return Err(ExitError::BadArgument);
     }
     let out = asked.certificate;
     if is_taken(rt, asked.file, out) || is_taken(rt, asked.invariant, out) {
-        return Err(Stop::Taken);
+        return Err(ExitError::Taken);
     }
     let file = circuit(rt, asked.file)?;
     let property = property_in(rt, asked.file, &file, word, asked.verbose)?;

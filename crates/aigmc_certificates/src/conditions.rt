@@ -5,7 +5,7 @@ ghost use Rattle.graph.specs.Circuits.{value_of};
 
 use crate::counterexample::{Values, tell_both_inputs, tell_inputs, tell_state, tell_step};
 use crate::third::{NO_INVARIANT, UNKNOWN};
-use aigmc_files::Stop;
+use aigmc_files::ExitError;
 use base::{Budget, Refused, Seq, filled};
 use certify::{Certified, certify};
 use graph::{Lit, Model, Property};
@@ -139,7 +139,7 @@ fn smaller(alloc: Global, circuit: &Model) -> Result<Model, Refused> {
 }
 
 /// What comes of a condition: without clauses and latches, the only case is that the bad literal is set.
-fn answer_of(alloc: Global, question: &Question, budget: &mut Budget) -> Result<Answer, Stop> {
+fn answer_of(alloc: Global, question: &Question, budget: &mut Budget) -> Result<Answer, ExitError> {
     let circuit = smaller(alloc, &question.circuit)?;
     match certify(alloc, &circuit, Property::Bad(0), &[], budget)? {
         Certified::Certificate(_) => Ok(Answer::Holds),
@@ -158,7 +158,7 @@ fn ask(
     pair: Pair<'_>,
     condition: Condition,
     budget: &mut Budget,
-) -> Result<Answer, Stop> {
+) -> Result<Answer, ExitError> {
     let question = pair.question(alloc, condition)?;
     answer_of(alloc, &question, budget)
 }
@@ -232,7 +232,7 @@ pub fn first_failing(
     rt: &HostRuntime,
     pair: Pair<'_>,
     budget: &mut Budget,
-) -> Result<Option<u8>, Stop> {
+) -> Result<Option<u8>, ExitError> {
     for condition in CONDITIONS.iter() {
         let answer = ask(rt.alloc(), pair, *condition, budget)?;
         let status = status_of(rt, *condition, pair.latches(), &answer);

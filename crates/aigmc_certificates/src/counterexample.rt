@@ -1,6 +1,6 @@
 //! What satisfies a case of clauses that are no invariant, in words.
 
-use aigmc_files::Stop;
+use aigmc_files::ExitError;
 use base::Seq;
 use certify::{Case, Counterexample};
 use graph::{Model, Property};
@@ -77,7 +77,7 @@ pub fn tell_case(rt: &HostRuntime, case: Case, values: &Values) {
 }
 
 /// Says which case the values satisfy, and by which state of the clauses' circuit.
-fn tell_values(rt: &HostRuntime, circuit: &Model, found: &Counterexample) -> Result<(), Stop> {
+fn tell_values(rt: &HostRuntime, circuit: &Model, found: &Counterexample) -> Result<(), ExitError> {
     let inputs = match found.case {
         // the clauses are over latches alone
         Case::Initial(_) => Seq::new(rt.alloc()),
@@ -99,7 +99,7 @@ pub fn tell_counterexample(
     circuit: &Model,
     property: Property,
     found: &Counterexample,
-) -> Result<(), Stop> {
+) -> Result<(), ExitError> {
     match property {
         Property::Justice(position) => {
             let shadow = to_safety(rt.alloc(), circuit, position)?;

@@ -1,6 +1,6 @@
 //! The latches and gates that a circuit has beyond another one.
 
-use aigmc_files::{Claimed, Role, Stop, about, listed};
+use aigmc_files::{Claimed, Role, ExitError, about, listed};
 use base::{Refused, Seq};
 use certificate3::{Claim, Format};
 use graph::{Lit, Model, Property};
@@ -46,9 +46,9 @@ pub fn claimed_over(
     extended: &Model,
     property: Property,
     clauses: Seq<Seq<Lit>>,
-) -> Result<Claimed, Stop> {
+) -> Result<Claimed, ExitError> {
     if !is_begun_by(extended, circuit) {
-        let fault = Stop::Fault {
+        let fault = ExitError::Fault {
             number: NO_EXTENSION,
             place: 0,
         };

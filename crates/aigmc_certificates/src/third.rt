@@ -6,7 +6,7 @@ ghost use Rattle.certify3.specs.declared.counterexample.Case.TheVariants.{First,
 
 use crate::counterexample::{Values, tell_case};
 pub use aigmc_files::UNKNOWN;
-use aigmc_files::{Claimed, DONE, Role, Stop, about, make_bytes};
+use aigmc_files::{Claimed, DONE, Role, ExitError, about, make_bytes};
 use base::{Budget, Refused, Seq};
 use certify::Case as EarlierCase;
 use certify3::{Case, Certified, Counterexample, Extension, certify};
@@ -88,7 +88,7 @@ pub fn outcome_of(
     circuit: &Model,
     claimed: Claimed,
     steps: u64,
-) -> Result<Outcome, Stop> {
+) -> Result<Outcome, ExitError> {
     let Claimed {
         format: _,
         claim,
@@ -109,7 +109,7 @@ pub fn outcome_of(
         invariant,
         &mut budget,
     );
-    match about(Role::Circuit, outcome.map_err(Stop::from))? {
+    match about(Role::Circuit, outcome.map_err(ExitError::from))? {
         Certified::Certificate(text) => {
             make_bytes(rt, out, text.as_slice())?;
             Ok(Outcome::Made)
@@ -135,7 +135,7 @@ pub fn kept(
     shown: &Model,
     claimed: Claimed,
     steps: u64,
-) -> Result<u8, Stop> {
+) -> Result<u8, ExitError> {
     match outcome_of(rt, out, circuit, claimed, steps)? {
         Outcome::Made => Ok(DONE),
         Outcome::NotInvariant(found) => {

@@ -4,7 +4,7 @@ use crate::conditions::first_failing;
 use crate::counterexample::{Values, tell_inputs, tell_state, tell_step};
 use crate::third::{NO_INVARIANT, Outcome, UNKNOWN, outcome_of, values_of};
 use aigmc_files::{
-    Claimed, DONE, Role, Stop, about, asked_for, circuit, circuit_of, is_taken, property_in,
+    Claimed, DONE, Role, ExitError, about, asked_for, circuit, circuit_of, is_taken, property_in,
 };
 use arguments::Adoption;
 use base::{Budget, Refused, Seq};
@@ -31,7 +31,7 @@ fn asked_property(
     rt: &HostRuntime,
     asked: Adoption<'_>,
     file: &AigerFile,
-) -> Result<Property, Stop> {
+) -> Result<Property, ExitError> {
     if let Some(word) = asked.property {
         let word = asked_for(word)?;
         return property_in(rt, asked.file, file, word, asked.verbose);
@@ -42,7 +42,7 @@ fn asked_property(
             let _ = eprintln!(rt;
                 "aigmc: the circuit has not one bad literal: -p says which it is about"
             );
-            Err(Stop::Told)
+            Err(ExitError::Told)
         }
     }
 }
@@ -124,7 +124,7 @@ fn kept_of(
     claimed: Claimed,
     property_clauses: u64,
     steps: u64,
-) -> Result<u8, Stop> {
+) -> Result<u8, ExitError> {
     let own = Seq::from_slice(rt.alloc(), claimed.latches.as_slice())?;
     match outcome_of(rt, out, circuit, claimed, steps)? {
         Outcome::Made => Ok(DONE),
@@ -139,7 +139,7 @@ fn kept_of(
 }
 
 /// What a witness adds to the circuit, and what is to be inductive.
-fn adopted_of(alloc: Global, circuit: &Model, witness: &AigerFile) -> Result<Adopted, Stop> {
+fn adopted_of(alloc: Global, circuit: &Model, witness: &AigerFile) -> Result<Adopted, ExitError> {
     let adopted = adopt(alloc, circuit, witness)?;
     Ok(adopted)
 }
@@ -151,7 +151,7 @@ fn failing(
     bad: Lit,
     witness: &AigerFile,
     budget: &mut Budget,
-) -> Result<Option<u8>, Stop> {
+) -> Result<Option<u8>, ExitError> {
     let shared = Shared::of(rt.alloc(), circuit, witness)?;
     let pair = Pair::of(circuit, bad, witness.model(), &shared)?;
     first_failing(rt, pair, budget)
@@ -175,7 +175,7 @@ fn adopt_for(
     property: Property,
     bad: Lit,
     witness: &AigerFile,
-) -> Result<u8, Stop> {
+) -> Result<u8, ExitError> {
     let adopted = about(Role::Other, adopted_of(rt.alloc(), circuit, witness))?;
     let mut budget = Budget::new(asked.budget);
     if !adopted.agrees {
@@ -197,23 +197,23 @@ fn adopt_for(
 }
 
 /// The same as `adopt_witness` of a circuit that was read.
-fn adopt_of(rt: &HostRuntime, asked: Adoption<'_>, file: &AigerFile) -> Result<u8, Stop> {
+fn adopt_of(rt: &HostRuntime, asked: Adoption<'_>, file: &AigerFile) -> Result<u8, ExitError> {
     let property = asked_property(rt, asked, file)?;
     let Some(bad) = watched(file.model(), property) else {
-        return Err(Stop::BadArgument);
+        return Err(ExitError::BadArgument);
     };
     let witness = circuit_of(rt, asked.witness, Role::Other)?;
     adopt_for(rt, asked, file.model(), property, bad, &witness)
 }
 
 /// Makes a certificate of version 3 of a witness circuit, in the file of that name.
-pub fn adopt_witness(rt: &HostRuntime, asked: Adoption<'_>) -> Result<u8, Stop> {
+pub fn adopt_witness(rt: &HostRuntime, asked: Adoption<'_>) -> Result<u8, ExitError> {
     if is_standard(asked.file) && is_standard(asked.witness) {
-        return Err(Stop::BadArgument);
+        return Err(ExitError::BadArgument);
     }
     let out = asked.out;
     if is_taken(rt, asked.file, out) || is_taken(rt, asked.witness, out) {
-        return Err(Stop::Taken);
+        return Err(ExitError::Taken);
     }
     let file = circuit(rt, asked.file)?;
     adopt_of(rt, asked, &file)

@@ -2,7 +2,7 @@
 
 use aiger::Layout;
 use aigmc_files::{
-    Role, Stop, at, circuit, circuit_of, expect_folder, is_taken, is_terminal, make,
+    Role, ExitError, at, circuit, circuit_of, expect_folder, is_taken, is_terminal, make,
 };
 use graph::{AigerFile, Model, Property};
 use inputs::is_standard;
@@ -36,22 +36,22 @@ impl Pair<'_> {
         what: &str,
         one: usize,
         other: usize,
-    ) -> Result<(), Stop> {
+    ) -> Result<(), ExitError> {
         if one == other {
             return Ok(());
         }
         if !self.is_told(rt) {
-            return Err(Stop::BadArgument);
+            return Err(ExitError::BadArgument);
         }
         let (first, second) = (self.one, self.other);
         let _ = eprintln!(rt;
             "aigmc: bad argument\n  the numbers of {what} differ: {one} in {first}, {other} in {second}"
         );
-        Err(Stop::Told)
+        Err(ExitError::Told)
     }
 
     /// Refuses two circuits of which the inputs, outputs or bad literals are not as many, or that have nothing to compare.
-    fn expect_comparable(self, rt: &HostRuntime, one: &Model, other: &Model) -> Result<(), Stop> {
+    fn expect_comparable(self, rt: &HostRuntime, one: &Model, other: &Model) -> Result<(), ExitError> {
         self.expect_same(rt, "inputs", one.inputs().len(), other.inputs().len())?;
         self.expect_same(rt, "outputs", one.outputs().len(), other.outputs().len())?;
         self.expect_same(rt, "bad literals", one.bad().len(), other.bad().len())?;
@@ -59,12 +59,12 @@ impl Pair<'_> {
             return Ok(());
         }
         if !self.is_told(rt) {
-            return Err(Stop::BadArgument);
+            return Err(ExitError::BadArgument);
         }
         let _ = eprintln!(rt;
             "aigmc: bad argument\n  there is nothing to compare: no outputs and no bad literals"
         );
-        Err(Stop::Told)
+        Err(ExitError::Told)
     }
 
     /// The miter of two circuits.
@@ -73,28 +73,28 @@ impl Pair<'_> {
         rt: &HostRuntime,
         one: &AigerFile,
         other: &AigerFile,
-    ) -> Result<AigerFile, Stop> {
+    ) -> Result<AigerFile, ExitError> {
         self.expect_comparable(rt, one.model(), other.model())?;
         let miter = miter_of(rt.alloc(), one, other)?;
         Ok(miter)
     }
 
     /// The miter of a circuit and that in the other file.
-    fn miter_with(self, rt: &HostRuntime, one: &AigerFile) -> Result<AigerFile, Stop> {
+    fn miter_with(self, rt: &HostRuntime, one: &AigerFile) -> Result<AigerFile, ExitError> {
         let other = circuit_of(rt, self.other, Role::Other)?;
         self.miter_of(rt, one, &other)
     }
 
     /// The miter of the circuits in the two files.
-    fn miter(self, rt: &HostRuntime) -> Result<AigerFile, Stop> {
+    fn miter(self, rt: &HostRuntime) -> Result<AigerFile, ExitError> {
         let one = circuit(rt, self.one)?;
         self.miter_with(rt, &one)
     }
 
     /// Refuses a file to make that is read, or that standard output goes to.
-    fn expect_free(self, rt: &HostRuntime, out: &str) -> Result<(), Stop> {
+    fn expect_free(self, rt: &HostRuntime, out: &str) -> Result<(), ExitError> {
         if is_taken(rt, self.one, out) || is_taken(rt, self.other, out) {
-            return Err(Stop::Taken);
+            return Err(ExitError::Taken);
         }
         Ok(())
     }
@@ -105,29 +105,29 @@ impl Pair<'_> {
         rt: &HostRuntime,
         folder: &str,
         evidence: Evidence,
-    ) -> Result<(), Stop> {
+    ) -> Result<(), ExitError> {
         let Ok(out) = evidence_name(rt.alloc(), folder, Property::Bad(0), evidence) else {
-            return Err(Stop::Memory);
+            return Err(ExitError::Memory);
         };
         self.expect_free(rt, out.as_str())
     }
 
     /// The file of the folder to make of the miter. None of the files that are made there is one that is read.
-    fn file_in(self, rt: &HostRuntime, folder: &str) -> Result<String, Stop> {
+    fn file_in(self, rt: &HostRuntime, folder: &str) -> Result<String, ExitError> {
         at(Role::Made, expect_folder(rt, folder))?;
         self.expect_free_for(rt, folder, Evidence::Certificate)?;
         self.expect_free_for(rt, folder, Evidence::Stimulus)?;
         let Ok(out) = format!(in rt.alloc(); "{folder}/miter.aig") else {
-            return Err(Stop::Memory);
+            return Err(ExitError::Memory);
         };
         self.expect_free(rt, out.as_str())?;
         Ok(out)
     }
 
     /// The miter of the two circuits. It is in the folder, where one is named.
-    pub fn made(self, rt: &HostRuntime) -> Result<AigerFile, Stop> {
+    pub fn made(self, rt: &HostRuntime) -> Result<AigerFile, ExitError> {
         if is_standard(self.one) && is_standard(self.other) {
-            return Err(Stop::BadArgument);
+            return Err(ExitError::BadArgument);
         }
         let Some(folder) = self.folder else {
             return self.miter(rt);
@@ -139,10 +139,10 @@ impl Pair<'_> {
     }
 
     /// What the miter is called: the names of the two files.
-    pub fn name(self, alloc: Global) -> Result<String, Stop> {
+    pub fn name(self, alloc: Global) -> Result<String, ExitError> {
         match format!(in alloc; "{} {}", self.one, self.other) {
             Ok(name) => Ok(name),
-            Err(_) => Err(Stop::Memory),
+            Err(_) => Err(ExitError::Memory),
         }
     }
 }

@@ -2,7 +2,7 @@
 
 use aiger::Layout;
 use aigmc_files::{
-    DONE, Fitted, Role, Stop, about, asked_for, circuit, fault_of, is_same, make, path_of,
+    DONE, Fitted, Role, ExitError, about, asked_for, circuit, fault_of, is_same, make, path_of,
     property_in,
 };
 use arguments::{Extraction, Shadow};
@@ -17,7 +17,7 @@ pub fn make_fitting(
     out: &str,
     file: AigerFile,
     layout: Layout,
-) -> Result<(), Stop> {
+) -> Result<(), ExitError> {
     let fitted = Fitted::of(rt.alloc(), file, layout)?;
     make(rt, out, &fitted.file, layout)
 }
@@ -36,12 +36,12 @@ fn safety_file(
     file: &AigerFile,
     position: u32,
     rounds: Option<u32>,
-) -> Result<AigerFile, Stop> {
+) -> Result<AigerFile, ExitError> {
     let made = match rounds {
         Some(rounds) => rounds_file(alloc, file, position, rounds),
         None => shadow_file(alloc, file, position),
     };
-    about(Role::Circuit, made.map_err(Stop::from))
+    about(Role::Circuit, made.map_err(ExitError::from))
 }
 
 /// What is asked for of the circuit.
@@ -50,29 +50,29 @@ fn shadow_in(
     asked: Shadow<'_>,
     word: Asked<'_>,
     file: &AigerFile,
-) -> Result<AigerFile, Stop> {
+) -> Result<AigerFile, ExitError> {
     match property_in(rt, asked.file, file, word, asked.verbose)? {
         Property::Justice(position) => safety_file(rt.alloc(), file, position, asked.rounds),
-        _ => Err(Stop::BadArgument),
+        _ => Err(ExitError::BadArgument),
     }
 }
 
 /// What is asked for of the circuit in the file that is named.
-fn shadow_of(rt: &HostRuntime, asked: Shadow<'_>, word: Asked<'_>) -> Result<AigerFile, Stop> {
+fn shadow_of(rt: &HostRuntime, asked: Shadow<'_>, word: Asked<'_>) -> Result<AigerFile, ExitError> {
     let file = circuit(rt, asked.file)?;
     shadow_in(rt, asked, word, &file)
 }
 
 /// Makes the file of that name with the shadow circuit of a justice property, or with the one that counts its rounds.
-pub fn make_shadow(rt: &HostRuntime, asked: Shadow<'_>) -> Result<u8, Stop> {
+pub fn make_shadow(rt: &HostRuntime, asked: Shadow<'_>) -> Result<u8, ExitError> {
     let word = asked_for(asked.property)?;
     let out = asked.out;
-    let layout = Layout::of_name(out).ok_or(Stop::BadArgument)?;
+    let layout = Layout::of_name(out).ok_or(ExitError::BadArgument)?;
     if !is_of_justice(word) {
-        return Err(Stop::BadArgument);
+        return Err(ExitError::BadArgument);
     }
     if is_same(rt, out, path_of(asked.file)) {
-        return Err(Stop::Taken);
+        return Err(ExitError::Taken);
     }
     let made = shadow_of(rt, asked, word)?;
     make_fitting(rt, out, made, layout)?;
@@ -80,8 +80,8 @@ pub fn make_shadow(rt: &HostRuntime, asked: Shadow<'_>) -> Result<u8, Stop> {
 }
 
 /// The circuit of a property, or the fault with the properties that there are.
-fn part_of(alloc: Global, file: &AigerFile, property: Property) -> Result<AigerFile, Stop> {
-    let part = extracted(alloc, file, property).map_err(Stop::from);
+fn part_of(alloc: Global, file: &AigerFile, property: Property) -> Result<AigerFile, ExitError> {
+    let part = extracted(alloc, file, property).map_err(ExitError::from);
     match about(Role::Circuit, part) {
         Err(stop) => Err(fault_of(alloc, file.model(), property, stop)),
         part => part,
@@ -94,29 +94,29 @@ fn part_asked(
     asked: Extraction<'_>,
     word: Asked<'_>,
     file: &AigerFile,
-) -> Result<AigerFile, Stop> {
+) -> Result<AigerFile, ExitError> {
     match property_in(rt, asked.file, file, word, asked.verbose)? {
-        Property::Justice(_) => Err(Stop::BadArgument),
+        Property::Justice(_) => Err(ExitError::BadArgument),
         property => part_of(rt.alloc(), file, property),
     }
 }
 
 /// The same of the circuit in the file that is named.
-fn part_in(rt: &HostRuntime, asked: Extraction<'_>, word: Asked<'_>) -> Result<AigerFile, Stop> {
+fn part_in(rt: &HostRuntime, asked: Extraction<'_>, word: Asked<'_>) -> Result<AigerFile, ExitError> {
     let file = circuit(rt, asked.file)?;
     part_asked(rt, asked, word, &file)
 }
 
 /// Makes the file of that name with the circuit of a property, which is no justice property.
-pub fn extract(rt: &HostRuntime, asked: Extraction<'_>) -> Result<u8, Stop> {
+pub fn extract(rt: &HostRuntime, asked: Extraction<'_>) -> Result<u8, ExitError> {
     let word = asked_for(asked.property)?;
     let out = asked.out;
-    let layout = Layout::of_name(out).ok_or(Stop::BadArgument)?;
+    let layout = Layout::of_name(out).ok_or(ExitError::BadArgument)?;
     if matches!(word, Asked::Property(Property::Justice(_))) {
-        return Err(Stop::BadArgument);
+        return Err(ExitError::BadArgument);
     }
     if is_same(rt, out, path_of(asked.file)) {
-        return Err(Stop::Taken);
+        return Err(ExitError::Taken);
     }
     let part = part_in(rt, asked, word)?;
     make_fitting(rt, out, part, layout)?;

@@ -1,6 +1,6 @@
 //! The command `trace`.
 
-use aigmc_files::{DONE, Stop, circuit, is_same, make_waveform, path_of, print_trace, shown_of};
+use aigmc_files::{DONE, ExitError, circuit, is_same, make_waveform, path_of, print_trace, shown_of};
 use graph::AigerFile;
 use inputs::is_standard;
 
@@ -16,7 +16,7 @@ fn trace_in(
     stimulus: &str,
     all: bool,
     waveform: Option<&str>,
-) -> Result<u8, Stop> {
+) -> Result<u8, ExitError> {
     let shown = shown_of(rt, stimulus, file.model())?;
     match waveform {
         None => print_trace(rt, file, &shown, all)?,
@@ -33,12 +33,12 @@ pub fn trace(
     stimulus: &str,
     all: bool,
     waveform: Option<&str>,
-) -> Result<u8, Stop> {
+) -> Result<u8, ExitError> {
     if is_standard(name) && is_standard(stimulus) {
-        return Err(Stop::BadArgument);
+        return Err(ExitError::BadArgument);
     }
     if waveform.is_some_and(|out| is_read(rt, out, name) || is_read(rt, out, stimulus)) {
-        return Err(Stop::Taken);
+        return Err(ExitError::Taken);
     }
     let file = circuit(rt, name)?;
     trace_in(rt, &file, stimulus, all, waveform)

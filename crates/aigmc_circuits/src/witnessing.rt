@@ -1,7 +1,7 @@
 //! The command `witness`: a counterexample of another tool becomes a strict stimulus.
 
 use aigmc_files::{
-    DONE, Role, Stop, about, asked_for, circuit, finished, is_taken, make_bytes, make_stimulus,
+    DONE, Role, ExitError, about, asked_for, circuit, finished, is_taken, make_bytes, make_stimulus,
     property_in, read_of, read_text,
 };
 use arguments::Counterexample;
@@ -15,7 +15,7 @@ use witness::{Loose, WitnessError, asked_of, clear, strict, text_of};
 const NOT_SHOWN: u8 = 1;
 
 /// What is chosen, where something is.
-fn chosen<'a>(asked: Counterexample<'a>) -> Result<Option<Asked<'a>>, Stop> {
+fn chosen<'a>(asked: Counterexample<'a>) -> Result<Option<Asked<'a>>, ExitError> {
     match asked.property {
         Some(word) => Ok(Some(asked_for(word)?)),
         None => Ok(None),
@@ -28,7 +28,7 @@ fn chosen_in(
     asked: Counterexample<'_>,
     file: &AigerFile,
     chosen: Option<Asked<'_>>,
-) -> Result<Option<Property>, Stop> {
+) -> Result<Option<Property>, ExitError> {
     match chosen {
         Some(word) => Ok(Some(property_in(rt, asked.file, file, word, asked.verbose)?)),
         None => Ok(None),
@@ -36,7 +36,7 @@ fn chosen_in(
 }
 
 /// What the file of this name says.
-fn read_loose(rt: &HostRuntime, name: &str, circuit: &Model) -> Result<Loose, Stop> {
+fn read_loose(rt: &HostRuntime, name: &str, circuit: &Model) -> Result<Loose, ExitError> {
     let text = read_text(rt, name)?;
     let loose = witness::read(rt.alloc(), circuit, text.as_slice())?;
     Ok(loose)
@@ -48,7 +48,7 @@ fn make_cleared(
     out: &str,
     circuit: &Model,
     shown: &Stimulus,
-) -> Result<(), Stop> {
+) -> Result<(), ExitError> {
     match clear(rt.alloc(), circuit, shown)? {
         Some(cleared) => {
             let text = text_of(rt.alloc(), &cleared)?;
@@ -64,7 +64,7 @@ fn keep_shown(
     asked: Counterexample<'_>,
     circuit: &Model,
     shown: &Stimulus,
-) -> Result<u8, Stop> {
+) -> Result<u8, ExitError> {
     if asked.clear {
         make_cleared(rt, asked.out, circuit, shown)?;
     } else {
@@ -82,7 +82,7 @@ fn witnessed(
     file: &AigerFile,
     loose: &Loose,
     property: Option<Property>,
-) -> Result<u8, Stop> {
+) -> Result<u8, ExitError> {
     let properties = asked_of(rt.alloc(), file.model(), loose, property)?;
     match strict(rt.alloc(), file.model(), loose, &properties) {
         Ok(shown) => keep_shown(rt, asked, file.model(), &shown),
@@ -93,7 +93,7 @@ fn witnessed(
             );
             Ok(NOT_SHOWN)
         }
-        Err(error) => Err(Stop::from(error)),
+        Err(error) => Err(ExitError::from(error)),
     }
 }
 
@@ -103,7 +103,7 @@ fn witnessed_of(
     asked: Counterexample<'_>,
     file: &AigerFile,
     property: Option<Property>,
-) -> Result<u8, Stop> {
+) -> Result<u8, ExitError> {
     let read = read_loose(rt, asked.stimulus, file.model());
     let loose = read_of(Role::Stimulus, read)?;
     witnessed(rt, asked, file, &loose, property)
@@ -115,20 +115,20 @@ fn witnessed_in(
     asked: Counterexample<'_>,
     file: &AigerFile,
     word: Option<Asked<'_>>,
-) -> Result<u8, Stop> {
+) -> Result<u8, ExitError> {
     let property = chosen_in(rt, asked, file, word)?;
     witnessed_of(rt, asked, file, property)
 }
 
 /// Makes the file of that name with the strict stimulus of a counterexample.
-pub fn make_witness(rt: &HostRuntime, asked: Counterexample<'_>) -> Result<u8, Stop> {
+pub fn make_witness(rt: &HostRuntime, asked: Counterexample<'_>) -> Result<u8, ExitError> {
     let word = chosen(asked)?;
     let (circuit_name, name) = (asked.file, asked.stimulus);
     if is_standard(circuit_name) && is_standard(name) {
-        return Err(Stop::BadArgument);
+        return Err(ExitError::BadArgument);
     }
     if is_taken(rt, circuit_name, asked.out) || is_taken(rt, name, asked.out) {
-        return Err(Stop::Taken);
+        return Err(ExitError::Taken);
     }
     let file = circuit(rt, circuit_name)?;
     witnessed_in(rt, asked, &file, word)

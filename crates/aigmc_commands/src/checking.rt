@@ -6,7 +6,7 @@ ghost use Rattle.portfolio.specs.Conclusions.{status_in};
 use crate::showing::Found;
 use crate::timing::{ask, begin, is_vacuous, now};
 use aigmc_files::{
-    CommandError, DONE, EvidenceFile, Fitted, Role, Stop, UNKNOWN, VIOLATED, about, asked_for, at,
+    CommandError, DONE, EvidenceFile, Fitted, Role, ExitError, UNKNOWN, VIOLATED, about, asked_for, at,
     circuit, expect_folder, expect_safety, expect_witness_file, fault_of, is_taken, property_in,
     witness_in,
 };
@@ -106,7 +106,7 @@ fn witness_of(
     property: Property,
     conclusion: &Conclusion,
     out: &str,
-) -> Result<Option<Fitted>, Stop> {
+) -> Result<Option<Fitted>, ExitError> {
     let Conclusion::Decided(Verdict::Safe(certificate)) = conclusion else {
         return Ok(None);
     };
@@ -123,7 +123,7 @@ fn show<'a>(
     conclusion: &'a Conclusion,
     evidence: Option<EvidenceFile<'a>>,
     spent: Spent<'a>,
-) -> Result<u8, Stop>
+) -> Result<u8, ExitError>
     ensures { IfOk result (λ status. status ≡ status_in conclusion.now) }
 {
     whole.found(property, conclusion, evidence, spent).show(rt)
@@ -138,7 +138,7 @@ fn show_witness(
     conclusion: &Conclusion,
     out: &str,
     spent: Spent<'_>,
-) -> Result<u8, Stop>
+) -> Result<u8, ExitError>
     ensures { IfOk result (λ status. status ≡ status_in conclusion.now) }
 {
     match witness_of(rt.alloc(), whole.file.model(), property, conclusion, out)? {
@@ -159,7 +159,7 @@ fn keep_and_show(
     kept: Kept<'_>,
     answered: &Answered,
     begun: Option<Instant>,
-) -> Result<u8, Stop>
+) -> Result<u8, ExitError>
     ensures { IfOk result (λ status. status ≡ status_in answered.now.conclusion) }
 {
     let (conclusion, spent) = (&answered.conclusion, Spent::by(answered, begun));
@@ -182,7 +182,7 @@ fn check_in(
     property: Property,
     kept: Kept<'_>,
     timing: Timing,
-) -> Result<u8, Stop> {
+) -> Result<u8, ExitError> {
     let whole = Whole {
         name,
         file,
@@ -204,9 +204,9 @@ fn check_in(
 
 /// Refuses a file for a certificate that is taken, one for a witness circuit that no circuit can be written to, and a folder
 /// for evidence that is none.
-fn expect_place(rt: &HostRuntime, name: &str, kept: Kept<'_>) -> Result<(), Stop> {
+fn expect_place(rt: &HostRuntime, name: &str, kept: Kept<'_>) -> Result<(), ExitError> {
     match kept {
-        Kept::Certificate(out) if is_taken(rt, name, out) => Err(Stop::Taken),
+        Kept::Certificate(out) if is_taken(rt, name, out) => Err(ExitError::Taken),
         Kept::Witness(out) => expect_witness_file(rt, name, out),
         Kept::Folder(folder) => at(Role::Made, expect_folder(rt, folder)),
         _ => Ok(()),
@@ -221,7 +221,7 @@ fn check_file(
     asked: Asked<'_>,
     kept: Kept<'_>,
     timing: Timing,
-) -> Result<u8, Stop> {
+) -> Result<u8, ExitError> {
     let property = property_in(rt, name, file, asked, timing.search.verbose)?;
     if matches!(kept, Kept::Witness(_)) {
         expect_safety(rt, property)?;
@@ -237,7 +237,7 @@ pub fn check(
     property: &str,
     kept: Kept<'_>,
     search: Search,
-) -> Result<u8, Stop> {
+) -> Result<u8, ExitError> {
     let timing = begin(rt, search)?;
     let asked = asked_for(property)?;
     expect_place(rt, name, kept)?;
@@ -251,7 +251,7 @@ fn evidence_in(
     whole: Whole<'_>,
     property: Property,
     conclusion: &Conclusion,
-) -> Result<Option<String>, Stop> {
+) -> Result<Option<String>, ExitError> {
     let Some(folder) = whole.folder else {
         return Ok(None);
     };
@@ -259,10 +259,10 @@ fn evidence_in(
         return Ok(None);
     };
     let Ok(out) = evidence_name(rt.alloc(), folder, property, evidence) else {
-        return Err(Stop::Memory);
+        return Err(ExitError::Memory);
     };
     if is_taken(rt, whole.name, out.as_str()) {
-        return Err(Stop::Taken);
+        return Err(ExitError::Taken);
     }
     Ok(Some(out))
 }
@@ -274,7 +274,7 @@ fn keep_in_and_print(
     property: Property,
     conclusion: &Conclusion,
     spent: Spent<'_>,
-) -> Result<u8, Stop>
+) -> Result<u8, ExitError>
     ensures { IfOk result (λ status. status ≡ status_in conclusion.now) }
 {
     match evidence_in(rt, whole, property, conclusion)? {
@@ -294,7 +294,7 @@ pub fn check_miter<'a>(
     file: &'a AigerFile,
     folder: Option<&'a str>,
     timing: Timing,
-) -> Result<u8, Stop> {
+) -> Result<u8, ExitError> {
     let whole = Whole {
         name,
         file,
@@ -352,7 +352,7 @@ fn keep_next(
     answered: Answered,
     begun: Option<Instant>,
     clauses: &mut Seq<Seq<Lit>>,
-) -> Result<u8, Stop>
+) -> Result<u8, ExitError>
     ensures { IfOk result (λ status. status ≡ status_in answered.conclusion) }
 {
     let spent = Spent::by(&answered, begun);
@@ -371,7 +371,7 @@ fn check_next(
     whole: Whole<'_>,
     property: Property,
     clauses: &mut Seq<Seq<Lit>>,
-) -> Result<u8, Stop> {
+) -> Result<u8, ExitError> {
     let file = whole.file;
     let begun = now(rt, whole.timing);
     let candidates = relevant_clauses(rt.alloc(), file.model(), property, clauses.as_slice())?;
@@ -386,7 +386,7 @@ fn check_next(
 
 /// Looks for evidence about each of these properties in turn, and answers the status of all. Where there are none,
 /// standard error says so.
-fn check_each(rt: &HostRuntime, whole: Whole<'_>, properties: &[Property]) -> Result<u8, Stop> {
+fn check_each(rt: &HostRuntime, whole: Whole<'_>, properties: &[Property]) -> Result<u8, ExitError> {
     let mut clauses = Seq::new(rt.alloc());
     let mut status = first_status(properties);
     if properties.is_empty() {
@@ -406,7 +406,7 @@ fn check_all_in(
     file: &AigerFile,
     folder: Option<&str>,
     timing: Timing,
-) -> Result<u8, Stop> {
+) -> Result<u8, ExitError> {
     let whole = Whole {
         name,
         file,
@@ -427,7 +427,7 @@ pub fn check_all(
     name: &str,
     folder: Option<&str>,
     search: Search,
-) -> Result<u8, Stop> {
+) -> Result<u8, ExitError> {
     let timing = begin(rt, search)?;
     if let Some(folder) = folder {
         at(Role::Made, expect_folder(rt, folder))?;

@@ -2,7 +2,7 @@
 
 use crate::telling::Why;
 use crate::timing::{ask, begin};
-use aigmc_files::{DONE, Role, Stop, UNKNOWN, about, circuit, print_stimulus};
+use aigmc_files::{DONE, Role, ExitError, UNKNOWN, about, circuit, print_stimulus};
 use arguments::Search;
 use base::Seq;
 use engine::Reason;
@@ -22,7 +22,7 @@ fn print_run(
     circuit: &Model,
     initial: Seq<bool>,
     inputs: Seq<Seq<bool>>,
-) -> Result<u8, Stop> {
+) -> Result<u8, ExitError> {
     let mut initial = initial.into_vec();
     initial.truncate(circuit.latches().len());
     let run = Stimulus::Violated {
@@ -47,8 +47,8 @@ fn tell_unknown(rt: &HostRuntime, reason: Reason, is_over: bool) -> u8 {
 }
 
 /// What is known of the bad literal that is set behind so many steps.
-fn verdict_behind(rt: &HostRuntime, circuit: &Model, timing: Timing) -> Result<Verdict, Stop> {
-    let made = bad_behind(rt.alloc(), circuit, timing.search.depth).map_err(Stop::from);
+fn verdict_behind(rt: &HostRuntime, circuit: &Model, timing: Timing) -> Result<Verdict, ExitError> {
+    let made = bad_behind(rt.alloc(), circuit, timing.search.depth).map_err(ExitError::from);
     let made = about(Role::Circuit, made)?;
     let question = Question {
         circuit: made.model(),
@@ -60,7 +60,7 @@ fn verdict_behind(rt: &HostRuntime, circuit: &Model, timing: Timing) -> Result<V
 }
 
 /// Prints a run of the circuit that keeps the constraints, as long as the search is deep.
-fn cover_in(rt: &HostRuntime, circuit: &Model, timing: Timing) -> Result<u8, Stop> {
+fn cover_in(rt: &HostRuntime, circuit: &Model, timing: Timing) -> Result<u8, ExitError> {
     let depth = timing.search.depth;
     match verdict_behind(rt, circuit, timing)? {
         Verdict::Unsafe(
@@ -78,7 +78,7 @@ fn cover_in(rt: &HostRuntime, circuit: &Model, timing: Timing) -> Result<u8, Sto
 }
 
 /// Prints a run of the circuit in the file of this name that keeps the constraints, as long as the search is deep.
-pub fn cover(rt: &HostRuntime, name: &str, search: Search) -> Result<u8, Stop> {
+pub fn cover(rt: &HostRuntime, name: &str, search: Search) -> Result<u8, ExitError> {
     let timing = begin(rt, search)?;
     let file = circuit(rt, name)?;
     cover_in(rt, file.model(), timing)

@@ -6,7 +6,7 @@ ghost use Rattle.aigmc_commands.specs.Words.{checked_word, verdict_word};
 
 use crate::telling::{CountedWhy, Why, conclude, tell_counters};
 use aigmc_files::{
-    DONE, EvidenceFile, Stop, UNKNOWN, finished, keep, keep_and_print, make_bytes, print_alone,
+    DONE, EvidenceFile, ExitError, UNKNOWN, finished, keep, keep_and_print, make_bytes, print_alone,
     print_status, status_of,
 };
 use arguments::Search;
@@ -110,7 +110,7 @@ impl Found<'_> {
     }
 
     /// Prints what JSON says of it, and answers its status. It takes no memory.
-    fn print_line(self, rt: &HostRuntime) -> Result<u8, Stop>
+    fn print_line(self, rt: &HostRuntime) -> Result<u8, ExitError>
         ensures { IfOk result (λ status. status ≡ status_in self.entry.conclusion.now) }
     {
         let line = Line {
@@ -152,7 +152,7 @@ impl Found<'_> {
     }
 
     /// Makes the file of the evidence, where one is named.
-    fn keep(self, rt: &HostRuntime) -> Result<(), Stop> {
+    fn keep(self, rt: &HostRuntime) -> Result<(), ExitError> {
         let Some(to) = self.evidence else {
             return Ok(());
         };
@@ -166,7 +166,7 @@ impl Found<'_> {
     }
 
     /// Prints the verdict without a run. It takes no memory.
-    fn print_short(self, rt: &HostRuntime) -> Result<u8, Stop>
+    fn print_short(self, rt: &HostRuntime) -> Result<u8, ExitError>
         ensures { IfOk result (λ status. status ≡ status_in self.entry.conclusion.now) }
     {
         match self.conclusion {
@@ -177,7 +177,7 @@ impl Found<'_> {
 
     /// Makes the file of the evidence, where there is to be one, and prints the verdict alone or as JSON. Once there is that
     /// file, nothing takes memory.
-    fn keep_and_print_short(self, rt: &HostRuntime) -> Result<u8, Stop>
+    fn keep_and_print_short(self, rt: &HostRuntime) -> Result<u8, ExitError>
         ensures { IfOk result (λ status. status ≡ status_in self.entry.conclusion.now) }
     {
         self.keep(rt)?;
@@ -189,7 +189,7 @@ impl Found<'_> {
     }
 
     /// Makes the file of the evidence, where one is named, and prints the verdict as it is asked for.
-    fn keep_and_print(self, rt: &HostRuntime) -> Result<u8, Stop>
+    fn keep_and_print(self, rt: &HostRuntime) -> Result<u8, ExitError>
         ensures { IfOk result (λ status. status ≡ status_in self.entry.conclusion.now) }
     {
         match self.conclusion {
@@ -202,7 +202,7 @@ impl Found<'_> {
 
     /// Makes the file of the evidence, where there is to be one, prints the verdict, and answers its status. Standard error says what
     /// was found where that is asked for.
-    pub fn show(self, rt: &HostRuntime) -> Result<u8, Stop>
+    pub fn show(self, rt: &HostRuntime) -> Result<u8, ExitError>
         ensures { IfOk result (λ status. status ≡ status_in self.entry.conclusion.now) }
     {
         let status = self.keep_and_print(rt)?;

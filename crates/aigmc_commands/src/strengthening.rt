@@ -3,7 +3,7 @@
 use crate::telling::conclude;
 use crate::timing::{ask, begin};
 use aigmc_certificates::{Adopted, NO_INVARIANT};
-use aigmc_files::{DONE, EvidenceFile, Role, Stop, UNKNOWN, about, keep};
+use aigmc_files::{DONE, EvidenceFile, Role, ExitError, UNKNOWN, about, keep};
 use arguments::{Claim, EngineKind, Search};
 use base::Seq;
 use graph::{AigerFile, Lit, Property};
@@ -32,7 +32,7 @@ fn keep_safe(
     out: &str,
     property: Property,
     verdict: &Verdict,
-) -> Result<u8, Stop> {
+) -> Result<u8, ExitError> {
     match verdict {
         Verdict::Safe(_) => {
             keep(rt, EvidenceFile::plain(out), property, verdict)?;
@@ -56,7 +56,7 @@ fn strengthened(
     property: Property,
     file: &AigerFile,
     clauses: Seq<Seq<Lit>>,
-) -> Result<u8, Stop> {
+) -> Result<u8, ExitError> {
     let timing = begin(rt, search_for(asked))?;
     let question = Question {
         circuit: file.model(),
@@ -72,7 +72,7 @@ fn strengthened(
 }
 
 /// Makes a certificate of the clauses in a file, in the file of that name.
-pub fn certify_clauses(rt: &HostRuntime, asked: Claim<'_>) -> Result<u8, Stop> {
+pub fn certify_clauses(rt: &HostRuntime, asked: Claim<'_>) -> Result<u8, ExitError> {
     match aigmc_certificates::certify_clauses(rt, asked)? {
         Adopted::Ended(status) => Ok(status),
         Adopted::Strengthen {

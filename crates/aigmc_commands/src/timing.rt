@@ -1,7 +1,7 @@
 //! How a command looks at a question.
 
 use crate::vacuity;
-use aigmc_files::{CommandError, Role, Stop, about, finished, is_terminal};
+use aigmc_files::{CommandError, Role, ExitError, about, finished, is_terminal};
 use arguments::Search;
 use base::Seq;
 use graph::{Lit, Model};
@@ -21,7 +21,7 @@ fn shown_of(rt: &HostRuntime, search: Search) -> Shown {
 }
 
 /// This search, whose time begins now.
-pub fn begin(rt: &HostRuntime, search: Search) -> Result<Timing, Stop> {
+pub fn begin(rt: &HostRuntime, search: Search) -> Result<Timing, ExitError> {
     let deadline = finished(Deadline::after(rt, search.timeout))?;
     Ok(Timing {
         search,
@@ -35,7 +35,7 @@ pub fn ask(
     rt: &HostRuntime,
     question: Question<'_>,
     candidates: Seq<Seq<Lit>>,
-) -> Result<Answered, Stop> {
+) -> Result<Answered, ExitError> {
     let answered = question.ask(rt, candidates).map_err(CommandError::from)?;
     Ok(answered)
 }
@@ -51,7 +51,7 @@ pub fn now(rt: &HostRuntime, timing: Timing) -> Option<Instant> {
 
 /// Whether it is shown that no run keeps the constraints, where anything is said of the search: standard error says so
 /// too, but where only JSON does.
-pub fn is_vacuous(rt: &HostRuntime, timing: Timing, circuit: &Model) -> Result<bool, Stop> {
+pub fn is_vacuous(rt: &HostRuntime, timing: Timing, circuit: &Model) -> Result<bool, ExitError> {
     let is_told = timing.shown != Shown::Nothing;
     if !is_told && !timing.search.json {
         return Ok(false);

@@ -1,7 +1,7 @@
 //! What a certificate of any version claims.
 
 use crate::files::read_text;
-use crate::stop::{Role, Stop, about, read_of};
+use crate::exit_error::{Role, ExitError, about, read_of};
 use base::{FromBytes, Lists, Refused, Seq};
 use certificate::{Reader, ReaderError, read_clauses};
 use certificate3::{
@@ -26,8 +26,8 @@ pub struct Claimed {
 }
 
 /// The fault of a text that is refused.
-pub fn refused_text(error: ReaderError) -> Stop {
-    Stop::Fault {
+pub fn refused_text(error: ReaderError) -> ExitError {
+    ExitError::Fault {
         number: error.number(),
         place: error.place(),
     }
@@ -43,7 +43,7 @@ pub fn listed(alloc: Global, clauses: &[Seq<Lit>]) -> Result<Lists<Lit>, Refused
 }
 
 /// What a certificate of version 1 or 2 claims. It adds no latches and no gates.
-fn earlier(alloc: Global, format: Format, text: &[u8]) -> Result<Claimed, Stop> {
+fn earlier(alloc: Global, format: Format, text: &[u8]) -> Result<Claimed, ExitError> {
     let found = match certificate::read(alloc, text) {
         Ok(certificate) => certificate,
         Err(error) => return Err(refused_text(ReaderError::from(error))),
@@ -94,7 +94,7 @@ fn third(
 }
 
 /// What the text of a certificate claims.
-fn read_claimed(alloc: Global, text: &[u8]) -> Result<Claimed, Stop> {
+fn read_claimed(alloc: Global, text: &[u8]) -> Result<Claimed, ExitError> {
     let mut reader = Reader::new(alloc)?;
     let mut from = FromBytes::new(text);
     match reader.line::<AnyFirstLine, FromBytes<'_>>(alloc, (), &mut from) {
@@ -106,7 +106,7 @@ fn read_claimed(alloc: Global, text: &[u8]) -> Result<Claimed, Stop> {
 
 /// The text of the certificate in the file of this name, and what it claims. That it is accepted for a circuit is another
 /// question.
-pub fn claimed_in(rt: &HostRuntime, name: &str) -> Result<(Vec<u8>, Claimed), Stop> {
+pub fn claimed_in(rt: &HostRuntime, name: &str) -> Result<(Vec<u8>, Claimed), ExitError> {
     let text = read_of(Role::Invariant, read_text(rt, name))?;
     let claimed = about(Role::Invariant, read_claimed(rt.alloc(), text.as_slice()))?;
     Ok((text, claimed))

@@ -6,7 +6,7 @@ ghost use Rattle.verdict.specs.Verdicts.{status_of as wanted_status};
 use crate::command_error::CommandError;
 use crate::fitted::EvidenceFile;
 use crate::making::{Making, is_same};
-use crate::stop::{DONE, Role, Stop, about, at, finished, read_of};
+use crate::exit_error::{DONE, Role, ExitError, about, at, finished, read_of};
 use aiger::{Layout, load, put_file};
 use base::{FromRead, ReadAllError, Refused, Seq, ToWrite, buffered, read_all};
 use graph::{AigerFile, Model, Property};
@@ -47,13 +47,13 @@ pub fn is_taken(rt: &HostRuntime, circuit: &str, out: &str) -> bool {
 }
 
 /// The text of the file of this name, read whole: a stimulus, or clauses.
-pub fn read_text(rt: &HostRuntime, name: &str) -> Result<Vec<u8>, Stop> {
+pub fn read_text(rt: &HostRuntime, name: &str) -> Result<Vec<u8>, ExitError> {
     let file = finished(open(rt, name))?;
     match read_all(rt.alloc(), &mut FromRead::new(file), MOST) {
         Ok(text) => Ok(text),
-        Err(ReadAllError::OutOfMemory(refused)) => Err(Stop::from(refused)),
-        Err(ReadAllError::Device) => Err(Stop::Refused(CommandError::Device)),
-        Err(ReadAllError::TooLong) => Err(Stop::Fault {
+        Err(ReadAllError::OutOfMemory(refused)) => Err(ExitError::from(refused)),
+        Err(ReadAllError::Device) => Err(ExitError::Refused(CommandError::Device)),
+        Err(ReadAllError::TooLong) => Err(ExitError::Fault {
             number: TOO_LONG,
             place: MOST as u64,
         }),
@@ -61,31 +61,31 @@ pub fn read_text(rt: &HostRuntime, name: &str) -> Result<Vec<u8>, Stop> {
 }
 
 /// The circuit that the file of this name spells.
-fn read_circuit(rt: &HostRuntime, name: &str) -> Result<AigerFile, Stop> {
+fn read_circuit(rt: &HostRuntime, name: &str) -> Result<AigerFile, ExitError> {
     let file = finished(open(rt, name))?;
     let file = load(rt.alloc(), &mut FromRead::new(file)).map_err(CommandError::Load)?;
     Ok(file)
 }
 
 /// The circuit in the file of this name and role.
-pub fn circuit_of(rt: &HostRuntime, name: &str, role: Role) -> Result<AigerFile, Stop> {
+pub fn circuit_of(rt: &HostRuntime, name: &str, role: Role) -> Result<AigerFile, ExitError> {
     read_of(role, read_circuit(rt, name))
 }
 
 /// The circuit's file of this name.
-pub fn circuit(rt: &HostRuntime, name: &str) -> Result<AigerFile, Stop> {
+pub fn circuit(rt: &HostRuntime, name: &str) -> Result<AigerFile, ExitError> {
     circuit_of(rt, name, Role::Circuit)
 }
 
 /// The stimulus that the file of this name spells.
-fn read_stimulus(rt: &HostRuntime, name: &str) -> Result<Stimulus, Stop> {
+fn read_stimulus(rt: &HostRuntime, name: &str) -> Result<Stimulus, ExitError> {
     let text = read_text(rt, name)?;
     let stimulus = stimulus::read(rt.alloc(), text.as_slice()).map_err(CommandError::Stimulus)?;
     Ok(stimulus)
 }
 
 /// The stimulus in the file of this name.
-pub fn stimulus_of(rt: &HostRuntime, name: &str) -> Result<Stimulus, Stop> {
+pub fn stimulus_of(rt: &HostRuntime, name: &str) -> Result<Stimulus, ExitError> {
     read_of(Role::Stimulus, read_stimulus(rt, name))
 }
 
@@ -122,19 +122,19 @@ fn open_of(rt: &HostRuntime, circuit: &Model, text: &[u8]) -> Result<Option<Loos
 }
 
 /// What a trace shows of the file of this name. The refusal of a text is that of a stimulus.
-fn read_shown(rt: &HostRuntime, name: &str, circuit: &Model) -> Result<Shown, Stop> {
+fn read_shown(rt: &HostRuntime, name: &str, circuit: &Model) -> Result<Shown, ExitError> {
     let text = read_text(rt, name)?;
     match stimulus::read(rt.alloc(), text.as_slice()) {
         Ok(stimulus) => Ok(Shown::Whole(stimulus)),
         Err(error) => match open_of(rt, circuit, text.as_slice())? {
             Some(loose) => Ok(Shown::Open(loose)),
-            None => Err(Stop::from(CommandError::Stimulus(error))),
+            None => Err(ExitError::from(CommandError::Stimulus(error))),
         },
     }
 }
 
 /// What a trace shows of the file of this name.
-pub fn shown_of(rt: &HostRuntime, name: &str, circuit: &Model) -> Result<Shown, Stop> {
+pub fn shown_of(rt: &HostRuntime, name: &str, circuit: &Model) -> Result<Shown, ExitError> {
     read_of(Role::Stimulus, read_shown(rt, name, circuit))
 }
 
@@ -150,8 +150,8 @@ fn parts_of(loose: &Loose) -> (&[Option<bool>], &[Seq<Option<bool>>]) {
 /// more is written: what the buffer still has is dropped.
 fn settled<W: Write + Drop, T: Drop>(
     out: ToWrite<BufWriter<W>>,
-    put: Result<T, Stop>,
-) -> Result<T, Stop>
+    put: Result<T, ExitError>,
+) -> Result<T, ExitError>
     ensures { IfOk result (λ value. put ≡ Ok value) }
 {
     let mut out = out.into_inner();
@@ -171,15 +171,15 @@ fn write_circuit<W: Write + Drop>(
     out: W,
     file: &AigerFile,
     layout: Layout,
-) -> Result<(), Stop> {
+) -> Result<(), ExitError> {
     let out = buffered(rt.alloc(), out)?;
     let mut out = ToWrite::new(out);
     let put = put_file(file, layout, &mut out).map_err(CommandError::from);
-    settled(out, put.map_err(Stop::from))
+    settled(out, put.map_err(ExitError::from))
 }
 
 /// Makes the file of this name with the circuit's text.
-pub fn make(rt: &HostRuntime, name: &str, file: &AigerFile, layout: Layout) -> Result<(), Stop> {
+pub fn make(rt: &HostRuntime, name: &str, file: &AigerFile, layout: Layout) -> Result<(), ExitError> {
     if is_standard(name) {
         return write_circuit(rt, io::writer(rt), file, layout);
     }
@@ -194,7 +194,7 @@ fn write_evidence(
     out: File,
     property: Property,
     verdict: &Verdict,
-) -> Result<(), Stop> {
+) -> Result<(), ExitError> {
     let out = buffered(rt.alloc(), out)?;
     let mut out = ToWrite::new(out);
     let put = match verdict {
@@ -205,7 +205,7 @@ fn write_evidence(
             .map(|_| ())
             .map_err(CommandError::from),
     };
-    settled(out, put.map_err(Stop::from))
+    settled(out, put.map_err(ExitError::from))
 }
 
 /// Makes the file with a verdict's evidence, or with the witness circuit that it is to get.
@@ -214,7 +214,7 @@ pub fn keep(
     to: EvidenceFile<'_>,
     property: Property,
     verdict: &Verdict,
-) -> Result<(), Stop> {
+) -> Result<(), ExitError> {
     if let Some(witness) = to.witness {
         return make(rt, to.name, &witness.file, witness.layout);
     }
@@ -224,38 +224,38 @@ pub fn keep(
 }
 
 /// Writes the stimulus's text.
-fn write_stimulus<W: Write + Drop>(rt: &HostRuntime, out: W, shown: &Stimulus) -> Result<(), Stop> {
+fn write_stimulus<W: Write + Drop>(rt: &HostRuntime, out: W, shown: &Stimulus) -> Result<(), ExitError> {
     let out = buffered(rt.alloc(), out)?;
     let mut out = ToWrite::new(out);
     let put = stimulus::write(shown, &mut out).map_err(|_| CommandError::Device);
-    settled(out, put.map_err(Stop::from))
+    settled(out, put.map_err(ExitError::from))
 }
 
 /// Prints the stimulus's text.
-pub fn print_stimulus(rt: &HostRuntime, shown: &Stimulus) -> Result<(), Stop> {
+pub fn print_stimulus(rt: &HostRuntime, shown: &Stimulus) -> Result<(), ExitError> {
     write_stimulus(rt, io::writer(rt), shown)
 }
 
 /// Makes the file of this name with the stimulus's text.
-pub fn make_stimulus(rt: &HostRuntime, name: &str, shown: &Stimulus) -> Result<(), Stop> {
+pub fn make_stimulus(rt: &HostRuntime, name: &str, shown: &Stimulus) -> Result<(), ExitError> {
     let (making, out) = at(Role::Made, Making::begin(rt, name))?;
     let written = write_stimulus(rt, out, shown);
     at(Role::Made, making.end(rt, written))
 }
 
 /// Makes the file of this name with these bytes.
-pub fn make_bytes(rt: &HostRuntime, name: &str, bytes: &[u8]) -> Result<(), Stop> {
+pub fn make_bytes(rt: &HostRuntime, name: &str, bytes: &[u8]) -> Result<(), ExitError> {
     let (making, mut out) = at(Role::Made, Making::begin(rt, name))?;
     let written = finished(out.write_all(bytes));
     at(Role::Made, making.end(rt, written))
 }
 
 /// Prints the values in the replay of a stimulus.
-pub fn print_table(rt: &HostRuntime, file: &AigerFile, stimulus: &Stimulus) -> Result<(), Stop> {
+pub fn print_table(rt: &HostRuntime, file: &AigerFile, stimulus: &Stimulus) -> Result<(), ExitError> {
     let out = buffered(rt.alloc(), io::writer(rt))?;
     let mut out = ToWrite::new(out);
     let put = put_table(rt.alloc(), file.model(), stimulus, &mut out).map_err(CommandError::from);
-    settled(out, about(Role::Stimulus, put.map_err(Stop::from)))
+    settled(out, about(Role::Stimulus, put.map_err(ExitError::from)))
 }
 
 /// Prints a trace by the names of the signals.
@@ -264,7 +264,7 @@ pub fn print_trace(
     file: &AigerFile,
     shown: &Shown,
     all: bool,
-) -> Result<(), Stop> {
+) -> Result<(), ExitError> {
     let out = buffered(rt.alloc(), io::writer(rt))?;
     let mut out = ToWrite::new(out);
     let put = match shown {
@@ -275,7 +275,7 @@ pub fn print_trace(
         }
     };
     let put = put.map_err(CommandError::from);
-    settled(out, about(Role::Stimulus, put.map_err(Stop::from)))
+    settled(out, about(Role::Stimulus, put.map_err(ExitError::from)))
 }
 
 /// Writes the waveform of a trace.
@@ -285,7 +285,7 @@ fn write_waveform<W: Write + Drop>(
     file: &AigerFile,
     shown: &Shown,
     all: bool,
-) -> Result<(), Stop> {
+) -> Result<(), ExitError> {
     let out = buffered(rt.alloc(), out)?;
     let mut out = ToWrite::new(out);
     let put = match shown {
@@ -296,7 +296,7 @@ fn write_waveform<W: Write + Drop>(
         }
     };
     let put = put.map_err(CommandError::from);
-    settled(out, about(Role::Stimulus, put.map_err(Stop::from)))
+    settled(out, about(Role::Stimulus, put.map_err(ExitError::from)))
 }
 
 /// Makes the file of this name with the waveform of a trace.
@@ -306,7 +306,7 @@ pub fn make_waveform(
     file: &AigerFile,
     shown: &Shown,
     all: bool,
-) -> Result<(), Stop> {
+) -> Result<(), ExitError> {
     if is_standard(name) {
         return write_waveform(rt, io::writer(rt), file, shown, all);
     }
@@ -333,7 +333,7 @@ pub fn keep_and_print(
     to: Option<EvidenceFile<'_>>,
     property: Property,
     verdict: &Verdict,
-) -> Result<u8, Stop>
+) -> Result<u8, ExitError>
     ensures { IfOk result (λ status. status ≡ wanted_status verdict.now) }
 {
     let out = buffered(rt.alloc(), io::writer(rt))?;
@@ -343,7 +343,7 @@ pub fn keep_and_print(
         None => Ok(()),
     };
     let put = match kept {
-        Ok(()) => show(property, verdict, &mut out).map_err(|_| Stop::Refused(
+        Ok(()) => show(property, verdict, &mut out).map_err(|_| ExitError::Refused(
             CommandError::Device,
         )),
         Err(stop) => Err(stop),
@@ -352,14 +352,14 @@ pub fn keep_and_print(
 }
 
 /// Prints a verdict without a run, and answers its status. It takes no memory.
-pub fn print_alone(rt: &HostRuntime, property: Property, verdict: &Verdict) -> Result<u8, Stop>
+pub fn print_alone(rt: &HostRuntime, property: Property, verdict: &Verdict) -> Result<u8, ExitError>
     ensures { IfOk result (λ status. status ≡ wanted_status verdict.now) }
 {
     print_status(rt, property, status_of(verdict))
 }
 
 /// Prints the status of a property without a run, and answers it. It takes no memory.
-pub fn print_status(rt: &HostRuntime, property: Property, status: u8) -> Result<u8, Stop>
+pub fn print_status(rt: &HostRuntime, property: Property, status: u8) -> Result<u8, ExitError>
     ensures { IfOk result (λ printed. printed ≡ status) }
 {
     finished(println!(rt; "{status}\n{}\n.", Name(property)))?;

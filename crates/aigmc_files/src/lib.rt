@@ -11,7 +11,7 @@ mod fitted;
 mod making;
 mod missing;
 mod naming;
-mod stop;
+mod exit_error;
 mod terminal;
 mod witnessing;
 
@@ -26,8 +26,8 @@ pub use fitted::{EvidenceFile, Fitted};
 pub use making::{expect_folder, is_same};
 pub use missing::fault_of;
 pub use naming::{asked_for, property_in};
-pub use stop::{
-    DEVICE, DONE, FAULT, Has, NO_HEADER, NO_PROPERTY, Role, Stop, about, at, finished, read_of,
+pub use exit_error::{
+    DEVICE, DONE, FAULT, Has, NO_HEADER, NO_PROPERTY, Role, ExitError, about, at, finished, read_of,
     tell,
 };
 pub use terminal::is_terminal;

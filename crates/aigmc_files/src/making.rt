@@ -1,7 +1,7 @@
 //! Files that are made whole or not at all.
 
 use crate::command_error::CommandError;
-use crate::stop::{Stop, finished};
+use crate::exit_error::{ExitError, finished};
 use std::fs;
 use std::fs::{File, OpenOptions, Permissions};
 use std::io::ErrorKind;
@@ -34,7 +34,7 @@ fn is_special(rt: &HostRuntime, name: &str) -> bool {
 }
 
 /// Gives the file the mode of the one whose name it is to have, where there is one.
-fn keep_mode(rt: &HostRuntime, name: &str, file: &File) -> Result<(), Stop> {
+fn keep_mode(rt: &HostRuntime, name: &str, file: &File) -> Result<(), ExitError> {
     match fs::metadata(rt, name) {
         Ok(old) => {
             let mode = old.permissions().mode() & PERMISSIONS;
@@ -55,16 +55,16 @@ pub fn is_same(rt: &HostRuntime, one: &str, other: &str) -> bool {
 }
 
 /// Refuses a name that is of no folder.
-pub fn expect_folder(rt: &HostRuntime, name: &str) -> Result<(), Stop> {
+pub fn expect_folder(rt: &HostRuntime, name: &str) -> Result<(), ExitError> {
     if finished(fs::metadata(rt, name))?.is_dir() {
         return Ok(());
     }
-    Err(Stop::Refused(CommandError::Device))
+    Err(ExitError::Refused(CommandError::Device))
 }
 
 impl<'a> Making<'a> {
     /// The file to write to. It is a new one, but for a device or a pipe.
-    pub fn begin(rt: &HostRuntime, name: &'a str) -> Result<(Making<'a>, File), Stop> {
+    pub fn begin(rt: &HostRuntime, name: &'a str) -> Result<(Making<'a>, File), ExitError> {
         if is_special(rt, name) {
             let file = finished(File::create(rt, name))?;
             return Ok((Making { name, beside: None }, file));
@@ -83,7 +83,7 @@ impl<'a> Making<'a> {
                 }
             }
         }
-        Err(Stop::Refused(CommandError::Device))
+        Err(ExitError::Refused(CommandError::Device))
     }
 
     /// The file beside, which has the mode of the old one from now on.
@@ -92,7 +92,7 @@ impl<'a> Making<'a> {
         name: &'a str,
         beside: String,
         file: File,
-    ) -> Result<(Making<'a>, File), Stop> {
+    ) -> Result<(Making<'a>, File), ExitError> {
         let kept = keep_mode(rt, name, &file);
         let making = Making {
             name,
@@ -108,7 +108,7 @@ impl<'a> Making<'a> {
     }
 
     /// Gives what was written its name, where all was written; else takes it away.
-    pub fn end(self, rt: &HostRuntime, written: Result<(), Stop>) -> Result<(), Stop> {
+    pub fn end(self, rt: &HostRuntime, written: Result<(), ExitError>) -> Result<(), ExitError> {
         let Making { name, beside } = self;
         let Some(beside) = beside else {
             return written;
@@ -141,10 +141,10 @@ fn kept_length(name: &str) -> usize {
 }
 
 /// A name beside this one.
-fn beside(rt: &HostRuntime, name: &str, number: u32) -> Result<String, Stop> {
+fn beside(rt: &HostRuntime, name: &str, number: u32) -> Result<String, ExitError> {
     let kept = name.get(..kept_length(name)).unwrap_or(name);
     match format!(in rt.alloc(); "{kept}.part{number}") {
         Ok(beside) => Ok(beside),
-        Err(_) => Err(Stop::Memory),
+        Err(_) => Err(ExitError::Memory),
     }
 }

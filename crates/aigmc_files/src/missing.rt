@@ -1,12 +1,12 @@
 //! The fault of a property that a circuit does not have.
 
-use crate::stop::{Has, NO_PROPERTY, Stop};
+use crate::exit_error::{Has, NO_PROPERTY, ExitError};
 use graph::{Model, Property};
 use properties::all_properties;
 use std::alloc::Global;
 
 /// The properties that a circuit has.
-fn properties_of(alloc: Global, circuit: &Model) -> Result<Has, Stop> {
+fn properties_of(alloc: Global, circuit: &Model) -> Result<Has, ExitError> {
     let properties = all_properties(alloc, circuit)?;
     let mut has = Has {
         bad: 0,
@@ -24,15 +24,15 @@ fn properties_of(alloc: Global, circuit: &Model) -> Result<Has, Stop> {
 }
 
 /// The fault of a search, with the properties that the circuit has where there is no such one.
-pub fn fault_of(alloc: Global, circuit: &Model, property: Property, stop: Stop) -> Stop {
-    let Stop::At { number, place, .. } = stop else {
+pub fn fault_of(alloc: Global, circuit: &Model, property: Property, stop: ExitError) -> ExitError {
+    let ExitError::At { number, place, .. } = stop else {
         return stop;
     };
     if number != NO_PROPERTY {
         return stop;
     }
     match properties_of(alloc, circuit) {
-        Ok(has) => Stop::NoProperty {
+        Ok(has) => ExitError::NoProperty {
             property,
             place,
             has,

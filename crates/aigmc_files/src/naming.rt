@@ -3,17 +3,17 @@
 ghost use Rattle.std.specs.Prelude.{IfOk};
 ghost use Rattle.property_names.specs.Symbols.{IsAskedBy, IsAskedFor};
 
-use crate::stop::Stop;
+use crate::exit_error::ExitError;
 use crate::terminal::is_terminal;
 use explanations::Printable;
 use graph::{AigerFile, Property};
 use property_names::{Asked, Listing, asked_by, property_called};
 
 /// What the word asks for.
-pub fn asked_for(word: &str) -> Result<Asked<'_>, Stop>
+pub fn asked_for(word: &str) -> Result<Asked<'_>, ExitError>
     ensures { IfOk result (IsAskedBy word.now) }
 {
-    asked_by(word).ok_or(Stop::BadArgument)
+    asked_by(word).ok_or(ExitError::BadArgument)
 }
 
 /// The property that is asked for, of the circuit in the file of this name. Where none, or more than one, has the name
@@ -24,7 +24,7 @@ pub fn property_in(
     file: &AigerFile,
     asked: Asked<'_>,
     verbose: bool,
-) -> Result<Property, Stop>
+) -> Result<Property, ExitError>
     ensures { IfOk result (IsAskedFor file.now.symbols asked.entry) }
 {
     let word = match asked {
@@ -39,8 +39,8 @@ pub fn property_in(
                 "aigmc: bad argument\n  {circuit}: {why} {called}{}",
                 Listing(file)
             );
-            Err(Stop::Told)
+            Err(ExitError::Told)
         }
-        Err(_) => Err(Stop::BadArgument),
+        Err(_) => Err(ExitError::BadArgument),
     }
 }

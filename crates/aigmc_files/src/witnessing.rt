@@ -3,7 +3,7 @@
 use crate::claimed::listed;
 use crate::files::is_taken;
 use crate::fitted::Fitted;
-use crate::stop::{Role, Stop, about};
+use crate::exit_error::{Role, ExitError, about};
 use aiger::Layout;
 use base::{Lists, Seq};
 use graph::{Gate, Latch, Lit, Model, Property};
@@ -11,21 +11,21 @@ use std::alloc::Global;
 use witness_circuits::witness_of;
 
 /// Refuses a justice property.
-pub fn expect_safety(rt: &HostRuntime, property: Property) -> Result<(), Stop> {
+pub fn expect_safety(rt: &HostRuntime, property: Property) -> Result<(), ExitError> {
     if !matches!(property, Property::Justice(_)) {
         return Ok(());
     }
     let _ = eprintln!(rt; "aigmc: there are no witness circuits of justice properties");
-    Err(Stop::Told)
+    Err(ExitError::Told)
 }
 
 /// Refuses a file for a witness circuit whose name asks for no layout, or that is taken.
-pub fn expect_witness_file(rt: &HostRuntime, circuit: &str, out: &str) -> Result<(), Stop> {
+pub fn expect_witness_file(rt: &HostRuntime, circuit: &str, out: &str) -> Result<(), ExitError> {
     if Layout::of_name(out).is_none() {
-        return Err(Stop::BadArgument);
+        return Err(ExitError::BadArgument);
     }
     if is_taken(rt, circuit, out) {
-        return Err(Stop::Taken);
+        return Err(ExitError::Taken);
     }
     Ok(())
 }
@@ -39,9 +39,9 @@ pub fn fitted_witness(
     gates: &[Gate],
     invariant: &Lists<Lit>,
     layout: Layout,
-) -> Result<Fitted, Stop> {
+) -> Result<Fitted, ExitError> {
     let witness = witness_of(alloc, circuit, property, latches, gates, invariant);
-    let witness = about(Role::Circuit, witness.map_err(Stop::from))?;
+    let witness = about(Role::Circuit, witness.map_err(ExitError::from))?;
     let fitted = Fitted::of(alloc, witness, layout)?;
     Ok(fitted)
 }
@@ -53,8 +53,8 @@ pub fn witness_in(
     property: Property,
     clauses: &[Seq<Lit>],
     out: &str,
-) -> Result<Fitted, Stop> {
-    let layout = Layout::of_name(out).ok_or(Stop::BadArgument)?;
+) -> Result<Fitted, ExitError> {
+    let layout = Layout::of_name(out).ok_or(ExitError::BadArgument)?;
     let invariant = listed(alloc, clauses)?;
     fitted_witness(alloc, circuit, property, &[], &[], &invariant, layout)
 }

@@ -10,10 +10,10 @@ mod layouts;
 mod request;
 mod witnessing;
 mod words;
-mod wrong;
+mod usage_error;
 
 pub use adopting::{Adoption, Claim, Extraction, Recertification, Shadow, WitnessCircuit};
 pub use layouts::AskedLayout;
 pub use request::{Asked, EngineKind, Kept, Request, Search, parse};
 pub use witnessing::Counterexample;
-pub use wrong::Wrong;
+pub use usage_error::UsageError;

@@ -14,7 +14,7 @@ use crate::grammar::command;
 use crate::layouts::{AskedLayout, asked_layout};
 use crate::witnessing::{Counterexample, asked_witness};
 use crate::words::{STEPS, word};
-use crate::wrong::Wrong;
+use crate::usage_error::UsageError;
 use clap::ArgMatches;
 use std::alloc::Global;
 
@@ -381,7 +381,7 @@ fn asked_of<'a>(name: &str, words: &ArgMatches<'a>) -> Option<Request<'a>> {
 
 /// What a command line's words ask for, of which the first is the program's name. There is nothing
 /// where they name no command.
-pub fn parse<'a>(alloc: Global, words: &'a [String]) -> Result<Option<Asked<'a>>, Wrong> {
+pub fn parse<'a>(alloc: Global, words: &'a [String]) -> Result<Option<Asked<'a>>, UsageError> {
     let matches = command(alloc)?.try_get_matches_from(words)?;
     let Some((name, words)) = matches.subcommand() else {
         return Ok(None);

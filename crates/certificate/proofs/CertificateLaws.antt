@@ -19,7 +19,7 @@ use Rattle.graph.specs.declared.circuit.Property.{Property}
 use Rattle.lrat.specs.declared.line.Line.{Line}
 use Rattle.certificate.specs.declared.certificate.Certificate.{Certificate}
 use Rattle.certificate.specs.declared.cert_error.CertError.TheVariants.{OutOfMemory}
-use Rattle.certificate.specs.declared.refusal.Refusal.{Refusal}
+use Rattle.certificate.specs.declared.cert_fault.CertFault.{CertFault}
 use Rattle.certificate.specs.Reading.{greatest, certificate_at}
 use Rattle.certificate.specs.Refusals.{error_of}
 use Rattle.certificate.specs.Texts.{clause_line, first_line, lemma_text, sections_text, SpellsCertificate}
@@ -142,6 +142,6 @@ pub one_certificate : (text : List ℕ) (c d : Certificate) → SpellsCertificat
 one_certificate text c d s r = spells_one certificate_reads text c d s r
 
 -- where a certificate is spelled, only out of memory is reported
-pub refused_for_memory : (n : ℕ) (e : Fault Refusal) (c : Certificate) (read : Option Certificate) → Fails e read → read ≡ Some c → error_of n e ≡ OutOfMemory witness
+pub refused_for_memory : (n : ℕ) (e : Fault CertFault) (c : Certificate) (read : Option Certificate) → Fails e read → read ≡ Some c → error_of n e ≡ OutOfMemory witness
 refused_for_memory n (Memory refused) c read f s = refl
 refused_for_memory n (Text kind left) c read f s = absurd (none-some c (sym f ∙ s))

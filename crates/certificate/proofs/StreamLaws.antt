@@ -18,8 +18,8 @@ use Rattle.certificate.specs.declared.reader_error.ReaderError.{ReaderError}
 use Rattle.certificate.specs.declared.reader_error.ReaderError.TheVariants.{Refused, Device}
 use Rattle.certificate.specs.declared.cert_error.CertError.{CertError}
 use Rattle.certificate.specs.declared.cert_error.CertError.TheVariants as text
-use Rattle.certificate.specs.declared.refusal.Refusal.{Refusal}
-use Rattle.certificate.specs.declared.refusal.Refusal.TheVariants as kind
+use Rattle.certificate.specs.declared.cert_fault.CertFault.{CertFault}
+use Rattle.certificate.specs.declared.cert_fault.CertFault.TheVariants as kind
 use Rattle.certificate.specs.Pieces.{IsOfPiece}
 use Rattle.certificate.specs.Refusals.{error_of}
 use Rattle.certificate.specs.declared.kinds.SectionKind.{SectionKind}
@@ -84,7 +84,7 @@ pub end_refused_again : (taken : List ℕ) (o : Option CertError) (e : CertError
 end_refused_again taken o e h ys is some = subst (λ (w : Held). ForText (Refused e) (end_at (w.held ++ ys) ≡ None)) (ap (held_of taken) (sym some) ∙ is) (end_again e ys)
 
 -- a text refusal is reported only of a text from which nothing is read
-pub for_text : (total : ℕ) (fault : Fault Refusal) (P : Type 0) {A : Type 0} (o : Option A) → (o ≡ None → P) → Fails fault o → ForText (Refused (error_of total fault)) P
+pub for_text : (total : ℕ) (fault : Fault CertFault) (P : Type 0) {A : Type 0} (o : Option A) → (o ≡ None → P) → Fails fault o → ForText (Refused (error_of total fault)) P
 for_text total (Memory refused) P o f none = tt
 for_text total (Text kind.Version left) P o f none = f none
 for_text total (Text kind.PropertyLine left) P o f none = f none

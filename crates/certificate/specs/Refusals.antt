@@ -9,11 +9,11 @@ use Rattle.pieces.specs.declared.pieces.PieceError.{PieceError}
 use Rattle.pieces.specs.declared.pieces.PieceError.TheVariants as piece
 use Rattle.certificate.specs.declared.reader_error.ReaderError.{ReaderError}
 use Rattle.certificate.specs.declared.reader_error.ReaderError.TheVariants.{Refused, Device}
-use Rattle.certificate.specs.declared.refusal.Refusal.{Refusal}
-use Rattle.certificate.specs.declared.refusal.Refusal.TheVariants.{Version, PropertyLine, Number, Section, Byte, Truncated}
+use Rattle.certificate.specs.declared.cert_fault.CertFault.{CertFault}
+use Rattle.certificate.specs.declared.cert_fault.CertFault.TheVariants.{Version, PropertyLine, Number, Section, Byte, Truncated}
 
 -- a refusal at a byte
-abbrev pub at_byte : Refusal → ℕ → CertError
+abbrev pub at_byte : CertFault → ℕ → CertError
 at_byte Version p = error.Version p
 at_byte PropertyLine p = error.PropertyLine p
 at_byte Number p = error.Number p
@@ -22,7 +22,7 @@ at_byte Byte p = error.Byte p
 at_byte Truncated p = error.Truncated p
 
 -- the error that a fault is in a text of this length
-abbrev pub error_of : ℕ → Fault Refusal → CertError
+abbrev pub error_of : ℕ → Fault CertFault → CertError
 error_of length (Memory refused) = error.OutOfMemory witness
 error_of length (Text kind left) = at_byte kind (length - left)
 

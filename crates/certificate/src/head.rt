@@ -3,7 +3,7 @@
 ghost use Rattle.scan.specs.Reading.{Gives};
 ghost use Rattle.certificate.specs.Reading.{first_line_at, version_at, property_at, spaced_at, literals_at, clause_at};
 
-use crate::refusal::{IN_LINE, IN_PROPERTY, IN_VERSION, Refusal};
+use crate::cert_fault::{IN_LINE, IN_PROPERTY, IN_VERSION, CertFault};
 use base::Seq;
 use graph::{Lit, MOST_VARIABLES, Property};
 use scan::{Fault, LineKind, byte, field, lines_into, number, tag};
@@ -23,7 +23,7 @@ pub enum Version {
 
 /// The digit of the version, and what follows it.
 #[tactic(auto, unfolding(crate::specs::Reading::version_at))]
-fn version_digit(text: &[u8]) -> Result<(Version, &[u8]), Fault<Refusal>>
+fn version_digit(text: &[u8]) -> Result<(Version, &[u8]), Fault<CertFault>>
     ensures { Gives (λ x. (x.0, x.1.now)) result (version_at text.now) }
 {
     match text {
@@ -37,7 +37,7 @@ fn version_digit(text: &[u8]) -> Result<(Version, &[u8]), Fault<Refusal>>
 
 /// The version that the first line names, and what follows that line.
 #[tactic(auto, unfolding(crate::specs::Reading::first_line_at))]
-pub fn first_line(text: &[u8]) -> Result<(Version, &[u8]), Fault<Refusal>>
+pub fn first_line(text: &[u8]) -> Result<(Version, &[u8]), Fault<CertFault>>
     ensures { Gives (λ x. (x.0, x.1.now)) result (first_line_at text.now) }
 {
     let rest = tag(text, b"aigcert ", IN_VERSION)?;
@@ -48,7 +48,7 @@ pub fn first_line(text: &[u8]) -> Result<(Version, &[u8]), Fault<Refusal>>
 
 /// The property that the second line names, and what follows that line.
 #[tactic(auto, unfolding(crate::specs::Reading::property_at, crate::specs::Reading::bad_at, crate::specs::Reading::justice_at, crate::specs::Reading::output_at))]
-pub fn property(text: &[u8]) -> Result<(Property, &[u8]), Fault<Refusal>>
+pub fn property(text: &[u8]) -> Result<(Property, &[u8]), Fault<CertFault>>
     ensures { Gives (λ x. (x.0, x.1.now)) result (property_at text.now) }
 {
     match text {
@@ -76,14 +76,14 @@ impl LineKind for SpacedLiteral {
 
     type Context = ();
 
-    type Refusal = Refusal;
+    type Fault = CertFault;
 
     ghost allows = { λ _. Unit {0} };
 
     ghost at = { λ _ bytes. spaced_at bytes };
 
     #[tactic(auto, unfolding(crate::specs::Reading::spaced_at))]
-    fn line(_alloc: Global, text: &[u8], _context: ()) -> Result<(Lit, &[u8]), Fault<Refusal>> {
+    fn line(_alloc: Global, text: &[u8], _context: ()) -> Result<(Lit, &[u8]), Fault<CertFault>> {
         let rest = byte(text, b' ', IN_LINE)?;
         let (literal, rest) = number(rest, u32::MAX, IN_LINE)?;
         Ok((Lit(literal), rest))
@@ -98,7 +98,7 @@ fn literals_into<'t>(
     literals: &mut Vec<Lit>,
     count: u32,
     text: &'t [u8],
-) -> Result<&'t [u8], Fault<Refusal>>
+) -> Result<&'t [u8], Fault<CertFault>>
     ensures { Gives (λ x. (literals.new.items, x.now)) result (literals_at count text.now) }
 {
     let rest = lines_into::<SpacedLiteral>(alloc, literals, count, text, ())?;
@@ -113,7 +113,7 @@ pub fn clause_into<'t>(
     alloc: Global,
     clause: &mut Vec<Lit>,
     text: &'t [u8],
-) -> Result<&'t [u8], Fault<Refusal>>
+) -> Result<&'t [u8], Fault<CertFault>>
     ensures { Gives (λ x. (clause.new.items, x.now)) result (clause_at text.now) }
 {
     let (count, rest) = number(text, GREATEST, IN_LINE)?;
@@ -128,13 +128,13 @@ impl LineKind for ClauseLine {
 
     type Context = ();
 
-    type Refusal = Refusal;
+    type Fault = CertFault;
 
     ghost allows = { λ _. Unit {0} };
 
     ghost at = { λ _ bytes. clause_at bytes };
 
-    fn line(alloc: Global, text: &[u8], _context: ()) -> Result<(Seq<Lit>, &[u8]), Fault<Refusal>> {
+    fn line(alloc: Global, text: &[u8], _context: ()) -> Result<(Seq<Lit>, &[u8]), Fault<CertFault>> {
         let mut clause = Vec::new(alloc);
         let rest = clause_into(alloc, &mut clause, text)?;
         Ok((Seq::from_vec(clause), rest))

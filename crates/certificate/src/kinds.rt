@@ -6,7 +6,7 @@ ghost use Rattle.certificate.specs.Reading.{first_line_at, greatest, property_at
 ghost use Rattle.certificate.specs.Streams.{letter_at, letter_of};
 
 use crate::head::{GREATEST, Version, first_line, property};
-use crate::refusal::{IN_LETTER, IN_LINE, Refusal};
+use crate::cert_fault::{IN_LETTER, IN_LINE, CertFault};
 use graph::Property;
 use scan::{Fault, LineKind, byte, field};
 use std::alloc::Global;
@@ -46,13 +46,13 @@ impl LineKind for FirstLine {
 
     type Context = ();
 
-    type Refusal = Refusal;
+    type Fault = CertFault;
 
     ghost allows = { λ _. Unit {0} };
 
     ghost at = { λ _ bytes. first_line_at bytes };
 
-    fn line(_alloc: Global, text: &[u8], _context: ()) -> Result<(Version, &[u8]), Fault<Refusal>> {
+    fn line(_alloc: Global, text: &[u8], _context: ()) -> Result<(Version, &[u8]), Fault<CertFault>> {
         first_line(text)
     }
 }
@@ -65,7 +65,7 @@ impl LineKind for PropertyLine {
 
     type Context = ();
 
-    type Refusal = Refusal;
+    type Fault = CertFault;
 
     ghost allows = { λ _. Unit {0} };
 
@@ -75,7 +75,7 @@ impl LineKind for PropertyLine {
         _alloc: Global,
         text: &[u8],
         _context: (),
-    ) -> Result<(Property, &[u8]), Fault<Refusal>> {
+    ) -> Result<(Property, &[u8]), Fault<CertFault>> {
         property(text)
     }
 }
@@ -88,13 +88,13 @@ impl LineKind for CountLine {
 
     type Context = ();
 
-    type Refusal = Refusal;
+    type Fault = CertFault;
 
     ghost allows = { λ _. Unit {0} };
 
     ghost at = { λ _ bytes. field_at greatest any 10 bytes };
 
-    fn line(_alloc: Global, text: &[u8], _context: ()) -> Result<(u32, &[u8]), Fault<Refusal>> {
+    fn line(_alloc: Global, text: &[u8], _context: ()) -> Result<(u32, &[u8]), Fault<CertFault>> {
         field(text, GREATEST, b'\n', IN_LINE)
     }
 }
@@ -107,14 +107,14 @@ impl LineKind for LetterLine {
 
     type Context = SectionKind;
 
-    type Refusal = Refusal;
+    type Fault = CertFault;
 
     ghost allows = { λ _. Unit {0} };
 
     ghost at = { letter_at };
 
     #[tactic(auto, unfolding(crate::specs::Streams::letter_at))]
-    fn line(_alloc: Global, text: &[u8], kind: SectionKind) -> Result<((), &[u8]), Fault<Refusal>> {
+    fn line(_alloc: Global, text: &[u8], kind: SectionKind) -> Result<((), &[u8]), Fault<CertFault>> {
         let rest = byte(text, kind.letter(), IN_LETTER)?;
         let rest = byte(rest, b'\n', IN_LINE)?;
         Ok(((), rest))

@@ -15,7 +15,7 @@ use crate::cert_error::CertError;
 use crate::head::{Version, clause_into};
 use crate::kinds::{CountLine, FirstLine, LetterLine, PropertyLine, SectionKind};
 use crate::reader_error::ReaderError;
-use crate::refusal::{Refusal, error};
+use crate::cert_fault::{CertFault, error};
 use crate::sections::line_into;
 use base::{Refused, Source};
 use graph::{Lit, Property};
@@ -27,7 +27,7 @@ use std::marker::Model;
 
 /// Reads the next line, of a kind that is read from one piece.
 #[tactic(auto, using(crate::proofs::LineLaws::rest_within))]
-fn line_from<L: LineKind<Refusal = Refusal>, S: Source>(
+fn line_from<L: LineKind<Fault = CertFault>, S: Source>(
     alloc: Global,
     pieces: &mut Pieces,
     before: &mut usize,
@@ -249,7 +249,7 @@ impl Reader {
     }
 
     /// The next line, of a kind that is read from one piece.
-    pub fn line<L: LineKind<Refusal = Refusal>, S: Source>(
+    pub fn line<L: LineKind<Fault = CertFault>, S: Source>(
         &mut self,
         alloc: Global,
         context: L::Context,

@@ -9,7 +9,7 @@ ghost use Rattle.certificate.specs.declared.certificate.Certificate.{Certificate
 use crate::cert_error::CertError;
 use crate::certificate::Certificate;
 use crate::head::{ClauseLine, GREATEST, first_line, property};
-use crate::refusal::{IN_LINE, Refusal, error};
+use crate::cert_fault::{IN_LINE, CertFault, error};
 use crate::sections::{lemmas, sections};
 use base::Seq;
 use scan::{Fault, field, lines};
@@ -17,7 +17,7 @@ use std::alloc::Global;
 
 /// The certificate that the text begins with, and what follows it.
 #[tactic(auto, unfolding(crate::specs::Reading::certificate_at))]
-fn next_certificate(alloc: Global, text: &[u8]) -> Result<(Certificate, &[u8]), Fault<Refusal>>
+fn next_certificate(alloc: Global, text: &[u8]) -> Result<(Certificate, &[u8]), Fault<CertFault>>
     ensures { Gives (λ x. (x.0, x.1.now)) result (certificate_at text.now) }
 {
     let (version, rest) = first_line(text)?;
@@ -36,13 +36,13 @@ fn next_certificate(alloc: Global, text: &[u8]) -> Result<(Certificate, &[u8]), 
 }
 
 /// The certificate that the whole text is.
-fn only_certificate(alloc: Global, text: &[u8]) -> Result<Certificate, Fault<Refusal>>
+fn only_certificate(alloc: Global, text: &[u8]) -> Result<Certificate, Fault<CertFault>>
     ensures { Gives (λ x. x) result (ended (certificate_at text.now)) }
 {
     let (certificate, rest) = next_certificate(alloc, text)?;
     if !rest.is_empty() {
         return Err(Fault::Text {
-            kind: Refusal::Section,
+            kind: CertFault::Section,
             left: rest.len(),
         });
     }

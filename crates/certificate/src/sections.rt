@@ -6,7 +6,7 @@ ghost use Rattle.scan.specs.Lists.{items_at};
 ghost use Rattle.certificate.specs.Reading.{item_at, lemmas_at, line_where, section_at, sections_at};
 
 use crate::head::Version;
-use crate::refusal::{IN_LETTER, IN_LINE, Refusal};
+use crate::cert_fault::{IN_LETTER, IN_LINE, CertFault};
 use base::{Refused, Seq, push};
 use lrat::{Line, LineBuffer, Proof, next_line};
 use scan::{Fault, LineKind, byte, lines};
@@ -14,7 +14,7 @@ use std::alloc::Global;
 
 /// A line of a section, or none where a line with a dot ends it, and what follows.
 #[tactic(auto, unfolding(crate::specs::Reading::item_at))]
-fn line_or_end(alloc: Global, text: &[u8]) -> Result<(Option<Line>, &[u8]), Fault<Refusal>>
+fn line_or_end(alloc: Global, text: &[u8]) -> Result<(Option<Line>, &[u8]), Fault<CertFault>>
     ensures { Gives (λ x. (x.0, x.1.now)) result (item_at text.now) }
 {
     match text {
@@ -37,7 +37,7 @@ pub fn line_into<'t>(
     alloc: Global,
     line: &mut LineBuffer,
     text: &'t [u8],
-) -> Result<(bool, &'t [u8]), Fault<Refusal>>
+) -> Result<(bool, &'t [u8]), Fault<CertFault>>
     ensures { Gives (λ x. (line_where x.0 line.new, x.1.now)) result (item_at text.now) }
 {
     match text {
@@ -54,7 +54,7 @@ pub fn line_into<'t>(
 
 /// The lines of a section, and what follows the line with a dot behind them. Each goes into the
 /// proof as it is read; a line that was read is in its limits, so only running out of memory keeps it out.
-fn section_lines(alloc: Global, text: &[u8]) -> Result<(Proof, &[u8]), Fault<Refusal>>
+fn section_lines(alloc: Global, text: &[u8]) -> Result<(Proof, &[u8]), Fault<CertFault>>
     ensures { Gives (λ x. (x.0, x.1.now)) result (items_at item_at text.now) }
 {
     let mut proof = Proof::new(alloc);
@@ -71,7 +71,7 @@ fn section_lines(alloc: Global, text: &[u8]) -> Result<(Proof, &[u8]), Fault<Ref
 
 /// The section with this letter, and what follows it.
 #[tactic(auto, unfolding(crate::specs::Reading::section_at))]
-fn section(alloc: Global, text: &[u8], letter: u8) -> Result<(Proof, &[u8]), Fault<Refusal>>
+fn section(alloc: Global, text: &[u8], letter: u8) -> Result<(Proof, &[u8]), Fault<CertFault>>
     ensures { Gives (λ x. (x.0, x.1.now)) result (section_at letter text.now) }
 {
     let rest = byte(text, letter, IN_LETTER)?;
@@ -85,7 +85,7 @@ pub fn lemmas(
     alloc: Global,
     version: Version,
     text: &[u8],
-) -> Result<(Option<Proof>, &[u8]), Fault<Refusal>>
+) -> Result<(Option<Proof>, &[u8]), Fault<CertFault>>
     ensures { Gives (λ x. (x.0, x.1.now)) result (lemmas_at version text.now) }
 {
     match version {
@@ -105,13 +105,13 @@ impl LineKind for AnySection {
 
     type Context = u8;
 
-    type Refusal = Refusal;
+    type Fault = CertFault;
 
     ghost allows = { λ _. Unit {0} };
 
     ghost at = { section_at };
 
-    fn line(alloc: Global, text: &[u8], letter: u8) -> Result<(Proof, &[u8]), Fault<Refusal>> {
+    fn line(alloc: Global, text: &[u8], letter: u8) -> Result<(Proof, &[u8]), Fault<CertFault>> {
         section(alloc, text, letter)
     }
 }
@@ -132,7 +132,7 @@ pub fn sections(
     alloc: Global,
     clauses: u32,
     text: &[u8],
-) -> Result<(Seq<Proof>, &[u8]), Fault<Refusal>>
+) -> Result<(Seq<Proof>, &[u8]), Fault<CertFault>>
     ensures { Gives (λ x. (x.0, x.1.now)) result (sections_at clauses text.now) }
 {
     let (mut sections, rest) = lines::<AnySection>(alloc, clauses, text, b'i')?;

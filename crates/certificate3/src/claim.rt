@@ -3,7 +3,7 @@
 ghost use Rattle.scan.specs.Reading.{Gives};
 ghost use Rattle.certificate3.specs.Reading.{claim_at};
 
-use certificate::{IN_PROPERTY, Refusal};
+use certificate::{IN_PROPERTY, CertFault};
 use graph::Property;
 use scan::{Fault, byte, field};
 
@@ -16,7 +16,7 @@ pub struct Claim {
 
 /// What the second line claims, and what follows that line.
 #[tactic(auto, unfolding(crate::specs::Reading::claim_at, crate::specs::Reading::bad_at, crate::specs::Reading::justice_at, crate::specs::Reading::output_at))]
-pub fn read_claim(text: &[u8]) -> Result<(Claim, &[u8]), Fault<Refusal>>
+pub fn read_claim(text: &[u8]) -> Result<(Claim, &[u8]), Fault<CertFault>>
     ensures { Gives (λ x. (x.0, x.1.now)) result (claim_at text.now) }
 {
     match text {

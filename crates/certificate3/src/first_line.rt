@@ -3,7 +3,7 @@
 ghost use Rattle.scan.specs.Reading.{Gives};
 ghost use Rattle.certificate3.specs.Formats.{digit_at, format_at};
 
-use certificate::{IN_VERSION, Refusal, Version};
+use certificate::{IN_VERSION, CertFault, Version};
 use scan::{Fault, LineKind, byte, tag};
 use std::alloc::Global;
 
@@ -18,7 +18,7 @@ pub enum Format {
 
 /// The digit of the version, and what follows it.
 #[tactic(auto, unfolding(crate::specs::Formats::digit_at))]
-fn digit(text: &[u8]) -> Result<(Format, &[u8]), Fault<Refusal>>
+fn digit(text: &[u8]) -> Result<(Format, &[u8]), Fault<CertFault>>
     ensures { Gives (λ x. (x.0, x.1.now)) result (digit_at text.now) }
 {
     match text {
@@ -39,14 +39,14 @@ impl LineKind for AnyFirstLine {
 
     type Context = ();
 
-    type Refusal = Refusal;
+    type Fault = CertFault;
 
     ghost allows = { λ _. Unit {0} };
 
     ghost at = { λ _ bytes. format_at bytes };
 
     #[tactic(auto, unfolding(crate::specs::Formats::format_at))]
-    fn line(_alloc: Global, text: &[u8], _context: ()) -> Result<(Format, &[u8]), Fault<Refusal>> {
+    fn line(_alloc: Global, text: &[u8], _context: ()) -> Result<(Format, &[u8]), Fault<CertFault>> {
         let rest = tag(text, b"aigcert ", IN_VERSION)?;
         let (format, rest) = digit(rest)?;
         let rest = byte(rest, b'\n', IN_VERSION)?;

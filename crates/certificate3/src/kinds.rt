@@ -6,7 +6,7 @@ ghost use Rattle.certificate3.specs.Reading.{claim_at, first_line_at, gate_at, h
 use crate::claim::{Claim, read_claim};
 use crate::sizes::Sizes;
 use base::Seq;
-use certificate::{GREATEST, IN_LINE, IN_VERSION, Refusal};
+use certificate::{GREATEST, IN_LINE, IN_VERSION, CertFault};
 use graph::{Gate, Latch, Lit};
 use scan::{Fault, LineKind, byte, field, lines, number, tag};
 use std::alloc::Global;
@@ -19,14 +19,14 @@ impl LineKind for FirstLine {
 
     type Context = ();
 
-    type Refusal = Refusal;
+    type Fault = CertFault;
 
     ghost allows = { λ _. Unit {0} };
 
     ghost at = { λ _ bytes. first_line_at bytes };
 
     #[tactic(auto, unfolding(crate::specs::Reading::first_line_at))]
-    fn line(_alloc: Global, text: &[u8], _context: ()) -> Result<((), &[u8]), Fault<Refusal>> {
+    fn line(_alloc: Global, text: &[u8], _context: ()) -> Result<((), &[u8]), Fault<CertFault>> {
         let rest = tag(text, b"aigcert 3\n", IN_VERSION)?;
         Ok(((), rest))
     }
@@ -40,13 +40,13 @@ impl LineKind for ClaimLine {
 
     type Context = ();
 
-    type Refusal = Refusal;
+    type Fault = CertFault;
 
     ghost allows = { λ _. Unit {0} };
 
     ghost at = { λ _ bytes. claim_at bytes };
 
-    fn line(_alloc: Global, text: &[u8], _context: ()) -> Result<(Claim, &[u8]), Fault<Refusal>> {
+    fn line(_alloc: Global, text: &[u8], _context: ()) -> Result<(Claim, &[u8]), Fault<CertFault>> {
         read_claim(text)
     }
 }
@@ -59,14 +59,14 @@ impl LineKind for SizesLine {
 
     type Context = ();
 
-    type Refusal = Refusal;
+    type Fault = CertFault;
 
     ghost allows = { λ _. Unit {0} };
 
     ghost at = { λ _ bytes. sizes_at bytes };
 
     #[tactic(auto, unfolding(crate::specs::Reading::sizes_at))]
-    fn line(_alloc: Global, text: &[u8], _context: ()) -> Result<(Sizes, &[u8]), Fault<Refusal>> {
+    fn line(_alloc: Global, text: &[u8], _context: ()) -> Result<(Sizes, &[u8]), Fault<CertFault>> {
         let (latches, rest) = field(text, GREATEST, b' ', IN_LINE)?;
         let (gates, rest) = field(rest, GREATEST, b'\n', IN_LINE)?;
         Ok((Sizes { latches, gates }, rest))
@@ -81,14 +81,14 @@ impl LineKind for LatchLine {
 
     type Context = ();
 
-    type Refusal = Refusal;
+    type Fault = CertFault;
 
     ghost allows = { λ _. Unit {0} };
 
     ghost at = { λ _ bytes. latch_at bytes };
 
     #[tactic(auto, unfolding(crate::specs::Reading::latch_at))]
-    fn line(_alloc: Global, text: &[u8], _context: ()) -> Result<(Latch, &[u8]), Fault<Refusal>> {
+    fn line(_alloc: Global, text: &[u8], _context: ()) -> Result<(Latch, &[u8]), Fault<CertFault>> {
         let (lit, rest) = field(text, u32::MAX, b' ', IN_LINE)?;
         let (next, rest) = field(rest, u32::MAX, b' ', IN_LINE)?;
         let (reset, rest) = field(rest, u32::MAX, b'\n', IN_LINE)?;
@@ -109,14 +109,14 @@ impl LineKind for GateLine {
 
     type Context = ();
 
-    type Refusal = Refusal;
+    type Fault = CertFault;
 
     ghost allows = { λ _. Unit {0} };
 
     ghost at = { λ _ bytes. gate_at bytes };
 
     #[tactic(auto, unfolding(crate::specs::Reading::gate_at))]
-    fn line(_alloc: Global, text: &[u8], _context: ()) -> Result<(Gate, &[u8]), Fault<Refusal>> {
+    fn line(_alloc: Global, text: &[u8], _context: ()) -> Result<(Gate, &[u8]), Fault<CertFault>> {
         let (lhs, rest) = field(text, u32::MAX, b' ', IN_LINE)?;
         let (rhs0, rest) = field(rest, u32::MAX, b' ', IN_LINE)?;
         let (rhs1, rest) = field(rest, u32::MAX, b'\n', IN_LINE)?;
@@ -137,14 +137,14 @@ impl LineKind for SpacedId {
 
     type Context = ();
 
-    type Refusal = Refusal;
+    type Fault = CertFault;
 
     ghost allows = { λ _. Unit {0} };
 
     ghost at = { λ _ bytes. spaced_at bytes };
 
     #[tactic(auto, unfolding(crate::specs::Reading::spaced_at))]
-    fn line(_alloc: Global, text: &[u8], _context: ()) -> Result<(u32, &[u8]), Fault<Refusal>> {
+    fn line(_alloc: Global, text: &[u8], _context: ()) -> Result<(u32, &[u8]), Fault<CertFault>> {
         let rest = byte(text, b' ', IN_LINE)?;
         number(rest, u32::MAX, IN_LINE)
     }
@@ -152,7 +152,7 @@ impl LineKind for SpacedId {
 
 /// As many ids as the count says, and what follows the line end behind them.
 #[tactic(auto, unfolding(crate::specs::Reading::ids_at))]
-fn ids(alloc: Global, count: u32, text: &[u8]) -> Result<(Seq<u32>, &[u8]), Fault<Refusal>>
+fn ids(alloc: Global, count: u32, text: &[u8]) -> Result<(Seq<u32>, &[u8]), Fault<CertFault>>
     ensures { Gives (λ x. (x.0, x.1.now)) result (ids_at count text.now) }
 {
     let (ids, rest) = lines::<SpacedId>(alloc, count, text, ())?;
@@ -168,14 +168,14 @@ impl LineKind for HintsLine {
 
     type Context = ();
 
-    type Refusal = Refusal;
+    type Fault = CertFault;
 
     ghost allows = { λ _. Unit {0} };
 
     ghost at = { λ _ bytes. hints_at bytes };
 
     #[tactic(auto, unfolding(crate::specs::Reading::hints_at))]
-    fn line(alloc: Global, text: &[u8], _context: ()) -> Result<(Seq<u32>, &[u8]), Fault<Refusal>> {
+    fn line(alloc: Global, text: &[u8], _context: ()) -> Result<(Seq<u32>, &[u8]), Fault<CertFault>> {
         let (count, rest) = number(text, GREATEST, IN_LINE)?;
         ids(alloc, count, rest)
     }

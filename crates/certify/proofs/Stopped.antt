@@ -11,19 +11,19 @@ use Rattle.solver.specs.Answers.{values}
 use Rattle.certify.specs.declared.counterexample.Case.{Case}
 use Rattle.certify.specs.declared.counterexample.Case.TheVariants.{Initial, Step, Bad}
 use Rattle.certify.specs.declared.counterexample.Counterexample.{Counterexample}
-use Rattle.certify.specs.declared.halt.Halt.{Halt}
-use Rattle.certify.specs.declared.halt.Halt.TheVariants.{NotInvariant, Spent, IdsTaken, OutOfMemory}
+use Rattle.certify.specs.declared.prove_error.ProveError.{ProveError}
+use Rattle.certify.specs.declared.prove_error.ProveError.TheVariants.{NotInvariant, Spent, IdsTaken, OutOfMemory}
 use Rattle.certify.specs.Counterexamples.{formula_of, IsCase, IsCounterexample, Satisfies}
-use Rattle.certify.specs.Halts.{of_solver, IsHalt, IsHaltOf}
+use Rattle.certify.specs.ProveErrors.{of_solver, IsProveError, IsProveErrorOf}
 
 -- a refusal can stop anything
-pub solver_halt : (f : Formula) (case : Case) (after : Steps) (e : SatError) → IsHaltOf f case after (of_solver e)
+pub solver_halt : (f : Formula) (case : Case) (after : Steps) (e : SatError) → IsProveErrorOf f case after (of_solver e)
 solver_halt f case after (solver.Limit used_up) = tt
 solver_halt f case after (solver.OutOfMemory refused) = tt
 
 -- what stopped a case stopped one of the cases
-pub halt_of : (m : Parts) (inv : List (List Lit)) (a : Lit) (case : Case) (f : Formula) (after : Steps) (h : Halt) → IsCase inv case → f ≡ formula_of m inv a case →
-    IsHaltOf f case after h → IsHalt m inv a after h
+pub halt_of : (m : Parts) (inv : List (List Lit)) (a : Lit) (case : Case) (f : Formula) (after : Steps) (h : ProveError) → IsCase inv case → f ≡ formula_of m inv a case →
+    IsProveErrorOf f case after h → IsProveError m inv a after h
 halt_of m inv a case f after (NotInvariant c) is_case is stopped = record {
   case = subst (IsCase inv) (sym stopped.0) is_case;
   satisfied = subst (λ x. Satisfies c.values.items (formula_of m inv a x)) (sym stopped.0) (subst (Satisfies c.values.items) is stopped.1);

@@ -1,6 +1,6 @@
 pub mod Causes
 pub mod Counterexamples
-pub mod Halts
+pub mod ProveErrors
 pub mod Numbers
 pub mod Outcomes
 pub mod Sections

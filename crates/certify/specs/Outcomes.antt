@@ -10,8 +10,8 @@ use Rattle.certify.specs.declared.certified.Certified.{Certified}
 use Rattle.certify.specs.declared.certified.Certified.TheVariants.{Certificate, NotInvariant, Spent}
 use Rattle.certify.specs.declared.certify_error.CertifyError.{CertifyError}
 use Rattle.certify.specs.declared.certify_error.CertifyError.TheVariants.{IdsTaken, OutOfMemory}
-use Rattle.certify.specs.declared.halt.Halt.{Halt}
-use Rattle.certify.specs.declared.halt.Halt.TheVariants as halt
+use Rattle.certify.specs.declared.prove_error.ProveError.{ProveError}
+use Rattle.certify.specs.declared.prove_error.ProveError.TheVariants as error
 use Rattle.certify.specs.declared.proving.Proofs.{Proofs}
 
 -- for a literal of a circuit: accepted sections of these clauses, with the property; or values that satisfy a
@@ -29,9 +29,9 @@ IsCertified m p inv after (NotInvariant c) = IsCounterexample (circuit_of m p) i
 IsCertified m p inv after Spent = after.left ≡ 0
 
 -- what comes of the proofs of the clauses' cases, or of why one has none
-abbrev pub of_proofs : Property → List (List Lit) → Result Proofs Halt → Result Certified CertifyError
+abbrev pub of_proofs : Property → List (List Lit) → Result Proofs ProveError → Result Certified CertifyError
 of_proofs p inv (Ok proofs) = Ok (Certificate (record { property = p; invariant = inv; lemmas = Some proofs.lemmas; sections = proofs.sections }))
-of_proofs p inv (Err (halt.NotInvariant c)) = Ok (NotInvariant c)
-of_proofs p inv (Err halt.Spent) = Ok Spent
-of_proofs p inv (Err (halt.IdsTaken used_up)) = Err (IdsTaken used_up)
-of_proofs p inv (Err (halt.OutOfMemory refused)) = Err (OutOfMemory refused)
+of_proofs p inv (Err (error.NotInvariant c)) = Ok (NotInvariant c)
+of_proofs p inv (Err error.Spent) = Ok Spent
+of_proofs p inv (Err (error.IdsTaken used_up)) = Err (IdsTaken used_up)
+of_proofs p inv (Err (error.OutOfMemory refused)) = Err (OutOfMemory refused)

@@ -16,7 +16,7 @@ ghost use Rattle.certify.specs.declared.counterexample.Counterexample.{Counterex
 use crate::certified::Certified;
 use crate::certify_error::CertifyError;
 use crate::examining::examine;
-use crate::halt::Halt;
+use crate::prove_error::ProveError;
 use crate::proving::{Proofs, prove_cases};
 use base::{Budget, Refused, Seq};
 use certificate::Certificate;
@@ -39,7 +39,7 @@ fn copied(alloc: Global, invariant: &[Seq<Lit>]) -> Result<Seq<Seq<Lit>>, Refuse
 fn certified_of(
     property: Property,
     invariant: Seq<Seq<Lit>>,
-    proved: Result<Proofs, Halt>,
+    proved: Result<Proofs, ProveError>,
 ) -> Result<Certified, CertifyError>
     ensures { result ≡ of_proofs property invariant proved }
 {
@@ -50,10 +50,10 @@ fn certified_of(
             lemmas: Some(proofs.lemmas),
             sections: proofs.sections,
         })),
-        Err(Halt::NotInvariant(found)) => Ok(Certified::NotInvariant(found)),
-        Err(Halt::Spent) => Ok(Certified::Spent),
-        Err(Halt::IdsTaken(full)) => Err(CertifyError::IdsTaken(full)),
-        Err(Halt::OutOfMemory(refused)) => Err(CertifyError::OutOfMemory(refused)),
+        Err(ProveError::NotInvariant(found)) => Ok(Certified::NotInvariant(found)),
+        Err(ProveError::Spent) => Ok(Certified::Spent),
+        Err(ProveError::IdsTaken(full)) => Err(CertifyError::IdsTaken(full)),
+        Err(ProveError::OutOfMemory(refused)) => Err(CertifyError::OutOfMemory(refused)),
     }
 }
 

@@ -7,11 +7,11 @@ ghost use Rattle.lrat.specs.Literals.{IsLiteral};
 ghost use Rattle.lrat.specs.Shared.{Base};
 ghost use Rattle.cdcl_log.specs.Logged.{with_units};
 ghost use Rattle.checker.specs.Accepted.{Case as AnyCase};
-ghost use Rattle.certify.specs.Halts.{IsHaltOf};
+ghost use Rattle.certify.specs.ProveErrors.{IsProveErrorOf};
 ghost use Rattle.certify.specs.Sections.{AreClosed, AreProofs, AreSectionsOver, IsSharedBy, case_with};
 
 use crate::counterexample::{Case, Counterexample};
-use crate::halt::Halt;
+use crate::prove_error::ProveError;
 use base::{Budget, Seq};
 use cdcl::{Closing, Refuter, Shown, section};
 use lrat::{Formula, Proof};
@@ -53,14 +53,14 @@ impl ClosedCases {
         units: Seq<i32>,
         part: &Part,
         budget: &mut Budget,
-    ) -> Result<(), Halt>
+    ) -> Result<(), ProveError>
         requires literals { All (IsLiteral self.old.refuter.formula.vars) units }
         requires closed { AreClosed self.old }
         ensures formula { self.new.refuter.formula ≡ self.old.refuter.formula }
         ensures spends { Spends budget.old budget.new }
         ensures closed { OnOk result (AreClosed self.new) }
         ensures one_more { OnOk result (self.new.units ≡ self.old.units ++ units ∷ []) }
-        ensures halted { IfErr result (IsHaltOf (with_units self.old.refuter.formula units) case budget.new) }
+        ensures halted { IfErr result (IsProveErrorOf (with_units self.old.refuter.formula units) case budget.new) }
     {
         match self
             .refuter
@@ -71,8 +71,8 @@ impl ClosedCases {
                 self.closings.push(closing)?;
                 Ok(())
             }
-            Shown::Model(values) => Err(Halt::NotInvariant(Counterexample { case, values })),
-            Shown::Spent => Err(Halt::Spent),
+            Shown::Model(values) => Err(ProveError::NotInvariant(Counterexample { case, values })),
+            Shown::Spent => Err(ProveError::Spent),
         }
     }
 

@@ -17,7 +17,7 @@ mod certifying;
 mod closed_cases;
 mod counterexample;
 mod examining;
-mod halt;
+mod prove_error;
 mod proving;
 mod sweeping;
 

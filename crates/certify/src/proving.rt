@@ -10,12 +10,12 @@ ghost use Rattle.cnf.specs.Clauses.{step_units};
 ghost use Rattle.cnf.specs.Formulas.{IsInvariant, shared_formula, start_formula};
 ghost use Rattle.cdcl_log.specs.Logged.{with_units};
 ghost use Rattle.checker.specs.Accepted.{Case as AnyCase, IsProofOf, IsShared, bad_case, cases, init_case, step_case};
-ghost use Rattle.certify.specs.Halts.{IsHalt, IsHaltOf};
+ghost use Rattle.certify.specs.ProveErrors.{IsProveError, IsProveErrorOf};
 ghost use Rattle.certify.specs.Sections.{AreClosed, AreProofs, case_over};
 
 use crate::closed_cases::ClosedCases;
 use crate::counterexample::{Case, Counterexample};
-use crate::halt::Halt;
+use crate::prove_error::ProveError;
 use crate::sweeping::sweep_pairs;
 use base::{Budget, Seq};
 use cdcl::{Refuted, Refuter};
@@ -41,13 +41,13 @@ fn prove(
     case: Case,
     units: &[i32],
     budget: &mut Budget,
-) -> Result<Proof, Halt>
+) -> Result<Proof, ProveError>
     requires literals { All (IsLiteral refuter.old.formula.vars) units.now }
     requires few { length units.now ≤ refuter.old.room }
     ensures same { refuter.new ≡ refuter.old }
     ensures spends { Spends budget.old budget.new }
     ensures proved { IfOk result (IsProofOf (case_over refuter.old.formula units.now)) }
-    ensures halted { IfErr result (IsHaltOf (with_units refuter.old.formula units.now) case budget.new) }
+    ensures halted { IfErr result (IsProveErrorOf (with_units refuter.old.formula units.now) case budget.new) }
 {
     match refuter.refute(alloc, units, budget)? {
         Refuted::Proof(proof) => {
@@ -55,8 +55,8 @@ fn prove(
             proof.lines();
             Ok(proof)
         }
-        Refuted::Model(values) => Err(Halt::NotInvariant(Counterexample { case, values })),
-        Refuted::Spent => Err(Halt::Spent),
+        Refuted::Model(values) => Err(ProveError::NotInvariant(Counterexample { case, values })),
+        Refuted::Spent => Err(ProveError::Spent),
     }
 }
 
@@ -68,13 +68,13 @@ fn prove_initial_cases(
     refuter: &mut Refuter,
     sections: &mut Seq<Proof>,
     budget: &mut Budget,
-) -> Result<(), Halt>
+) -> Result<(), ProveError>
     requires invariant { IsInvariant circuit.now invariant.now }
     requires start { refuter.old.formula ≡ start_formula circuit.now }
     requires room { All (λ c. length c ≤ refuter.old.room) invariant.now }
     ensures spends { Spends budget.old budget.new }
     ensures proved { OnOk result ((cs : List AnyCase) → AreProofs cs sections.old → AreProofs (cs ++ map (init_case circuit.now) invariant.now) sections.new) }
-    ensures halted { IfErr result (λ h. (a : Lit) → IsHalt circuit.now invariant.now a budget.new h) }
+    ensures halted { IfErr result (λ h. (a : Lit) → IsProveError circuit.now invariant.now a budget.new h) }
 {
     for (place, clause) in invariant.iter().enumerate() {
         let units = init_units(alloc, circuit, clause.as_slice())?;
@@ -91,11 +91,11 @@ fn prove_initial(
     invariant: &[Seq<Lit>],
     sections: &mut Seq<Proof>,
     budget: &mut Budget,
-) -> Result<(), Halt>
+) -> Result<(), ProveError>
     requires invariant { IsInvariant circuit.now invariant.now }
     ensures spends { Spends budget.old budget.new }
     ensures proved { OnOk result ((cs : List AnyCase) → AreProofs cs sections.old → AreProofs (cs ++ map (init_case circuit.now) invariant.now) sections.new) }
-    ensures halted { IfErr result (λ h. (a : Lit) → IsHalt circuit.now invariant.now a budget.new h) }
+    ensures halted { IfErr result (λ h. (a : Lit) → IsProveError circuit.now invariant.now a budget.new h) }
 {
     let start = start_base(alloc, circuit)?;
     let mut refuter = Refuter::new(alloc, &start, most_literals(invariant))?;
@@ -109,7 +109,7 @@ fn close_steps(
     invariant: &[Seq<Lit>],
     cases: &mut ClosedCases,
     budget: &mut Budget,
-) -> Result<(), Halt>
+) -> Result<(), ProveError>
     requires invariant { IsInvariant circuit.now invariant.now }
     requires loaded { cases.old.refuter.formula ≡ shared_formula circuit.now invariant.now }
     requires none { cases.old.units ≡ [] }
@@ -118,7 +118,7 @@ fn close_steps(
     ensures spends { Spends budget.old budget.new }
     ensures closed { OnOk result (AreClosed cases.new) }
     ensures units { OnOk result (cases.new.units ≡ map (step_units circuit.now) invariant.now) }
-    ensures halted { IfErr result (λ h. (a : Lit) → IsHalt circuit.now invariant.now a budget.new h) }
+    ensures halted { IfErr result (λ h. (a : Lit) → IsProveError circuit.now invariant.now a budget.new h) }
 {
     let table = NextTable::new(alloc, circuit)?;
     let mut near = Near::new(alloc, circuit)?;
@@ -155,7 +155,7 @@ fn close_others(
     cases: &mut ClosedCases,
     sections: &mut Seq<Proof>,
     budget: &mut Budget,
-) -> Result<Proof, Halt>
+) -> Result<Proof, ProveError>
     requires invariant { IsInvariant circuit.now invariant.now }
     requires bad { Contains (used circuit.now) bad }
     requires loaded { cases.old.refuter.formula ≡ shared_formula circuit.now invariant.now }
@@ -163,7 +163,7 @@ fn close_others(
     requires closed { AreClosed cases.old }
     ensures spends { Spends budget.old budget.new }
     ensures proved { IfOk result (λ l. (b : Base) × IsShared circuit.now invariant.now (Some l) b × ((cs : List AnyCase) → AreProofs cs sections.old → AreProofs (cs ++ map (step_case circuit.now b) invariant.now ++ bad_case circuit.now b bad ∷ []) sections.new)) }
-    ensures halted { IfErr result (IsHalt circuit.now invariant.now bad budget.new) }
+    ensures halted { IfErr result (IsProveError circuit.now invariant.now bad budget.new) }
 {
     sweep_pairs(alloc, circuit, invariant, &mut cases.refuter, budget)?;
     close_steps(alloc, circuit, invariant, cases, budget)?;
@@ -182,12 +182,12 @@ fn prove_others(
     bad: Lit,
     sections: &mut Seq<Proof>,
     budget: &mut Budget,
-) -> Result<Proof, Halt>
+) -> Result<Proof, ProveError>
     requires invariant { IsInvariant circuit.now invariant.now }
     requires bad { Contains (used circuit.now) bad }
     ensures spends { Spends budget.old budget.new }
     ensures proved { IfOk result (λ l. (b : Base) × IsShared circuit.now invariant.now (Some l) b × ((cs : List AnyCase) → AreProofs cs sections.old → AreProofs (cs ++ map (step_case circuit.now b) invariant.now ++ bad_case circuit.now b bad ∷ []) sections.new)) }
-    ensures halted { IfErr result (IsHalt circuit.now invariant.now bad budget.new) }
+    ensures halted { IfErr result (IsProveError circuit.now invariant.now bad budget.new) }
 {
     let mut cases = ClosedCases::new(alloc, &shared_base(alloc, circuit, invariant)?)?;
     close_others(alloc, circuit, invariant, bad, &mut cases, sections, budget)
@@ -200,12 +200,12 @@ pub fn prove_cases(
     invariant: &[Seq<Lit>],
     bad: Lit,
     budget: &mut Budget,
-) -> Result<Proofs, Halt>
+) -> Result<Proofs, ProveError>
     requires invariant { IsInvariant circuit.now invariant.now }
     requires bad { Contains (used circuit.now) bad }
     ensures spends { Spends budget.old budget.new }
     ensures proved { IfOk result (λ r. (b : Base) × IsShared circuit.now invariant.now (Some r.lemmas) b × AreProofs (cases circuit.now b invariant.now bad) r.sections) }
-    ensures halted { IfErr result (IsHalt circuit.now invariant.now bad budget.new) }
+    ensures halted { IfErr result (IsProveError circuit.now invariant.now bad budget.new) }
 {
     let mut sections = Seq::new(alloc);
     prove_initial(alloc, circuit, invariant, &mut sections, budget)?;

@@ -9,15 +9,15 @@ use Rattle.graph.specs.declared.parts.Parts.{Parts}
 use Rattle.extension.specs.Accepted.{Evidence}
 use Rattle.certificate3.specs.declared.claim.Claim.{Claim}
 use Rattle.certify3.specs.Causes.{HasCause, IsFault, IsLate, IsOutsideAt, IsUnspent}
-use Rattle.certify3.specs.Outcomes.{IsCertified, IsOfClauses, IsOfEvidence, of_halt}
+use Rattle.certify3.specs.Outcomes.{IsCertified, IsOfClauses, IsOfEvidence, of_prove_error}
 use Rattle.certify3.specs.Subjects.{HasNoSubject, IsSubject}
 use Rattle.certify3.specs.declared.subject.Subject.{Subject}
 use Rattle.certify3.specs.declared.certified.Certified.{Certified}
 use Rattle.certify3.specs.declared.certified.Certified.TheVariants as outcome
 use Rattle.certify3.specs.declared.certify_error.CertifyError.{CertifyError}
-use Rattle.certify3.specs.declared.certify_error.CertifyError.TheVariants.{NoProperty, Refusal, TooMany, Repeated, IdsTaken, OutOfMemory}
-use Rattle.certify3.specs.declared.halt.Halt.{Halt}
-use Rattle.certify3.specs.declared.halt.Halt.TheVariants as halt
+use Rattle.certify3.specs.declared.certify_error.CertifyError.TheVariants.{NoProperty, Refused, TooMany, Repeated, IdsTaken, OutOfMemory}
+use Rattle.certify3.specs.declared.prove_error.ProveError.{ProveError}
+use Rattle.certify3.specs.declared.prove_error.ProveError.TheVariants as error
 
 -- ---- what comes of the evidence comes of the clauses
 
@@ -49,20 +49,20 @@ pub memory_late : (r : Result Certified CertifyError) → IfErr r (λ e. e ≡ O
 memory_late (Ok v) is = tt
 memory_late (Err e) is = subst IsLate (sym is) tt
 
-halt_late : (h : Halt) → IfErr (of_halt h) IsLate
-halt_late (halt.NotInvariant c) = tt
-halt_late halt.Spent = tt
-halt_late (halt.IdsTaken used_up) = tt
-halt_late (halt.OutOfMemory refused) = tt
+halt_late : (h : ProveError) → IfErr (of_prove_error h) IsLate
+halt_late (error.NotInvariant c) = tt
+halt_late error.Spent = tt
+halt_late (error.IdsTaken used_up) = tt
+halt_late (error.OutOfMemory refused) = tt
 
-pub halted_late : (h : Halt) (r : Result Certified CertifyError) → r ≡ of_halt h → IfErr r IsLate
+pub halted_late : (h : ProveError) (r : Result Certified CertifyError) → r ≡ of_prove_error h → IfErr r IsLate
 halted_late h r is = subst (λ (q : Result Certified CertifyError). IfErr q IsLate) (sym is) (halt_late h)
 
 -- ---- causes
 
 pub late_cause : (m : Parts) (c : Claim) (ls : List Latch) (gs : List Gate) (inv : List (List Lit)) (e : CertifyError) → IsLate e → HasCause m c ls gs inv e
 late_cause m c ls gs inv (NoProperty n) late = absurd late
-late_cause m c ls gs inv (Refusal r) late = absurd late
+late_cause m c ls gs inv (Refused r) late = absurd late
 late_cause m c ls gs inv TooMany late = absurd late
 late_cause m c ls gs inv (Repeated k) late = absurd late
 late_cause m c ls gs inv (IdsTaken used_up) late = tt
@@ -70,7 +70,7 @@ late_cause m c ls gs inv (OutOfMemory refused) late = tt
 
 pub late_unspent : (before after : Steps) (e : CertifyError) → IsLate e → IsUnspent before after e
 late_unspent before after (NoProperty n) late = absurd late
-late_unspent before after (Refusal r) late = absurd late
+late_unspent before after (Refused r) late = absurd late
 late_unspent before after TooMany late = absurd late
 late_unspent before after (Repeated k) late = absurd late
 late_unspent before after (IdsTaken used_up) late = tt
@@ -79,7 +79,7 @@ late_unspent before after (OutOfMemory refused) late = tt
 -- where nothing was spent
 pub early_unspent : (before after : Steps) (e : CertifyError) → after ≡ before → IsUnspent before after e
 early_unspent before after (NoProperty n) same = same
-early_unspent before after (Refusal r) same = same
+early_unspent before after (Refused r) same = same
 early_unspent before after TooMany same = same
 early_unspent before after (Repeated k) same = same
 early_unspent before after (IdsTaken used_up) same = tt
@@ -87,8 +87,8 @@ early_unspent before after (OutOfMemory refused) same = tt
 
 pub subject_cause : (m : Parts) (c : Claim) (ls : List Latch) (gs : List Gate) (inv : List (List Lit)) (e : CertifyError) → HasNoSubject m c ls gs e → HasCause m c ls gs inv e
 subject_cause m c ls gs inv (NoProperty n) is = is
-subject_cause m c ls gs inv (Refusal r) (inl none) = inl none
-subject_cause m c ls gs inv (Refusal r) (inr (showable, none)) = inr (showable, inl none)
+subject_cause m c ls gs inv (Refused r) (inl none) = inl none
+subject_cause m c ls gs inv (Refused r) (inr (showable, none)) = inr (showable, inl none)
 subject_cause m c ls gs inv TooMany is = absurd is
 subject_cause m c ls gs inv (Repeated k) is = absurd is
 subject_cause m c ls gs inv (IdsTaken used_up) is = tt
@@ -96,7 +96,7 @@ subject_cause m c ls gs inv (OutOfMemory refused) is = tt
 
 pub fault_cause : (m : Parts) (c : Claim) (ls : List Latch) (gs : List Gate) (inv : List (List Lit)) (s : Subject) (e : CertifyError) → IsSubject m c ls gs s → IsFault s.circuit inv e → HasCause m c ls gs inv e
 fault_cause m c ls gs inv s (NoProperty n) subject is = absurd is
-fault_cause m c ls gs inv s (Refusal r) subject is = inr (subject.showable, inr (subject.grown, subst (λ (t : Parts). IsOutsideAt t inv r) subject.circuit is))
+fault_cause m c ls gs inv s (Refused r) subject is = inr (subject.showable, inr (subject.grown, subst (λ (t : Parts). IsOutsideAt t inv r) subject.circuit is))
 fault_cause m c ls gs inv s TooMany subject is = (subject.showable, subject.grown, is)
 fault_cause m c ls gs inv s (Repeated k) subject is = (subject.showable, subject.grown, subst (λ (t : Parts). IsFault t inv (Repeated k)) subject.circuit is)
 fault_cause m c ls gs inv s (IdsTaken used_up) subject is = tt

@@ -17,8 +17,8 @@ use Rattle.extension.specs.Extended.{extended}
 use Rattle.extension.specs.Inductive.{IsInductiveOver}
 use Rattle.certificate3.specs.declared.claim.Claim.{Claim}
 use Rattle.certify3.specs.Counterexamples.{formula_of, IsCase, IsCounterexample, Satisfies}
-use Rattle.certify3.specs.Halts.{IsHalt, IsHaltAt}
-use Rattle.certify3.specs.Outcomes.{IsCertified, of_halt}
+use Rattle.certify3.specs.ProveErrors.{IsProveError, IsProveErrorAt}
+use Rattle.certify3.specs.Outcomes.{IsCertified, of_prove_error}
 use Rattle.certify3.specs.Subjects.{IsSubject}
 use Rattle.certify3.specs.declared.subject.Subject.{Subject}
 use Rattle.certify3.specs.declared.certified.Certified.{Certified}
@@ -27,13 +27,13 @@ use Rattle.certify3.specs.declared.certify_error.CertifyError.{CertifyError}
 use Rattle.certify3.specs.declared.counterexample.Case.{Case}
 use Rattle.certify3.specs.declared.counterexample.Case.TheVariants as case
 use Rattle.certify3.specs.declared.counterexample.Counterexample.{Counterexample}
-use Rattle.certify3.specs.declared.halt.Halt.{Halt}
-use Rattle.certify3.specs.declared.halt.Halt.TheVariants.{NotInvariant, Spent, IdsTaken, OutOfMemory}
+use Rattle.certify3.specs.declared.prove_error.ProveError.{ProveError}
+use Rattle.certify3.specs.declared.prove_error.ProveError.TheVariants.{NotInvariant, Spent, IdsTaken, OutOfMemory}
 use Rattle.certify3.specs.declared.showing.Kind.TheVariants.{First, Step}
 
 -- what stopped one of the clauses at a first time
-pub first_halt : (m : Parts) (inv : List (List Lit)) (a : Lit) (f : Formula) (time : TimeFrame) (after : Steps) (h : Halt) → f ≡ begin_formula m → time.max_var ≡ m.max_var → time.offset ≡ 0 →
-    IsHaltAt f First time inv after h → IsHalt m inv a after h
+pub first_halt : (m : Parts) (inv : List (List Lit)) (a : Lit) (f : Formula) (time : TimeFrame) (after : Steps) (h : ProveError) → f ≡ begin_formula m → time.max_var ≡ m.max_var → time.offset ≡ 0 →
+    IsProveErrorAt f First time inv after h → IsProveError m inv a after h
 first_halt m inv a f time after (NotInvariant c) is n o found = record {
   case = subst (IsCase inv) (sym found.case) found.stands;
   satisfied =
@@ -47,8 +47,8 @@ first_halt m inv a f time after (IdsTaken used_up) is n o any = tt
 first_halt m inv a f time after (OutOfMemory refused) is n o any = tt
 
 -- or at a time behind one at which they hold
-pub step_halt : (m : Parts) (inv : List (List Lit)) (a : Lit) (f : Formula) (time : TimeFrame) (after : Steps) (h : Halt) → f ≡ pair_formula m inv → time.max_var ≡ m.max_var → time.offset ≡ m.max_var + 1 →
-    IsHaltAt f Step time inv after h → IsHalt m inv a after h
+pub step_halt : (m : Parts) (inv : List (List Lit)) (a : Lit) (f : Formula) (time : TimeFrame) (after : Steps) (h : ProveError) → f ≡ pair_formula m inv → time.max_var ≡ m.max_var → time.offset ≡ m.max_var + 1 →
+    IsProveErrorAt f Step time inv after h → IsProveError m inv a after h
 step_halt m inv a f time after (NotInvariant c) is n o found = record {
   case = subst (IsCase inv) (sym found.case) found.stands;
   satisfied =
@@ -72,19 +72,19 @@ not_inductive m inv a c found inductive = unsatisfied m inv a c.case inductive f
 
 -- ---- what comes of it
 
-halted_for : (m : Parts) (c : Claim) (ls : List Latch) (gs : List Gate) (inv : List (List Lit)) (after : Steps) (h : Halt) → IsHalt (extended (circuit_of m c.property c.rounds) ls gs) inv (bad_of m c.property c.rounds) after h →
-    IfOk (of_halt h) (IsCertified m c ls gs inv after)
+halted_for : (m : Parts) (c : Claim) (ls : List Latch) (gs : List Gate) (inv : List (List Lit)) (after : Steps) (h : ProveError) → IsProveError (extended (circuit_of m c.property c.rounds) ls gs) inv (bad_of m c.property c.rounds) after h →
+    IfOk (of_prove_error h) (IsCertified m c ls gs inv after)
 halted_for m c ls gs inv after (NotInvariant x) halt = halt
 halted_for m c ls gs inv after Spent halt = halt
 halted_for m c ls gs inv after (IdsTaken used_up) halt = tt
 halted_for m c ls gs inv after (OutOfMemory refused) halt = tt
 
-pub halted_is : (m : Parts) (c : Claim) (ls : List Latch) (gs : List Gate) (inv : List (List Lit)) (after : Steps) (s : Subject) (h : Halt) (r : Result Certified CertifyError) → IsSubject m c ls gs s → r ≡ of_halt h →
-    IsHalt s.circuit inv s.bad after h → IfOk r (IsCertified m c ls gs inv after)
+pub halted_is : (m : Parts) (c : Claim) (ls : List Latch) (gs : List Gate) (inv : List (List Lit)) (after : Steps) (s : Subject) (h : ProveError) (r : Result Certified CertifyError) → IsSubject m c ls gs s → r ≡ of_prove_error h →
+    IsProveError s.circuit inv s.bad after h → IfOk r (IsCertified m c ls gs inv after)
 halted_is m c ls gs inv after s h r subject is halt =
     subst (λ (q : Result Certified CertifyError). IfOk q (IsCertified m c ls gs inv after)) (sym is)
     (halted_for m c ls gs inv after h
-    (subst (λ (a : Lit). IsHalt (extended (circuit_of m c.property c.rounds) ls gs) inv a after h) subject.bad (subst (λ (t : Parts). IsHalt t inv s.bad after h) subject.circuit halt)))
+    (subst (λ (a : Lit). IsProveError (extended (circuit_of m c.property c.rounds) ls gs) inv a after h) subject.bad (subst (λ (t : Parts). IsProveError t inv s.bad after h) subject.circuit halt)))
 
 honest_of : (m : Parts) (c : Claim) (ls : List Latch) (gs : List Gate) (inv : List (List Lit)) (after : Steps) (r : Certified) (x : Counterexample) → IsCertified m c ls gs inv after r → r ≡ outcome.NotInvariant x →
     IsInductiveOver (extended (circuit_of m c.property c.rounds) ls gs) inv (bad_of m c.property c.rounds) → ⊥

@@ -13,13 +13,13 @@ use Rattle.extension.specs.Extended.{extended}
 use Rattle.extension.specs.Inductive.{IsOverAll, clause_from}
 use Rattle.certificate3.specs.declared.claim.Claim.{Claim}
 use Rattle.checker3.specs.Judged.{IsGrown, IsNoExtension, IsOutside, IsUnshowable}
-use Rattle.checker3.specs.declared.refusal.Refusal.{Refusal as ARefusal}
-use Rattle.checker3.specs.declared.refusal.Refusal.TheVariants.{NoProperty, TooManyRounds, Limit, NotExtension, Outside, Line}
+use Rattle.checker3.specs.declared.check_error.CheckError.{CheckError}
+use Rattle.checker3.specs.declared.check_error.CheckError.TheVariants.{NoProperty, TooManyRounds, Limit, NotExtension, Outside, Line}
 use Rattle.certify3.specs.declared.certify_error.CertifyError.{CertifyError}
-use Rattle.certify3.specs.declared.certify_error.CertifyError.TheVariants.{NoProperty as Absent, Refusal, TooMany, Repeated, IdsTaken, OutOfMemory}
+use Rattle.certify3.specs.declared.certify_error.CertifyError.TheVariants.{NoProperty as Absent, Refused, TooMany, Repeated, IdsTaken, OutOfMemory}
 
 -- the refusal is of the clause at its place, the first with a literal outside of the circuit
-abbrev pub IsOutsideAt : Parts → List (List Lit) → ARefusal → Type 0
+abbrev pub IsOutsideAt : Parts → List (List Lit) → CheckError → Type 0
 IsOutsideAt m inv NoProperty = ⊥
 IsOutsideAt m inv TooManyRounds = ⊥
 IsOutsideAt m inv Limit = ⊥
@@ -35,7 +35,7 @@ pub record IsRepeated (m : Parts) (inv : List (List Lit)) (k : ℕ) : Type 0 whe
 -- what is wrong with the clauses: too many, one outside of the circuit, or one that repeats or opposes a literal
 abbrev pub IsFault : Parts → List (List Lit) → CertifyError → Type 0
 IsFault m inv (Absent n) = ⊥
-IsFault m inv (Refusal r) = IsOutsideAt m inv r
+IsFault m inv (Refused r) = IsOutsideAt m inv r
 IsFault m inv TooMany = 4194303 < length inv
 IsFault m inv (Repeated k) = (length inv ≤ 4194303) × All (IsOverAll m) inv × IsRepeated m inv k
 IsFault m inv (IdsTaken used_up) = ⊥
@@ -44,7 +44,7 @@ IsFault m inv (OutOfMemory refused) = Unit {0}
 -- the first cause of each refusal: the claim, the latches and gates, the clauses, or of good clauses used-up ids of a solver
 abbrev pub HasCause : Parts → Claim → List Latch → List Gate → List (List Lit) → CertifyError → Type 0
 HasCause m c ls gs inv (Absent n) = (n ≡ position_of c.property) × (HasProperty m c.property → ⊥)
-HasCause m c ls gs inv (Refusal r) =
+HasCause m c ls gs inv (Refused r) =
     IsUnshowable m c.property c.rounds r
     ⊎ (IsShowable m c.property c.rounds
     × (IsNoExtension (circuit_of m c.property c.rounds) ls gs r
@@ -58,7 +58,7 @@ HasCause m c ls gs inv (OutOfMemory refused) = Unit {0}
 -- what can stop the proofs: used-up ids of a solver, or memory
 abbrev pub IsLate : CertifyError → Type 0
 IsLate (Absent n) = ⊥
-IsLate (Refusal r) = ⊥
+IsLate (Refused r) = ⊥
 IsLate TooMany = ⊥
 IsLate (Repeated k) = ⊥
 IsLate (IdsTaken used_up) = Unit {0}
@@ -67,7 +67,7 @@ IsLate (OutOfMemory refused) = Unit {0}
 -- what is wrong with the claim, the latches and gates or the clauses is refused before anything is spent
 abbrev pub IsUnspent : Steps → Steps → CertifyError → Type 0
 IsUnspent before after (Absent n) = after ≡ before
-IsUnspent before after (Refusal r) = after ≡ before
+IsUnspent before after (Refused r) = after ≡ before
 IsUnspent before after TooMany = after ≡ before
 IsUnspent before after (Repeated k) = after ≡ before
 IsUnspent before after (IdsTaken used_up) = Unit {0}

@@ -14,8 +14,8 @@ use Rattle.certify3.specs.declared.certified.Certified.{Certified}
 use Rattle.certify3.specs.declared.certified.Certified.TheVariants as outcome
 use Rattle.certify3.specs.declared.certify_error.CertifyError.{CertifyError}
 use Rattle.certify3.specs.declared.certify_error.CertifyError.TheVariants.{IdsTaken, OutOfMemory}
-use Rattle.certify3.specs.declared.halt.Halt.{Halt}
-use Rattle.certify3.specs.declared.halt.Halt.TheVariants.{NotInvariant, Spent, IdsTaken as Full, OutOfMemory as NoMemory}
+use Rattle.certify3.specs.declared.prove_error.ProveError.{ProveError}
+use Rattle.certify3.specs.declared.prove_error.ProveError.TheVariants.{NotInvariant, Spent, IdsTaken as Full, OutOfMemory as NoMemory}
 
 -- the text spells a certificate of the circuit that is accepted
 pub record IsAcceptedText (m : Parts) (text : List ℕ) : Type 0 where
@@ -58,8 +58,8 @@ IsCertified m c ls gs inv after outcome.Spent = after.left ≡ 0
 IsCertified m c ls gs inv after outcome.Unaccepted = Unit {0}
 
 -- what it comes to that a case has no proof
-abbrev pub of_halt : Halt → Result Certified CertifyError
-of_halt (NotInvariant c) = Ok (outcome.NotInvariant c)
-of_halt Spent = Ok outcome.Spent
-of_halt (Full used_up) = Err (IdsTaken used_up)
-of_halt (NoMemory refused) = Err (OutOfMemory refused)
+abbrev pub of_prove_error : ProveError → Result Certified CertifyError
+of_prove_error (NotInvariant c) = Ok (outcome.NotInvariant c)
+of_prove_error Spent = Ok outcome.Spent
+of_prove_error (Full used_up) = Err (IdsTaken used_up)
+of_prove_error (NoMemory refused) = Err (OutOfMemory refused)

@@ -10,7 +10,7 @@ use Rattle.extension.specs.Extended.{extended}
 use Rattle.certificate3.specs.declared.claim.Claim.{Claim}
 use Rattle.checker3.specs.Judged.{IsGrown, IsNoExtension, IsUnshowable}
 use Rattle.certify3.specs.declared.certify_error.CertifyError.{CertifyError}
-use Rattle.certify3.specs.declared.certify_error.CertifyError.TheVariants.{NoProperty, Refusal, TooMany, Repeated, IdsTaken, OutOfMemory}
+use Rattle.certify3.specs.declared.certify_error.CertifyError.TheVariants.{NoProperty, Refused, TooMany, Repeated, IdsTaken, OutOfMemory}
 use Rattle.certify3.specs.declared.subject.Subject.{Subject}
 
 -- the circuit with the latches and gates
@@ -20,7 +20,7 @@ IsGrownFor m ls gs s = (s ≡ extended m ls gs) × IsGrown m ls gs
 -- why there is none; memory is no fault of the latches and gates
 abbrev pub IsNoGrowthFor : Parts → List Latch → List Gate → CertifyError → Type 0
 IsNoGrowthFor m ls gs (NoProperty n) = ⊥
-IsNoGrowthFor m ls gs (Refusal r) = IsNoExtension m ls gs r
+IsNoGrowthFor m ls gs (Refused r) = IsNoExtension m ls gs r
 IsNoGrowthFor m ls gs TooMany = ⊥
 IsNoGrowthFor m ls gs (Repeated k) = ⊥
 IsNoGrowthFor m ls gs (IdsTaken used_up) = ⊥
@@ -37,7 +37,7 @@ pub record IsSubject (m : Parts) (c : Claim) (ls : List Latch) (gs : List Gate) 
 -- why the claim cannot be shown, but for the size of what it speaks of
 abbrev pub IsNoClaim : Parts → Claim → CertifyError → Type 0
 IsNoClaim m c (NoProperty n) = (n ≡ position_of c.property) × (HasProperty m c.property → ⊥)
-IsNoClaim m c (Refusal r) = IsUnshowable m c.property c.rounds r
+IsNoClaim m c (Refused r) = IsUnshowable m c.property c.rounds r
 IsNoClaim m c TooMany = ⊥
 IsNoClaim m c (Repeated k) = ⊥
 IsNoClaim m c (IdsTaken used_up) = ⊥
@@ -46,7 +46,7 @@ IsNoClaim m c (OutOfMemory refused) = ⊥
 -- why there is none: the claim cannot be shown, or the latches and gates are refused
 abbrev pub HasNoSubject : Parts → Claim → List Latch → List Gate → CertifyError → Type 0
 HasNoSubject m c ls gs (NoProperty n) = (n ≡ position_of c.property) × (HasProperty m c.property → ⊥)
-HasNoSubject m c ls gs (Refusal r) = IsUnshowable m c.property c.rounds r ⊎ (IsShowable m c.property c.rounds × IsNoExtension (circuit_of m c.property c.rounds) ls gs r)
+HasNoSubject m c ls gs (Refused r) = IsUnshowable m c.property c.rounds r ⊎ (IsShowable m c.property c.rounds × IsNoExtension (circuit_of m c.property c.rounds) ls gs r)
 HasNoSubject m c ls gs TooMany = ⊥
 HasNoSubject m c ls gs (Repeated k) = ⊥
 HasNoSubject m c ls gs (IdsTaken used_up) = ⊥

@@ -6,7 +6,7 @@ ghost use Rattle.certify3.specs.Numbers.{number_of, place_of};
 ghost use Rattle.certify3.specs.declared.certify_error.CertifyError.TheVariants.{OutOfMemory};
 
 use base::Refused;
-use checker3::Refusal;
+use checker3::CheckError;
 use solver::Full;
 use thiserror::Error;
 
@@ -18,7 +18,7 @@ pub enum CertifyError {
     NoProperty(u32),
     /// no certificate of this claim, with these latches, gates and clauses, is accepted
     #[error("{0}")]
-    Refusal(Refusal),
+    Refused(CheckError),
     /// there are more clauses than a certificate may have
     #[error("over a limit")]
     TooMany,
@@ -48,7 +48,7 @@ impl CertifyError {
     {
         match self {
             CertifyError::NoProperty(_) => 30,
-            CertifyError::Refusal(refusal) => refusal.number(),
+            CertifyError::Refused(refusal) => refusal.number(),
             CertifyError::TooMany | CertifyError::IdsTaken(_) => 4,
             CertifyError::Repeated { .. } => 33,
             CertifyError::OutOfMemory(_) => 20,
@@ -61,7 +61,7 @@ impl CertifyError {
     {
         match self {
             CertifyError::NoProperty(position) => u64::from(position),
-            CertifyError::Refusal(refusal) => refusal.place(),
+            CertifyError::Refused(refusal) => refusal.place(),
             CertifyError::Repeated { clause } => clause,
             CertifyError::TooMany | CertifyError::IdsTaken(_) | CertifyError::OutOfMemory(_) => 0,
         }

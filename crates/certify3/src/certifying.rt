@@ -7,7 +7,7 @@ ghost use Rattle.extension.specs.Accepted.{bad_of, circuit_of};
 ghost use Rattle.extension.specs.Extended.{extended};
 ghost use Rattle.extension.specs.Inductive.{IsInductiveOver, IsOverAll};
 ghost use Rattle.certify3.specs.Causes.{HasCause, IsLate, IsUnspent};
-ghost use Rattle.certify3.specs.Outcomes.{IsCertified, IsOfClauses, of_halt};
+ghost use Rattle.certify3.specs.Outcomes.{IsCertified, IsOfClauses, of_prove_error};
 ghost use Rattle.certify3.specs.Subjects.{IsSubject};
 ghost use Rattle.certify3.specs.declared.certify_error.CertifyError.TheVariants.{OutOfMemory};
 ghost use Rattle.certify3.specs.declared.certified.Certified.TheVariants.{NotInvariant};
@@ -17,7 +17,7 @@ use crate::additions::Extension;
 use crate::certified::Certified;
 use crate::certify_error::CertifyError;
 use crate::examining::examine;
-use crate::halt::Halt;
+use crate::prove_error::ProveError;
 use crate::judging::judge;
 use crate::proving::{Proofs, prove};
 use crate::subject::{Subject, subject_of};
@@ -48,14 +48,14 @@ fn evidence_of(
 }
 
 /// What it comes to that a case has no proof.
-fn halted(halt: Halt) -> Result<Certified, CertifyError>
-    ensures { result ≡ of_halt halt }
+fn halted(halt: ProveError) -> Result<Certified, CertifyError>
+    ensures { result ≡ of_prove_error halt }
 {
     match halt {
-        Halt::NotInvariant(found) => Ok(Certified::NotInvariant(found)),
-        Halt::Spent => Ok(Certified::Spent),
-        Halt::IdsTaken(full) => Err(CertifyError::IdsTaken(full)),
-        Halt::OutOfMemory(refused) => Err(CertifyError::OutOfMemory(refused)),
+        ProveError::NotInvariant(found) => Ok(Certified::NotInvariant(found)),
+        ProveError::Spent => Ok(Certified::Spent),
+        ProveError::IdsTaken(full) => Err(CertifyError::IdsTaken(full)),
+        ProveError::OutOfMemory(refused) => Err(CertifyError::OutOfMemory(refused)),
     }
 }
 

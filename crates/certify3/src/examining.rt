@@ -10,7 +10,7 @@ ghost use Rattle.certify3.specs.Causes.{IsFault, IsRepeated};
 
 use crate::certify_error::CertifyError;
 use base::{Lists, Refused};
-use checker3::Refusal;
+use checker3::CheckError;
 use cnf::TimeFrame;
 use graph::{Lit, MOST_VARIABLES, Model};
 use lrat::Trail;
@@ -91,7 +91,7 @@ pub fn examine(alloc: Global, circuit: &Model, invariant: &Lists<Lit>) -> Result
         return Err(CertifyError::TooMany);
     }
     if let Some(clause) = first_outside(circuit, invariant) {
-        return Err(CertifyError::Refusal(Refusal::Outside(clause)));
+        return Err(CertifyError::Refused(CheckError::Outside(clause)));
     }
     match first_repeated(alloc, circuit, invariant)? {
         Some(clause) => Err(CertifyError::Repeated { clause }),

@@ -15,7 +15,7 @@ mod certifying;
 mod counterexample;
 mod examining;
 mod formulas;
-mod halt;
+mod prove_error;
 mod hinting;
 mod judging;
 mod near;

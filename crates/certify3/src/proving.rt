@@ -4,11 +4,11 @@ ghost use Rattle.std.specs.Prelude.{◌≤◌, All, IfErr, length};
 ghost use Rattle.base.specs.Budget.{Spends};
 ghost use Rattle.cnf.specs.Formulas.{IsInRange};
 ghost use Rattle.extension.specs.Inductive.{IsOverAll};
-ghost use Rattle.certify3.specs.Halts.{IsHalt};
+ghost use Rattle.certify3.specs.ProveErrors.{IsProveError};
 
 use crate::counterexample::{Case, Counterexample};
 use crate::formulas::{bad_formula, begin_formula, pair_formula};
-use crate::halt::Halt;
+use crate::prove_error::ProveError;
 use crate::numbering::Numbering;
 use crate::showing::{Kind, Timed, show};
 use crate::subject::Subject;
@@ -37,10 +37,10 @@ fn prove_first(
     circuit: &Model,
     invariant: &Lists<Lit>,
     budget: &mut Budget,
-) -> Result<Shown, Halt>
+) -> Result<Shown, ProveError>
     requires over { All (IsOverAll circuit.now) invariant.now }
     ensures spends { Spends budget.old budget.new }
-    ensures halted { IfErr result (λ h. (a : Lit) → IsHalt circuit.now invariant.now a budget.new h) }
+    ensures halted { IfErr result (λ h. (a : Lit) → IsProveError circuit.now invariant.now a budget.new h) }
 {
     circuit.well_formed();
     let formula = begin_formula(alloc, circuit)?;
@@ -59,11 +59,11 @@ fn prove_step(
     circuit: &Model,
     invariant: &Lists<Lit>,
     budget: &mut Budget,
-) -> Result<Shown, Halt>
+) -> Result<Shown, ProveError>
     requires over { All (IsOverAll circuit.now) invariant.now }
     requires few { length invariant.now ≤ 4194303 }
     ensures spends { Spends budget.old budget.new }
-    ensures halted { IfErr result (λ h. (a : Lit) → IsHalt circuit.now invariant.now a budget.new h) }
+    ensures halted { IfErr result (λ h. (a : Lit) → IsProveError circuit.now invariant.now a budget.new h) }
 {
     circuit.well_formed();
     let formula = pair_formula(alloc, circuit, invariant)?;
@@ -83,12 +83,12 @@ fn prove_last(
     invariant: &Lists<Lit>,
     bad: Lit,
     budget: &mut Budget,
-) -> Result<Proof, Halt>
+) -> Result<Proof, ProveError>
     requires over { All (IsOverAll circuit.now) invariant.now }
     requires few { length invariant.now ≤ 4194303 }
     requires bad { IsInRange circuit.now.max_var bad }
     ensures spends { Spends budget.old budget.new }
-    ensures halted { IfErr result (IsHalt circuit.now invariant.now bad budget.new) }
+    ensures halted { IfErr result (IsProveError circuit.now invariant.now bad budget.new) }
 {
     let formula = bad_formula(alloc, circuit, invariant, bad)?;
     match refute(alloc, &formula, budget)? {
@@ -96,11 +96,11 @@ fn prove_last(
             let numbering = Numbering::new(alloc, formula.clauses.len(), proof.lines())?;
             Ok(numbering.renumbered(alloc, proof.lines())?)
         }
-        Refuted::Model(values) => Err(Halt::NotInvariant(Counterexample {
+        Refuted::Model(values) => Err(ProveError::NotInvariant(Counterexample {
             case: Case::Last,
             values,
         })),
-        Refuted::Spent => Err(Halt::Spent),
+        Refuted::Spent => Err(ProveError::Spent),
     }
 }
 
@@ -110,12 +110,12 @@ pub fn prove(
     subject: &Subject,
     invariant: &Lists<Lit>,
     budget: &mut Budget,
-) -> Result<Proofs, Halt>
+) -> Result<Proofs, ProveError>
     requires over { All (IsOverAll subject.now.circuit) invariant.now }
     requires few { length invariant.now ≤ 4194303 }
     requires bad { IsInRange subject.now.circuit.max_var subject.now.bad }
     ensures spends { Spends budget.old budget.new }
-    ensures halted { IfErr result (IsHalt subject.now.circuit invariant.now subject.now.bad budget.new) }
+    ensures halted { IfErr result (IsProveError subject.now.circuit invariant.now subject.now.bad budget.new) }
 {
     let first = prove_first(alloc, &subject.circuit, invariant, budget)?;
     let step = prove_step(alloc, &subject.circuit, invariant, budget)?;

@@ -8,10 +8,10 @@ ghost use Rattle.cnf.specs.Clauses.{denial};
 ghost use Rattle.cnf.specs.Formulas.{IsInRange};
 ghost use Rattle.cdcl_log.specs.Closings.{IsClosingOf, StaysShown};
 ghost use Rattle.cdcl_log.specs.Logged.{with_units};
-ghost use Rattle.certify3.specs.Halts.{IsHaltAt, IsHaltOf, case_of};
+ghost use Rattle.certify3.specs.ProveErrors.{IsProveErrorAt, IsProveErrorOf, case_of};
 
 use crate::counterexample::{Case, Counterexample};
-use crate::halt::Halt;
+use crate::prove_error::ProveError;
 use crate::hinting::Known;
 use crate::near::Nearby;
 use crate::numbering::Numbering;
@@ -80,18 +80,18 @@ fn close(
     part: &Part,
     units: &[i32],
     budget: &mut Budget,
-) -> Result<Closing, Halt>
+) -> Result<Closing, ProveError>
     requires literals { All (IsLiteral refuter.old.formula.vars) units.now }
     ensures formula { refuter.new.formula ≡ refuter.old.formula }
     ensures stays { StaysShown refuter.old refuter.new }
     ensures spends { Spends budget.old budget.new }
     ensures closed { IfOk result (IsClosingOf refuter.new units.now) }
-    ensures halted { IfErr result (IsHaltOf (with_units refuter.old.formula units.now) case budget.new) }
+    ensures halted { IfErr result (IsProveErrorOf (with_units refuter.old.formula units.now) case budget.new) }
 {
     match refuter.show_part(alloc, part, units, budget)? {
         Found::Closing(closing) => Ok(closing),
-        Found::Model(values) => Err(Halt::NotInvariant(Counterexample { case, values })),
-        Found::Spent => Err(Halt::Spent),
+        Found::Model(values) => Err(ProveError::NotInvariant(Counterexample { case, values })),
+        Found::Spent => Err(ProveError::Spent),
     }
 }
 
@@ -101,14 +101,14 @@ fn close_all(
     refuter: &mut Refuter,
     timed: Timed,
     budget: &mut Budget,
-) -> Result<Seq<Closing>, Halt>
+) -> Result<Seq<Closing>, ProveError>
     requires fits { timed.time.offset + timed.time.max_var + 1 ≤ refuter.old.formula.vars }
     requires small { refuter.old.formula.vars < 2 ^ 31 }
     requires over { All (All (IsInRange timed.time.max_var)) timed.clauses.now }
     ensures formula { refuter.new.formula ≡ refuter.old.formula }
     ensures spends { Spends budget.old budget.new }
     ensures closed { IfOk result (λ ks. All (λ k. (us : List ℤ) × IsClosingOf refuter.new us k) ks) }
-    ensures halted { IfErr result (IsHaltAt refuter.old.formula timed.entry.kind timed.entry.time timed.entry.clauses.now budget.new) }
+    ensures halted { IfErr result (IsProveErrorAt refuter.old.formula timed.entry.kind timed.entry.time timed.entry.clauses.now budget.new) }
 {
     let after_step = timed.kind == Kind::Step;
     let mut nearby = Nearby::new(alloc, timed.circuit)?;
@@ -197,14 +197,14 @@ fn show_by(
     timed: Timed,
     refuter: &mut Refuter,
     budget: &mut Budget,
-) -> Result<Shown, Halt>
+) -> Result<Shown, ProveError>
     requires loaded { refuter.old.formula ≡ formula.now }
     requires small { formula.now.vars < 2 ^ 31 }
     requires first { timed.circuit.now.max_var + 1 ≤ formula.now.vars }
     requires fits { timed.time.offset + timed.time.max_var + 1 ≤ formula.now.vars }
     requires over { All (All (IsInRange timed.time.max_var)) timed.clauses.now }
     ensures spends { Spends budget.old budget.new }
-    ensures halted { IfErr result (IsHaltAt formula.now timed.entry.kind timed.entry.time timed.entry.clauses.now budget.new) }
+    ensures halted { IfErr result (IsProveErrorAt formula.now timed.entry.kind timed.entry.time timed.entry.clauses.now budget.new) }
 {
     prepare(alloc, timed, refuter, budget)?;
     let closings = close_all(alloc, refuter, timed, budget)?;
@@ -217,13 +217,13 @@ pub fn show(
     formula: &Formula,
     timed: Timed,
     budget: &mut Budget,
-) -> Result<Shown, Halt>
+) -> Result<Shown, ProveError>
     requires formula { IsFormula formula.now }
     requires first { timed.circuit.now.max_var + 1 ≤ formula.now.vars }
     requires fits { timed.time.offset + timed.time.max_var + 1 ≤ formula.now.vars }
     requires over { All (All (IsInRange timed.time.max_var)) timed.clauses.now }
     ensures spends { Spends budget.old budget.new }
-    ensures halted { IfErr result (IsHaltAt formula.now timed.entry.kind timed.entry.time timed.entry.clauses.now budget.new) }
+    ensures halted { IfErr result (IsProveErrorAt formula.now timed.entry.kind timed.entry.time timed.entry.clauses.now budget.new) }
 {
     let mut refuter = Refuter::new(alloc, formula, 0)?;
     show_by(alloc, formula, timed, &mut refuter, budget)

@@ -10,7 +10,7 @@ ghost use Rattle.certify3.specs.Subjects.{HasNoSubject, IsGrownFor, IsNoClaim, I
 use crate::additions::Extension;
 use crate::certify_error::CertifyError;
 use certificate3::Claim;
-use checker3::Refusal;
+use checker3::CheckError;
 use extension::{are_few_rounds, count_rounds, extended_parts, is_extension};
 use graph::{Lit, MOST_VARIABLES, Model, Property, ReadError};
 use live_safe::LiveError;
@@ -29,15 +29,15 @@ pub struct Subject {
 }
 
 /// Looks whether the latches and gates extend the circuit within the limit.
-fn check_extension(circuit: &Model, extension: Extension) -> Result<(), Refusal>
+fn check_extension(circuit: &Model, extension: Extension) -> Result<(), CheckError>
     ensures { MatchResult result (λ _. IsExtension circuit.now extension.entry.latches.now extension.entry.gates.now × (circuit.now.max_var + length extension.entry.latches.now + length extension.entry.gates.now ≤ 4194303)) (IsNoExtension circuit.now extension.entry.latches.now extension.entry.gates.now) }
 {
     circuit.well_formed();
     if circuit.max_var() as usize + extension.latches.len() + extension.gates.len() > MAX_VAR {
-        return Err(Refusal::Limit);
+        return Err(CheckError::Limit);
     }
     if !is_extension(circuit.parts(), extension.latches, extension.gates) {
-        return Err(Refusal::NotExtension);
+        return Err(CheckError::NotExtension);
     }
     Ok(())
 }
@@ -57,7 +57,7 @@ fn extended_model(
     match Model::from_parts(alloc, parts) {
         Ok(model) => Ok(model),
         Err(ReadError::OutOfMemory(refused)) => Err(CertifyError::OutOfMemory(refused)),
-        Err(_) => Err(CertifyError::Refusal(Refusal::NotExtension)),
+        Err(_) => Err(CertifyError::Refused(CheckError::NotExtension)),
     }
 }
 
@@ -68,7 +68,7 @@ fn grown(alloc: Global, circuit: &Model, extension: Extension) -> Result<Model, 
 {
     match check_extension(circuit, extension) {
         Ok(()) => extended_model(alloc, circuit, extension),
-        Err(refusal) => Err(CertifyError::Refusal(refusal)),
+        Err(refusal) => Err(CertifyError::Refused(refusal)),
     }
 }
 
@@ -88,7 +88,7 @@ fn check_claim(circuit: &Model, claim: Claim) -> Result<(), CertifyError>
         return Err(no_property(claim.property));
     }
     if !are_few_rounds(claim.rounds, circuit.latches().len()) {
-        return Err(CertifyError::Refusal(Refusal::TooManyRounds));
+        return Err(CertifyError::Refused(CheckError::TooManyRounds));
     }
     Ok(())
 }
@@ -115,7 +115,7 @@ fn counter_for(
             Ok(Subject { circuit, bad })
         }
         Err(LiveError::OutOfMemory(refused)) => Err(CertifyError::OutOfMemory(refused)),
-        Err(LiveError::Limit) => Err(CertifyError::Refusal(Refusal::Limit)),
+        Err(LiveError::Limit) => Err(CertifyError::Refused(CheckError::Limit)),
         // the property is there
         Err(LiveError::NoProperty(_)) => unreachable!(),
     }

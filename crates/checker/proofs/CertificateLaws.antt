@@ -13,16 +13,16 @@ use Rattle.extension.specs.Accepted.{AcceptedLaw as AcceptedThirdLaw}
 use Rattle.certificate3.specs.Formats.{Certified, SpellsCertified, earlier, third}
 use Rattle.certificate3.proofs.FormatLaws.{certified_reads}
 use Rattle.checker3.specs.Laws.{RefusedLaw}
-use Rattle.checker.specs.declared.stop.Stop.{Stop}
+use Rattle.checker.specs.declared.answer_error.AnswerError.{AnswerError}
 use Rattle.checker.specs.AnyVersion.{IsFoundOf, named_property}
-use Rattle.checker.specs.Stops.{IsStop}
+use Rattle.checker.specs.AnswerErrors.{IsAnswerError}
 use Rattle.checker.specs.Verdicts.{Accepts, IsUpheldText, IsNotAccepted, IsRefusal, IsRefusalFor}
 use Rattle.checker.proofs.Accepted.{accepted_law, cause_refuses}
 use Rattle.checker.proofs.Said.{stops_more}
 
 -- ---- where it stops
 
-pub first_stops : (xs ys : List ℕ) (s : Stop) → IsStop (SpellsNoFile xs) s → IsStop (IsRefusal xs ys) s
+pub first_stops : (xs ys : List ℕ) (s : AnswerError) → IsAnswerError (SpellsNoFile xs) s → IsAnswerError (IsRefusal xs ys) s
 first_stops xs ys s is = stops_more (SpellsNoFile xs) (IsRefusal xs ys) s (λ n none. inl none) is
 
 -- ---- what is accepted

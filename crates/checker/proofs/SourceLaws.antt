@@ -11,7 +11,7 @@ use Rattle.certificate.specs.declared.reader_error.ReaderError.{ReaderError}
 use Rattle.certificate.specs.declared.reader_error.ReaderError.TheVariants.{Refused, Device}
 use Rattle.certificate.specs.Streams.{ForText}
 use Rattle.certificate3.specs.Formats.{Certified, SpellsCertified, earlier, third}
-use Rattle.checker.specs.Stops.{IsStop, stop_of_reader}
+use Rattle.checker.specs.AnswerErrors.{IsAnswerError, error_of_reader}
 use Rattle.checker.specs.AnyVersion.{IsFoundOf, named_property}
 use Rattle.checker.specs.Verdicts.{Accepts, IsCertificateOf, IsNotAccepted, IsRefusal, SpellsNoCertificate}
 use Rattle.checker.proofs.CertificateLaws.{accepts, one_certified}
@@ -24,7 +24,7 @@ only_certificate ys c spells = record { spells = spells; only = λ d other. one_
 spells_none : (ys : List ℕ) (e : CertError) → (e ≡ text.OutOfMemory witness → ⊥) → ((c : Certified) → SpellsCertified ys c → ⊥) → SpellsNoCertificate ys (certificate_number e)
 spells_none ys e other none = record { none = none; error = e; other = other; number = refl }
 
-pub reader_stops : (xs ys : List ℕ) (f : File) (e : ReaderError) → IsFileOf xs f → ForText e ((c : Certified) → SpellsCertified ys c → ⊥) → IsStop (IsRefusal xs ys) (stop_of_reader e)
+pub reader_stops : (xs ys : List ℕ) (f : File) (e : ReaderError) → IsFileOf xs f → ForText e ((c : Certified) → SpellsCertified ys c → ⊥) → IsAnswerError (IsRefusal xs ys) (error_of_reader e)
 reader_stops xs ys f (Refused (text.OutOfMemory refused)) first none = tt
 reader_stops xs ys f (Refused (text.Number place)) first none = inr (inl (f, first, spells_none ys (text.Number place) (λ m. absurd cc) none))
 reader_stops xs ys f (Refused (text.Byte place)) first none = inr (inl (f, first, spells_none ys (text.Byte place) (λ m. absurd cc) none))

@@ -22,14 +22,14 @@ use Rattle.replay.specs.declared.text_error.TextError.{TextError}
 use Rattle.replay.specs.declared.text_error.TextError.TheVariants.{Refused, Device}
 use Rattle.replay.specs.Found.{IsFound}
 use Rattle.replay.specs.Streams.{ForText}
-use Rattle.checker.specs.declared.stop.Stop.{Stop}
-use Rattle.checker.specs.Stops.{stop_of, stop_of_text, IsStop}
+use Rattle.checker.specs.declared.answer_error.AnswerError.{AnswerError}
+use Rattle.checker.specs.AnswerErrors.{error_numbered, error_of_text, IsAnswerError}
 use Rattle.checker.specs.Replayed.{Confirms, IsStimulusOf, IsRunRefusal, IsRunRefusalFor}
 use Rattle.checker.proofs.Said.{stops, stops_more}
 
 -- ---- where it stops
 
-pub first_stops : (xs ys : List ℕ) (s : Stop) → IsStop (SpellsNoFile xs) s → IsStop (IsRunRefusal xs ys) s
+pub first_stops : (xs ys : List ℕ) (s : AnswerError) → IsAnswerError (SpellsNoFile xs) s → IsAnswerError (IsRunRefusal xs ys) s
 first_stops xs ys s is = stops_more (SpellsNoFile xs) (IsRunRefusal xs ys) s (λ n none. inl none) is
 
 -- the one stimulus of the text
@@ -37,12 +37,12 @@ only_stimulus : (ys : List ℕ) (s : Stimulus) → SpellsStimulus ys s → IsSti
 only_stimulus ys s spells = record { spells = spells; only = λ t other. spells_one stimulus_reads ys t s other spells }
 
 -- no stimulus has the text
-text_refused : (xs ys : List ℕ) (f : File) (e : StimError) → IsFileOf xs f → ((s : Stimulus) → SpellsStimulus ys s → ⊥) → IsStop (IsRunRefusal xs ys) (stop_of (stim_number_of e))
+text_refused : (xs ys : List ℕ) (f : File) (e : StimError) → IsFileOf xs f → ((s : Stimulus) → SpellsStimulus ys s → ⊥) → IsAnswerError (IsRunRefusal xs ys) (error_numbered (stim_number_of e))
 text_refused xs ys f e first none =
     stops (IsRunRefusal xs ys) (stim_number_of e)
     (λ other. inr (inl (f, first, record { none = none; error = e; other = λ is. other (ap stim_number_of is); number = refl })))
 
-pub text_stops : (xs ys : List ℕ) (f : File) (e : TextError) → IsFileOf xs f → ForText e ((s : Stimulus) → SpellsStimulus ys s → ⊥) → IsStop (IsRunRefusal xs ys) (stop_of_text e)
+pub text_stops : (xs ys : List ℕ) (f : File) (e : TextError) → IsFileOf xs f → ForText e ((s : Stimulus) → SpellsStimulus ys s → ⊥) → IsAnswerError (IsRunRefusal xs ys) (error_of_text e)
 text_stops xs ys f (Refused (text.OutOfMemory refused)) first none = tt
 text_stops xs ys f (Refused (text.Status place)) first none = text_refused xs ys f (text.Status place) first none
 text_stops xs ys f (Refused (text.PropertyLine place)) first none = text_refused xs ys f (text.PropertyLine place) first none

@@ -12,7 +12,7 @@ use Rattle.certificate.specs.Streams.{parts_at}
 use Rattle.extension.specs.Accepted.{IsAcceptedCertificate}
 use Rattle.certificate3.specs.Formats.{Certified, earlier, third}
 use Rattle.certificate3.specs.Texts.{Certificate}
-use Rattle.checker3.specs.declared.refusal.Refusal.{Refusal}
+use Rattle.checker3.specs.declared.check_error.CheckError.{CheckError as ThirdError}
 use Rattle.checker3.specs.Judged.{IsJudged}
 use Rattle.checker3.specs.Numbers.{number_of}
 use Rattle.checker.specs.Streamed.{IsFound}
@@ -33,7 +33,7 @@ named_property (third c) = c.claim.property
 -- a certificate of version 3 is accepted for the circuit, or the number is that of the first cause
 abbrev pub IsFoundThird : Parts → Certificate → Option ℕ → Type 0
 IsFoundThird m c None = IsAcceptedCertificate m c.claim.property c.claim.rounds c.evidence
-IsFoundThird m c (Some n) = (r : Refusal) × IsJudged m c (Some r) × (n ≡ number_of r)
+IsFoundThird m c (Some n) = (r : ThirdError) × IsJudged m c (Some r) × (n ≡ number_of r)
 
 -- the same of a certificate of any version
 abbrev pub IsFoundOf : Parts → Certified → Option ℕ → Type 0

@@ -5,6 +5,6 @@ pub mod Lines
 pub mod Numbers
 pub mod Readers
 pub mod Replayed
-pub mod Stops
+pub mod AnswerErrors
 pub mod Streamed
 pub mod Verdicts

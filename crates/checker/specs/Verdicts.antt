@@ -16,7 +16,7 @@ use Rattle.certificate.specs.Texts.{SpellsCertificate}
 use Rattle.extension.specs.Accepted.{IsAcceptedCertificate as IsAcceptedThird}
 use Rattle.certificate3.specs.Formats.{Certified, SpellsCertified, earlier, third}
 use Rattle.certificate3.specs.Texts.{Certificate as ThirdCertificate, SpellsCertificate as SpellsThird}
-use Rattle.checker3.specs.declared.refusal.Refusal.{Refusal}
+use Rattle.checker3.specs.declared.check_error.CheckError.{CheckError as ThirdError}
 use Rattle.checker3.specs.Judged.{IsJudged}
 use Rattle.checker3.specs.Numbers.{number_of as third_number}
 use Rattle.checker.specs.declared.check_error.CheckError.{CheckError}
@@ -80,7 +80,7 @@ pub record IsEarlierNotAccepted (f : File) (c : Certificate) (n : ℕ) : Type 0 
 
 -- the same of version 3
 pub record IsThirdNotAccepted (f : File) (c : ThirdCertificate) (n : ℕ) : Type 0 where
-  pub refusal : Refusal
+  pub refusal : ThirdError
   pub cause : IsJudged f.model c (Some refusal)
   pub number : n ≡ third_number refusal
 

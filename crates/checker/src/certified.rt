@@ -9,16 +9,16 @@ ghost use Rattle.graph.specs.declared.circuit.Property.{Property as AProperty};
 ghost use Rattle.graph.specs.File.{File};
 ghost use Rattle.checker.specs.Lines.{yes_line, no_line};
 ghost use Rattle.checker.specs.Verdicts.{Accepts, BeginsLine, BeginsLineFor, IsRefusal, IsRefusalFor, IsUpheldText};
-ghost use Rattle.checker.specs.Stops.{IsStop, FailsOne};
+ghost use Rattle.checker.specs.AnswerErrors.{IsAnswerError, FailsOne};
 ghost use Rattle.checker.specs.declared.line.Question.TheVariants.{Safe};
-ghost use Rattle.checker.specs.declared.stop.Stop.TheVariants.{Device as Failure};
+ghost use Rattle.checker.specs.declared.answer_error.AnswerError.TheVariants.{Device as Failure};
 ghost use Rattle.checker.specs.declared.run_error.RunError.TheVariants.{Device};
 
 use crate::asked::about;
 use crate::certificate_text::check_source;
 use crate::line::{Question, tell};
 use crate::run_error::RunError;
-use crate::stop::Stop;
+use crate::answer_error::AnswerError;
 use aiger::load;
 use base::{Sink, Source};
 use checker3::refused_law;
@@ -31,9 +31,9 @@ fn safe_property_of<C: Source>(
     alloc: Global,
     file: &AigerFile,
     certificate: &mut C,
-) -> Result<Property, Stop>
+) -> Result<Property, AnswerError>
     requires certificate { C.failed certificate.old < 2 ^ 64 - 1 }
-    ensures says { (xs : List ℕ) → IsFileOf xs file.now → Reads (C.leaves certificate.old) (C.leaves certificate.new) (λ ys _. MatchResult result (λ p. Accepts xs ys p) (IsStop (IsRefusal xs ys))) }
+    ensures says { (xs : List ℕ) → IsFileOf xs file.now → Reads (C.leaves certificate.old) (C.leaves certificate.new) (λ ys _. MatchResult result (λ p. Accepts xs ys p) (IsAnswerError (IsRefusal xs ys))) }
     ensures ended { IfOk result (λ _. IsAtEnd (C.leaves certificate.new)) }
     ensures device { IsErrOf result Failure → C.failed certificate.new ≡ C.failed certificate.old + 1 }
     ensures others { (IsErrOf result Failure → ⊥) → C.failed certificate.new ≡ C.failed certificate.old }
@@ -41,7 +41,7 @@ fn safe_property_of<C: Source>(
     let outcome = check_source(alloc, file.model(), certificate)?;
     match outcome.refusal {
         None => Ok(outcome.property),
-        Some(number) => Err(Stop::No(number)),
+        Some(number) => Err(AnswerError::No(number)),
     }
 }
 
@@ -51,10 +51,10 @@ fn safe_property<M: Source, C: Source>(
     alloc: Global,
     circuit: &mut M,
     certificate: &mut C,
-) -> Result<Property, Stop>
+) -> Result<Property, AnswerError>
     requires circuit { M.failed circuit.old < 2 ^ 64 - 1 }
     requires certificate { C.failed certificate.old < 2 ^ 64 - 1 }
-    ensures says { Reads (M.leaves circuit.old) (M.leaves circuit.new) (λ xs _. Reads (C.leaves certificate.old) (C.leaves certificate.new) (λ ys _. MatchResult result (λ p. Accepts xs ys p) (IsStop (IsRefusal xs ys)))) }
+    ensures says { Reads (M.leaves circuit.old) (M.leaves circuit.new) (λ xs _. Reads (C.leaves certificate.old) (C.leaves certificate.new) (λ ys _. MatchResult result (λ p. Accepts xs ys p) (IsAnswerError (IsRefusal xs ys)))) }
     ensures ended { IfOk result (λ _. IsAtEnd (M.leaves circuit.new) × IsAtEnd (C.leaves certificate.new)) }
     ensures unread { Reads (M.leaves circuit.old) (M.leaves circuit.new) (λ xs _. ((f : File) → SpellsFile xs f → ⊥) → certificate.new ≡ certificate.old) }
     ensures fails { FailsOne result Failure (record { circuit = M.failed circuit.old; evidence = C.failed certificate.old; out = 0 }) (record { circuit = M.failed circuit.new; evidence = C.failed certificate.new; out = 0 }) }

@@ -42,7 +42,7 @@ mod replayed;
 mod run_error;
 mod section_text;
 mod sections;
-mod stop;
+mod answer_error;
 
 pub use acceptance::check;
 pub use certified::{run_safe, run_safe_for};

@@ -3,11 +3,11 @@
 ghost use Rattle.std.specs.Prelude.{◌≡◌, ◌+◌, ◌-◌, ◌<◌, ◌^◌, ◌++◌, Err, IfOk, OnOk, OnErr, IsErrOf, decimal};
 ghost use Rattle.graph.specs.Circuits.{property_text};
 ghost use Rattle.checker.specs.Lines.{BeginsToTell, Tells, yes_line as yes_text, no_line as no_text};
-ghost use Rattle.checker.specs.declared.stop.Stop.TheVariants.{Device as Failure};
+ghost use Rattle.checker.specs.declared.answer_error.AnswerError.TheVariants.{Device as Failure};
 ghost use Rattle.checker.specs.declared.run_error.RunError.TheVariants.{Device};
 
 use crate::run_error::RunError;
-use crate::stop::Stop;
+use crate::answer_error::AnswerError;
 use base::{Refused, Sink, extend, push, put_all};
 use graph::Property;
 use itoa::Buffer;
@@ -75,7 +75,7 @@ fn no_line(alloc: Global, number: u8) -> Result<Vec<u8>, Refused>
 pub fn tell<W: Sink>(
     alloc: Global,
     question: Question,
-    answer: Result<Property, Stop>,
+    answer: Result<Property, AnswerError>,
     out: &mut W,
 ) -> Result<bool, RunError>
     requires { W.failed out.old < 2 ^ 64 - 1 }
@@ -88,9 +88,9 @@ pub fn tell<W: Sink>(
 {
     let (yes, line) = match answer {
         Ok(property) => (true, yes_line(alloc, question, property)?),
-        Err(Stop::No(number)) => (false, no_line(alloc, number)?),
-        Err(Stop::OutOfMemory(refused)) => return Err(RunError::OutOfMemory(refused)),
-        Err(Stop::Device) => return Err(RunError::Device),
+        Err(AnswerError::No(number)) => (false, no_line(alloc, number)?),
+        Err(AnswerError::OutOfMemory(refused)) => return Err(RunError::OutOfMemory(refused)),
+        Err(AnswerError::Device) => return Err(RunError::Device),
     };
     put_all(out, line.as_slice())?;
     Ok(yes)

@@ -8,7 +8,7 @@ ghost use Rattle.graph.specs.File.{File};
 ghost use Rattle.checker.specs.Lines.{yes_line, no_line};
 ghost use Rattle.checker.specs.Readers.{BeginsLineOf, BeginsRunLineOf, Gives, IsDone, IsRefusalOf, IsRunRefusalOf};
 ghost use Rattle.checker.specs.Replayed.{Confirms};
-ghost use Rattle.checker.specs.Stops.{FailsOne};
+ghost use Rattle.checker.specs.AnswerErrors.{FailsOne};
 ghost use Rattle.checker.specs.Verdicts.{Accepts, IsUpheldText};
 ghost use Rattle.checker.specs.declared.line.Question.TheVariants.{Run, Safe};
 ghost use Rattle.checker.specs.declared.run_error.RunError.TheVariants.{Device};

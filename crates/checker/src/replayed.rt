@@ -9,15 +9,15 @@ ghost use Rattle.graph.specs.declared.circuit.Property.{Property as AProperty};
 ghost use Rattle.graph.specs.File.{File};
 ghost use Rattle.checker.specs.Lines.{yes_line, no_line};
 ghost use Rattle.checker.specs.Replayed.{BeginsRunLine, BeginsRunLineFor, Confirms, IsRunRefusal, IsRunRefusalFor};
-ghost use Rattle.checker.specs.Stops.{IsStop, FailsOne};
+ghost use Rattle.checker.specs.AnswerErrors.{IsAnswerError, FailsOne};
 ghost use Rattle.checker.specs.declared.line.Question.TheVariants.{Run};
-ghost use Rattle.checker.specs.declared.stop.Stop.TheVariants.{Device as Failure};
+ghost use Rattle.checker.specs.declared.answer_error.AnswerError.TheVariants.{Device as Failure};
 ghost use Rattle.checker.specs.declared.run_error.RunError.TheVariants.{Device};
 
 use crate::asked::about;
 use crate::line::{Question, tell};
 use crate::run_error::RunError;
-use crate::stop::Stop;
+use crate::answer_error::AnswerError;
 use aiger::load;
 use base::{Sink, Source};
 use graph::{AigerFile, Property};
@@ -29,9 +29,9 @@ fn violated_property_of<C: Source>(
     alloc: Global,
     file: &AigerFile,
     stimulus: &mut C,
-) -> Result<Property, Stop>
+) -> Result<Property, AnswerError>
     requires stimulus { C.failed stimulus.old < 2 ^ 64 - 1 }
-    ensures says { (xs : List ℕ) → IsFileOf xs file.now → Reads (C.leaves stimulus.old) (C.leaves stimulus.new) (λ ys _. MatchResult result (λ p. Confirms xs ys p) (IsStop (IsRunRefusal xs ys))) }
+    ensures says { (xs : List ℕ) → IsFileOf xs file.now → Reads (C.leaves stimulus.old) (C.leaves stimulus.new) (λ ys _. MatchResult result (λ p. Confirms xs ys p) (IsAnswerError (IsRunRefusal xs ys))) }
     ensures ended { IfOk result (λ _. IsAtEnd (C.leaves stimulus.new)) }
     ensures device { IsErrOf result Failure → C.failed stimulus.new ≡ C.failed stimulus.old + 1 }
     ensures others { (IsErrOf result Failure → ⊥) → C.failed stimulus.new ≡ C.failed stimulus.old }
@@ -39,7 +39,7 @@ fn violated_property_of<C: Source>(
     let outcome = judge_source(alloc, file.model(), stimulus)?;
     match outcome.refusal {
         None => Ok(outcome.property),
-        Some(number) => Err(Stop::No(number)),
+        Some(number) => Err(AnswerError::No(number)),
     }
 }
 
@@ -49,10 +49,10 @@ fn violated_property<M: Source, C: Source>(
     alloc: Global,
     circuit: &mut M,
     stimulus: &mut C,
-) -> Result<Property, Stop>
+) -> Result<Property, AnswerError>
     requires circuit { M.failed circuit.old < 2 ^ 64 - 1 }
     requires stimulus { C.failed stimulus.old < 2 ^ 64 - 1 }
-    ensures says { Reads (M.leaves circuit.old) (M.leaves circuit.new) (λ xs _. Reads (C.leaves stimulus.old) (C.leaves stimulus.new) (λ ys _. MatchResult result (λ p. Confirms xs ys p) (IsStop (IsRunRefusal xs ys)))) }
+    ensures says { Reads (M.leaves circuit.old) (M.leaves circuit.new) (λ xs _. Reads (C.leaves stimulus.old) (C.leaves stimulus.new) (λ ys _. MatchResult result (λ p. Confirms xs ys p) (IsAnswerError (IsRunRefusal xs ys)))) }
     ensures ended { IfOk result (λ _. IsAtEnd (M.leaves circuit.new) × IsAtEnd (C.leaves stimulus.new)) }
     ensures unread { Reads (M.leaves circuit.old) (M.leaves circuit.new) (λ xs _. ((f : File) → SpellsFile xs f → ⊥) → stimulus.new ≡ stimulus.old) }
     ensures fails { FailsOne result Failure (record { circuit = M.failed circuit.old; evidence = C.failed stimulus.old; out = 0 }) (record { circuit = M.failed circuit.new; evidence = C.failed stimulus.new; out = 0 }) }

@@ -13,8 +13,8 @@ use Rattle.cnf.proofs.Safety.{watched_used}
 use Rattle.extension.specs.Accepted.{Evidence, IsShowable, bad_of, circuit_of}
 use Rattle.extension.specs.Rounds.{rounds_of}
 use Rattle.certificate3.specs.declared.claim.Claim.{Claim}
-use Rattle.checker3.specs.declared.refusal.Refusal.{Refusal}
-use Rattle.checker3.specs.declared.refusal.Refusal.TheVariants.{Limit}
+use Rattle.checker3.specs.declared.check_error.CheckError.{CheckError}
+use Rattle.checker3.specs.declared.check_error.CheckError.TheVariants.{Limit}
 use Rattle.checker3.specs.Judged.{IsJudged, IsUnshowable}
 
 abbrev blank : Lit
@@ -39,7 +39,7 @@ output_here m p k n xs is are = ap (λ (ys : List Lit). get_or ys n blank) are �
 pub showable_here : (m : Parts) (claim : Claim) → IsWellFormed m → m ≡ circuit_of m claim.property claim.rounds → HasProperty m claim.property → claim.rounds ≤ 2 ^ length m.latches → IsShowable m claim.property claim.rounds
 showable_here m claim well circuit there few = record { exists = there; few = few; within = subst (λ (s : Parts). s.max_var ≤ 4194303) circuit well.limits.max_var }
 
-pub unshowable_here : (m : Parts) (claim : Claim) (e : Evidence) (r : Refusal) → IsUnshowable m claim.property claim.rounds r → IsJudged m (record { claim = claim; evidence = e }) (Some r)
+pub unshowable_here : (m : Parts) (claim : Claim) (e : Evidence) (r : CheckError) → IsUnshowable m claim.property claim.rounds r → IsJudged m (record { claim = claim; evidence = e }) (Some r)
 unshowable_here m claim e r none = inl none
 
 -- ---- justice

@@ -15,11 +15,11 @@ use Rattle.certificate3.specs.Texts.{Proofs}
 use Rattle.certificate3.proofs.CertificateLaws.{clauses_reads}
 use Rattle.certificate3.proofs.ChainLaws.{knows, reads_to}
 use Rattle.certificate3.proofs.SkipLaws.{Skips}
-use Rattle.checker3.specs.declared.refusal.Refusal.{Refusal}
+use Rattle.checker3.specs.declared.check_error.CheckError.{CheckError}
 use Rattle.checker3.specs.Judged.{IsGrown, IsJudged, IsJudgedFor, IsNoExtension, IsProvedOver}
 
 -- what is found over the extended circuit is found for the circuit
-pub judged_over : (m : Parts) (a : Lit) (e : Evidence) (x : Option Refusal) → IsGrown m e.latches e.gates → IsProvedOver (grown_by m e) a e x → IsJudgedFor m a e x
+pub judged_over : (m : Parts) (a : Lit) (e : Evidence) (x : Option CheckError) → IsGrown m e.latches e.gates → IsProvedOver (grown_by m e) a e x → IsJudgedFor m a e x
 judged_over m a e None grown (few, over, has) = record {
   few = few;
   extends = grown.extends;
@@ -32,34 +32,34 @@ judged_over m a e None grown (few, over, has) = record {
 }
 judged_over m a e (Some r) grown proved = inr (grown, proved)
 
-by_answer : (m : Parts) (claim : Claim) (e : Evidence) (x : Option Refusal) → IsShowable m claim.property claim.rounds → IsJudgedFor (circuit_of m claim.property claim.rounds) (bad_of m claim.property claim.rounds) e x
+by_answer : (m : Parts) (claim : Claim) (e : Evidence) (x : Option CheckError) → IsShowable m claim.property claim.rounds → IsJudgedFor (circuit_of m claim.property claim.rounds) (bad_of m claim.property claim.rounds) e x
     → IsJudged m (record { claim = claim; evidence = e }) x
 by_answer m claim e None showable judged = record { showable = showable; accepted = judged }
 by_answer m claim e (Some r) showable judged = inr (showable, judged)
 
 -- what is found for the circuit and the literal of the property is found of the certificate
-pub judged_for : (m s : Parts) (a : Lit) (claim : Claim) (e : Evidence) (x : Option Refusal) → IsShowable m claim.property claim.rounds → s ≡ circuit_of m claim.property claim.rounds → a ≡ bad_of m claim.property claim.rounds
+pub judged_for : (m s : Parts) (a : Lit) (claim : Claim) (e : Evidence) (x : Option CheckError) → IsShowable m claim.property claim.rounds → s ≡ circuit_of m claim.property claim.rounds → a ≡ bad_of m claim.property claim.rounds
     → IsJudgedFor s a e x → IsJudged m (record { claim = claim; evidence = e }) x
 judged_for m s a claim e x showable circuit literal judged =
     by_answer m claim e x showable (subst (λ (b : Lit). IsJudgedFor (circuit_of m claim.property claim.rounds) b e x) literal (subst (λ (t : Parts). IsJudgedFor t a e x) circuit judged))
 
 -- ---- behind the latches and gates
 
-judged_here : (m s : Parts) (a : Lit) (ls : List Latch) (gs : List Gate) (inv : List (List Lit)) (p : Proofs) (e : Evidence) (x : Option Refusal) → e ≡ evidence_of ls gs inv p → s ≡ extended m ls gs → IsGrown m ls gs → IsProvedOver s a e x → IsJudgedFor m a e x
+judged_here : (m s : Parts) (a : Lit) (ls : List Latch) (gs : List Gate) (inv : List (List Lit)) (p : Proofs) (e : Evidence) (x : Option CheckError) → e ≡ evidence_of ls gs inv p → s ≡ extended m ls gs → IsGrown m ls gs → IsProvedOver s a e x → IsJudgedFor m a e x
 judged_here m s a ls gs inv p e x is same grown proved =
     subst (λ (f : Evidence). IsJudgedFor m a f x) (sym is)
     (judged_over m a (evidence_of ls gs inv p) x grown (subst (λ (f : Evidence). IsProvedOver (extended m ls gs) a f x) is (subst (λ (t : Parts). IsProvedOver t a e x) same proved)))
 
-pub clauses_over : (m s : Parts) (a : Lit) (ls : List Latch) (gs : List Gate) (r : Result (Option Refusal) ReaderError) (before after : Leaves) (held later : List ℕ) → s ≡ extended m ls gs → IsGrown m ls gs
+pub clauses_over : (m s : Parts) (a : Lit) (ls : List Latch) (gs : List Gate) (r : Result (Option CheckError) ReaderError) (before after : Leaves) (held later : List ℕ) → s ≡ extended m ls gs → IsGrown m ls gs
     → Reads before after (λ ys zs. FindsWith (IsProvedOver s a) (clauses_at ls gs (held ++ ys)) r later zs) → Reads before after (λ ys zs. FindsWith (IsJudgedFor m a) (clauses_at ls gs (held ++ ys)) r later zs)
 clauses_over m s a ls gs r before after held later same grown one =
     knows (IsProvedOver s a) (IsJudgedFor m a) (clauses_at ls gs) r before after held later
     (λ bytes rest e x is proved. let w = ((clauses_reads ls gs).sound bytes e rest is).1 in judged_here m s a ls gs w.invariant w.proofs e x w.is same grown proved) one
 
-skipped_here : (m : Parts) (a : Lit) (ls : List Latch) (gs : List Gate) (inv : List (List Lit)) (p : Proofs) (e : Evidence) (r : Refusal) → e ≡ evidence_of ls gs inv p → IsNoExtension m ls gs r → IsJudgedFor m a e (Some r)
+skipped_here : (m : Parts) (a : Lit) (ls : List Latch) (gs : List Gate) (inv : List (List Lit)) (p : Proofs) (e : Evidence) (r : CheckError) → e ≡ evidence_of ls gs inv p → IsNoExtension m ls gs r → IsJudgedFor m a e (Some r)
 skipped_here m a ls gs inv p e r is none = subst (λ (f : Evidence). IsJudgedFor m a f (Some r)) (sym is) (inl none)
 
-pub clauses_skipped : (m : Parts) (a : Lit) (ls : List Latch) (gs : List Gate) (r : Refusal) (before after : Leaves) (held later : List ℕ) → IsNoExtension m ls gs r
+pub clauses_skipped : (m : Parts) (a : Lit) (ls : List Latch) (gs : List Gate) (r : CheckError) (before after : Leaves) (held later : List ℕ) → IsNoExtension m ls gs r
     → Reads before after (λ ys zs. FindsWith Skips (clauses_at ls gs (held ++ ys)) (Ok (tt {0})) later zs) → Reads before after (λ ys zs. FindsWith (IsJudgedFor m a) (clauses_at ls gs (held ++ ys)) (Ok (Some r)) later zs)
 clauses_skipped m a ls gs r before after held later none one =
     reads_to Skips (IsJudgedFor m a) (clauses_at ls gs) (tt {0}) (Some r) before after held later

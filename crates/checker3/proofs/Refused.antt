@@ -26,8 +26,8 @@ use Rattle.extension.specs.Extended.{IsExtension, extended}
 use Rattle.extension.specs.Inductive.{IsOverAll, clause_from}
 use Rattle.certificate3.specs.Texts.{Certificate, Later, Proofs, Shown, SpellsCertificate}
 use Rattle.certificate3.proofs.CertificateLaws.{one_certificate}
-use Rattle.checker3.specs.declared.refusal.Refusal.{Refusal}
-use Rattle.checker3.specs.declared.refusal.Refusal.TheVariants.{NoProperty, TooManyRounds, Limit, NotExtension, Outside, Line as Fails}
+use Rattle.checker3.specs.declared.check_error.CheckError.{CheckError}
+use Rattle.checker3.specs.declared.check_error.CheckError.TheVariants.{NoProperty, TooManyRounds, Limit, NotExtension, Outside, Line as Fails}
 use Rattle.checker3.specs.Judged.{HasLater, HasProofs, IsDerived, IsJudged, IsJudgedFor, IsNoExtension, IsOutside, IsProvedOver, IsRefuted, IsUnshowable, proofs_in}
 
 -- ---- lines and hints
@@ -73,32 +73,32 @@ proofs_not m a inv p e (inr (first, later)) has = later_not m a inv p.later e la
 
 -- ---- a certificate
 
-proved_not : (m : Parts) (a : Lit) (e : Evidence) (r : Refusal) → IsProvedOver m a e (Some r) → All (IsOverAll m) e.invariant → HasProofs m a e.invariant (proofs_in e) None → ⊥
+proved_not : (m : Parts) (a : Lit) (e : Evidence) (r : CheckError) → IsProvedOver m a e (Some r) → All (IsOverAll m) e.invariant → HasProofs m a e.invariant (proofs_in e) None → ⊥
 proved_not m a e (Outside k) out over has = outside_not m e.invariant k out over
 proved_not m a e (Fails fault) (all, fails) over has = proofs_not m a e.invariant (proofs_in e) fault fails has
 proved_not m a e _ none over has = none
 
-extension_not : (m : Parts) (ls : List Latch) (gs : List Gate) (r : Refusal) → IsNoExtension m ls gs r → IsExtension m ls gs → IsWellFormed (extended m ls gs) → ⊥
+extension_not : (m : Parts) (ls : List Latch) (gs : List Gate) (r : CheckError) → IsNoExtension m ls gs r → IsExtension m ls gs → IsWellFormed (extended m ls gs) → ⊥
 extension_not m ls gs Limit over extends well = let within = well.limits.max_var in omega (arith, over, within)
 extension_not m ls gs NotExtension none extends well = none (record { extends = extends; well_formed = well })
 extension_not m ls gs _ none extends well = none
 
-judged_not : (m : Parts) (a : Lit) (e : Evidence) (r : Refusal) → IsJudgedFor m a e (Some r) → IsAcceptedFor m a e → ⊥
+judged_not : (m : Parts) (a : Lit) (e : Evidence) (r : CheckError) → IsJudgedFor m a e (Some r) → IsAcceptedFor m a e → ⊥
 judged_not m a e r (inl none) is = extension_not m e.latches e.gates r none is.extends is.well_formed
 judged_not m a e r (inr (grown, proved)) is = proved_not (grown_by m e) a e r proved is.clauses (is.first, (is.step, (is.lines, is.last)))
 
-unshowable_not : (m : Parts) (p : Property) (k : ℕ) (r : Refusal) → IsUnshowable m p k r → IsShowable m p k → ⊥
+unshowable_not : (m : Parts) (p : Property) (k : ℕ) (r : CheckError) → IsUnshowable m p k r → IsShowable m p k → ⊥
 unshowable_not m p k NoProperty none is = none is.exists
 unshowable_not m p k TooManyRounds (there, many) is = let few = is.few in omega (arith, many, few)
 unshowable_not m p k Limit (there, few, over) is = let within = is.within in omega (arith, over, within)
 unshowable_not m p k _ none is = none
 
-pub refused_not_accepted : (m : Parts) (c : Certificate) (r : Refusal) → IsJudged m c (Some r) → IsAcceptedCertificate m c.claim.property c.claim.rounds c.evidence → ⊥
+pub refused_not_accepted : (m : Parts) (c : Certificate) (r : CheckError) → IsJudged m c (Some r) → IsAcceptedCertificate m c.claim.property c.claim.rounds c.evidence → ⊥
 refused_not_accepted m c r (inl none) is = unshowable_not m c.claim.property c.claim.rounds r none is.showable
 refused_not_accepted m c r (inr (showable, judged)) is = judged_not (circuit_of m c.claim.property c.claim.rounds) (bad_of m c.claim.property c.claim.rounds) c.evidence r judged is.accepted
 
 -- and a text that spells it spells no certificate that is
-pub text_not_accepted : (m : Parts) (text : List ℕ) (c : Certificate) (x : Option Refusal) → SpellsCertificate text c → IsJudged m c x
+pub text_not_accepted : (m : Parts) (text : List ℕ) (c : Certificate) (x : Option CheckError) → SpellsCertificate text c → IsJudged m c x
     → IfSome x (λ r. (d : Certificate) → SpellsCertificate text d → IsAcceptedCertificate m d.claim.property d.claim.rounds d.evidence → ⊥)
 text_not_accepted m text c None spells judged = tt
 text_not_accepted m text c (Some r) spells judged = λ d other is.

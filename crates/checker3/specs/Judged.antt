@@ -25,9 +25,9 @@ use Rattle.extension.specs.Extended.{IsExtension, extended}
 use Rattle.extension.specs.Inductive.{IsOverAll, clause_from}
 use Rattle.certificate3.specs.Texts.{Certificate, Later, Proofs, Shown}
 use Rattle.checker3.specs.declared.growing.GrowError.{GrowError}
-use Rattle.checker3.specs.declared.growing.GrowError.TheVariants.{Refusal as Refused, OutOfMemory}
-use Rattle.checker3.specs.declared.refusal.Refusal.{Refusal}
-use Rattle.checker3.specs.declared.refusal.Refusal.TheVariants.{NoProperty, TooManyRounds, Limit, NotExtension, Outside, Line as Fails}
+use Rattle.checker3.specs.declared.growing.GrowError.TheVariants.{Refused, OutOfMemory}
+use Rattle.checker3.specs.declared.check_error.CheckError.{CheckError}
+use Rattle.checker3.specs.declared.check_error.CheckError.TheVariants.{NoProperty, TooManyRounds, Limit, NotExtension, Outside, Line as Fails}
 
 -- ---- lines and hints
 
@@ -109,7 +109,7 @@ proofs_in e = record {
 }
 
 -- why further latches and gates are refused
-abbrev pub IsNoExtension : Parts → List Latch → List Gate → Refusal → Type 0
+abbrev pub IsNoExtension : Parts → List Latch → List Gate → CheckError → Type 0
 IsNoExtension m ls gs Limit = 4194303 < (extended m ls gs).max_var
 IsNoExtension m ls gs NotExtension = IsGrown m ls gs → ⊥
 IsNoExtension m ls gs _ = ⊥
@@ -120,28 +120,28 @@ IsNoGrowth m ls gs (Refused r) = IsNoExtension m ls gs r
 IsNoGrowth m ls gs (OutOfMemory refused) = Unit {0}
 
 -- the clauses and their proofs are accepted over the circuit, or this is the first cause
-abbrev pub IsProvedOver : Parts → Lit → Evidence → Option Refusal → Type 0
+abbrev pub IsProvedOver : Parts → Lit → Evidence → Option CheckError → Type 0
 IsProvedOver m a e None = (length e.invariant ≤ 4194303) × All (IsOverAll m) e.invariant × HasProofs m a e.invariant (proofs_in e) None
 IsProvedOver m a e (Some (Outside k)) = IsOutside m e.invariant k
 IsProvedOver m a e (Some (Fails fault)) = All (IsOverAll m) e.invariant × HasProofs m a e.invariant (proofs_in e) (Some fault)
 IsProvedOver m a e (Some _) = ⊥
 
 -- the evidence is accepted for the literal, or this is the first cause
-abbrev pub IsJudgedFor : Parts → Lit → Evidence → Option Refusal → Type 0
+abbrev pub IsJudgedFor : Parts → Lit → Evidence → Option CheckError → Type 0
 IsJudgedFor m a e None = IsAcceptedFor m a e
 IsJudgedFor m a e (Some r) = IsNoExtension m e.latches e.gates r ⊎ (IsGrown m e.latches e.gates × IsProvedOver (grown_by m e) a e (Some r))
 
 -- ---- a certificate for a circuit
 
 -- why the property cannot be shown, whatever follows
-abbrev pub IsUnshowable : Parts → Property → ℕ → Refusal → Type 0
+abbrev pub IsUnshowable : Parts → Property → ℕ → CheckError → Type 0
 IsUnshowable m p k NoProperty = HasProperty m p → ⊥
 IsUnshowable m p k TooManyRounds = HasProperty m p × (2 ^ length m.latches < k)
 IsUnshowable m p k Limit = HasProperty m p × (k ≤ 2 ^ length m.latches) × (4194303 < (circuit_of m p k).max_var)
 IsUnshowable m p k _ = ⊥
 
 -- the certificate is accepted for the circuit, or this is the first cause
-abbrev pub IsJudged : Parts → Certificate → Option Refusal → Type 0
+abbrev pub IsJudged : Parts → Certificate → Option CheckError → Type 0
 IsJudged m c None = IsAcceptedCertificate m c.claim.property c.claim.rounds c.evidence
 IsJudged m c (Some r) =
     IsUnshowable m c.claim.property c.claim.rounds r

@@ -14,7 +14,7 @@ ghost use Rattle.checker3.specs.Judged.{IsJudgedFor, IsNoGrowth, IsProvedOver};
 
 use crate::clauses::first_outside;
 use crate::growing::{GrowError, grow};
-use crate::refusal::Refusal;
+use crate::check_error::CheckError;
 use crate::sections::{Claims, check_proofs};
 use base::Source;
 use certificate::{Reader, ReaderError, read_clauses};
@@ -29,7 +29,7 @@ fn check_invariant<S: Source>(
     claims: Claims,
     reader: &mut Reader,
     from: &mut S,
-) -> Result<Option<Refusal>, ReaderError>
+) -> Result<Option<CheckError>, ReaderError>
     requires source { S.failed from.old < 2 ^ 64 - 1 }
     requires few { length claims.invariant.now ≤ 4194303 }
     requires bad { IsInRange claims.circuit.now.max_var claims.bad }
@@ -39,12 +39,12 @@ fn check_invariant<S: Source>(
 {
     if let Some(clause) = first_outside(claims.circuit, claims.invariant) {
         skip_proofs(alloc, claims.invariant.len() as u32, reader, from)?;
-        return Ok(Some(Refusal::Outside(clause)));
+        return Ok(Some(CheckError::Outside(clause)));
     }
     let found = check_proofs(alloc, claims, reader, from)?;
     match found {
         None => Ok(None),
-        Some(fault) => Ok(Some(Refusal::Line(fault))),
+        Some(fault) => Ok(Some(CheckError::Line(fault))),
     }
 }
 
@@ -56,7 +56,7 @@ fn check_clauses<S: Source>(
     bad: Lit,
     reader: &mut Reader,
     from: &mut S,
-) -> Result<Option<Refusal>, ReaderError>
+) -> Result<Option<CheckError>, ReaderError>
     requires source { S.failed from.old < 2 ^ 64 - 1 }
     requires bad { IsInRange circuit.now.max_var bad }
     ensures says { (ls : List ALatch) (gs : List AGate) → Reads (S.leaves from.old) (S.leaves from.new) (λ ys zs. FindsWith (IsProvedOver circuit.now bad) (clauses_at ls gs (reader.old.held ++ ys)) result reader.new.held zs) }
@@ -80,7 +80,7 @@ fn refuse_growth<S: Source>(
     error: GrowError,
     reader: &mut Reader,
     from: &mut S,
-) -> Result<Option<Refusal>, ReaderError>
+) -> Result<Option<CheckError>, ReaderError>
     requires source { S.failed from.old < 2 ^ 64 - 1 }
     ensures says { (m : AParts) (a : ALit) (ls : List ALatch) (gs : List AGate) → IsNoGrowth m ls gs error → Reads (S.leaves from.old) (S.leaves from.new) (λ ys zs. FindsWith (IsJudgedFor m a) (clauses_at ls gs (reader.old.held ++ ys)) result reader.new.held zs) }
     ensures device { IsErrOf result Device ↔ (S.failed from.new ≡ S.failed from.old + 1) }
@@ -88,7 +88,7 @@ fn refuse_growth<S: Source>(
 {
     match error {
         GrowError::OutOfMemory(refused) => Err(ReaderError::from(refused)),
-        GrowError::Refusal(refusal) => {
+        GrowError::Refused(refusal) => {
             skip_clauses(alloc, reader, from)?;
             Ok(Some(refusal))
         }
@@ -103,7 +103,7 @@ pub fn check_evidence<S: Source>(
     bad: Lit,
     reader: &mut Reader,
     from: &mut S,
-) -> Result<Option<Refusal>, ReaderError>
+) -> Result<Option<CheckError>, ReaderError>
     requires source { S.failed from.old < 2 ^ 64 - 1 }
     requires bad { IsInRange circuit.now.max_var bad }
     ensures says { Reads (S.leaves from.old) (S.leaves from.new) (λ ys zs. FindsWith (IsJudgedFor circuit.now bad) (evidence_at (reader.old.held ++ ys)) result reader.new.held zs) }

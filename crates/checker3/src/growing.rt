@@ -6,7 +6,7 @@ ghost use Rattle.extension.specs.Extended.{extended, IsExtension};
 ghost use Rattle.checker3.specs.Judged.{IsGrown, IsNoExtension, IsNoGrowth};
 ghost use Rattle.checker3.specs.declared.growing.GrowError.TheVariants.{OutOfMemory};
 
-use crate::refusal::Refusal;
+use crate::check_error::CheckError;
 use base::Refused;
 use extension::{extended_parts, is_extension};
 use graph::{Gate, Latch, MOST_VARIABLES, Model, ReadError};
@@ -19,7 +19,7 @@ const MAX_VAR: usize = MOST_VARIABLES as usize;
 #[derive(Clone, Copy, PartialEq, Eq)]
 pub enum GrowError {
     /// The latches and gates are refused.
-    Refusal(Refusal),
+    Refused(CheckError),
     /// Memory is refused.
     OutOfMemory(Refused),
 }
@@ -33,15 +33,15 @@ impl From<Refused> for GrowError {
 }
 
 /// Looks whether the latches and gates extend the circuit within the limit.
-fn check_extension(circuit: &Model, latches: &[Latch], gates: &[Gate]) -> Result<(), Refusal>
+fn check_extension(circuit: &Model, latches: &[Latch], gates: &[Gate]) -> Result<(), CheckError>
     ensures { MatchResult result (λ _. IsExtension circuit.now latches.now gates.now × (circuit.now.max_var + length latches.now + length gates.now ≤ 4194303)) (IsNoExtension circuit.now latches.now gates.now) }
 {
     circuit.well_formed();
     if circuit.max_var() as usize + latches.len() + gates.len() > MAX_VAR {
-        return Err(Refusal::Limit);
+        return Err(CheckError::Limit);
     }
     if !is_extension(circuit.parts(), latches, gates) {
-        return Err(Refusal::NotExtension);
+        return Err(CheckError::NotExtension);
     }
     Ok(())
 }
@@ -63,7 +63,7 @@ fn extended_model(
     match Model::from_parts(alloc, parts) {
         Ok(model) => Ok(model),
         Err(ReadError::OutOfMemory(refused)) => Err(GrowError::OutOfMemory(refused)),
-        Err(_) => Err(GrowError::Refusal(Refusal::NotExtension)),
+        Err(_) => Err(GrowError::Refused(CheckError::NotExtension)),
     }
 }
 
@@ -79,6 +79,6 @@ pub fn grow(
 {
     match check_extension(circuit, latches, gates) {
         Ok(()) => extended_model(alloc, circuit, latches, gates),
-        Err(refusal) => Err(GrowError::Refusal(refusal)),
+        Err(refusal) => Err(GrowError::Refused(refusal)),
     }
 }

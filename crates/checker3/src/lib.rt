@@ -14,10 +14,10 @@ mod evidence;
 mod growing;
 mod laws;
 mod lines;
-mod refusal;
+mod check_error;
 mod sections;
 mod text;
 
 pub use laws::refused_law;
-pub use refusal::Refusal;
+pub use check_error::CheckError;
 pub use text::{Outcome, check_behind, check_source};

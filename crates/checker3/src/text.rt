@@ -13,7 +13,7 @@ ghost use Rattle.certificate3.specs.Texts.{Certificate as ACertificate, SpellsCe
 ghost use Rattle.checker3.specs.Judged.{IsJudged, IsUnshowable};
 
 use crate::evidence::check_evidence;
-use crate::refusal::Refusal;
+use crate::check_error::CheckError;
 use base::Source;
 use certificate::{Reader, ReaderError};
 use certificate3::{Claim, ClaimLine, FirstLine, skip_evidence};
@@ -28,19 +28,19 @@ pub struct Outcome {
     /// what the certificate claims
     pub claim: Claim,
     /// the first cause, where the certificate is not accepted
-    pub refusal: Option<Refusal>,
+    pub refusal: Option<CheckError>,
 }
 
 /// Why the claim cannot be shown, whatever follows; but for the size of what it speaks of.
-fn unshowable(circuit: &Model, claim: Claim) -> Option<Refusal>
+fn unshowable(circuit: &Model, claim: Claim) -> Option<CheckError>
     ensures none { IfNone result (HasProperty circuit.now claim.property × (claim.rounds ≤ 2 ^ length circuit.now.latches)) }
     ensures some { IfSome result (IsUnshowable circuit.now claim.property claim.rounds) }
 {
     if !circuit.parts().has_property(claim.property) {
-        return Some(Refusal::NoProperty);
+        return Some(CheckError::NoProperty);
     }
     if !are_few_rounds(claim.rounds, circuit.latches().len()) {
-        return Some(Refusal::TooManyRounds);
+        return Some(CheckError::TooManyRounds);
     }
     None
 }
@@ -54,7 +54,7 @@ fn check_justice<S: Source>(
     position: u32,
     reader: &mut Reader,
     from: &mut S,
-) -> Result<Option<Refusal>, ReaderError>
+) -> Result<Option<CheckError>, ReaderError>
     requires source { S.failed from.old < 2 ^ 64 - 1 }
     requires property { claim.property ≡ Justice position }
     requires there { HasProperty circuit.now claim.property }
@@ -71,7 +71,7 @@ fn check_justice<S: Source>(
         Err(LiveError::OutOfMemory(refused)) => Err(ReaderError::from(refused)),
         Err(LiveError::Limit) => {
             skip_evidence(alloc, reader, from)?;
-            Ok(Some(Refusal::Limit))
+            Ok(Some(CheckError::Limit))
         }
         // the property is there
         Err(LiveError::NoProperty(_)) => unreachable!(),
@@ -85,7 +85,7 @@ fn check_claim<S: Source>(
     claim: Claim,
     reader: &mut Reader,
     from: &mut S,
-) -> Result<Option<Refusal>, ReaderError>
+) -> Result<Option<CheckError>, ReaderError>
     requires source { S.failed from.old < 2 ^ 64 - 1 }
     ensures says { Reads (S.leaves from.old) (S.leaves from.new) (λ ys zs. FindsWith (λ e found. IsJudged circuit.now (record { claim = claim; evidence = e }) found) (evidence_at (reader.old.held ++ ys)) result reader.new.held zs) }
     ensures device { IsErrOf result Device ↔ (S.failed from.new ≡ S.failed from.old + 1) }

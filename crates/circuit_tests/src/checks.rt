@@ -11,11 +11,11 @@ use std::test::Fail;
 
 /// What `check` says of a certificate, by number, place and section.
 #[derive(Clone, Copy)]
-struct Refusal<'a> {
+struct CheckOf<'a> {
     certificate: &'a Certificate,
 }
 
-impl Question for Refusal<'_> {
+impl Question for CheckOf<'_> {
     type Answer = Option<(u8, u64, u64)>;
 
     fn answer(&self, alloc: Global, circuit: &Model) -> Result<Option<(u8, u64, u64)>, Fail> {
@@ -32,7 +32,7 @@ pub fn judged(alloc: Global, text: &[u8]) -> Result<Option<(u8, u64, u64)>, Fail
     asked(
         alloc,
         HOLD,
-        &Refusal {
+        &CheckOf {
             certificate: &certificate,
         },
     )
@@ -136,7 +136,7 @@ fn judged_without_a_section(alloc: Global) -> Result<Option<(u8, u64, u64)>, Fai
     asked(
         alloc,
         HOLD,
-        &Refusal {
+        &CheckOf {
             certificate: &certificate,
         },
     )

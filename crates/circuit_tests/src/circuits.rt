@@ -67,16 +67,16 @@ static TOGGLE: Plain<'static> = Plain {
 static TOGGLE_TEXT: &[u8] = b"aag 5 1 1 0 3 2\n2\n4 11 4\n4\n5\n10 7 9\n8 3 5\n6 2 4\n";
 
 /// The number and place of a refusal, where there is one.
-type Refusal = Option<(u8, u64)>;
+type Numbered = Option<(u8, u64)>;
 
 /// A refusal's number and place.
-fn told(error: Option<ReadError>) -> Refusal {
+fn told(error: Option<ReadError>) -> Numbered {
     let error = error?;
     Some((error.number(), error.place()))
 }
 
 /// Why parts make no circuit.
-fn refusal(alloc: Global, plain: &Plain<'_>) -> Result<Refusal, Refused> {
+fn refusal(alloc: Global, plain: &Plain<'_>) -> Result<Numbered, Refused> {
     let parts = parts_of(alloc, plain)?;
     Ok(told(Model::build(alloc, &parts).err()))
 }
@@ -214,9 +214,9 @@ struct Alone {
 }
 
 impl Question for Alone {
-    type Answer = Refusal;
+    type Answer = Numbered;
 
-    fn answer(&self, alloc: Global, circuit: &Model) -> Result<Refusal, Fail> {
+    fn answer(&self, alloc: Global, circuit: &Model) -> Result<Numbered, Fail> {
         Ok(told(circuit.for_bad(alloc, self.n).err()))
     }
 }

@@ -8,7 +8,7 @@ ghost use Rattle.lrat.specs.Limits.{IsFormula};
 ghost use Rattle.lrat.specs.Literals.{IsLiteral};
 
 use crate::bounded::circuit;
-use crate::solvers::{Trouble, formula, is_right, satisfies};
+use crate::solvers::{AskError, formula, is_right, satisfies};
 use base::{Budget, Refused, Seq};
 use bmc::Bmc;
 use cdcl::{Cdcl, Refuted, Refuter};
@@ -241,7 +241,7 @@ static FORMULAS: [Clauses; 3] = [
 ];
 
 /// The formula of a list.
-fn formula_of(alloc: Global, vars: u16, list: &[i32]) -> Result<Formula, Trouble>
+fn formula_of(alloc: Global, vars: u16, list: &[i32]) -> Result<Formula, AskError>
     ensures vars { IfOk result (λ f. f.vars ≡ vars) }
     ensures is_formula { IfOk result IsFormula }
 {
@@ -312,7 +312,7 @@ fn asked_by<S: Sat>(
     vars: u16,
     formula: &Formula,
     is_unsatisfiable: bool,
-) -> Result<Called, Trouble>
+) -> Result<Called, AskError>
     requires vars { formula.now.vars ≡ vars }
     requires is_formula { IsFormula formula.now }
 {
@@ -329,14 +329,14 @@ fn asked_by<S: Sat>(
 }
 
 /// How a solver is asked about a list of clauses.
-fn by_solver<S: Sat>(mut solver: S, alloc: Global, clauses: &Clauses) -> Result<Called, Trouble> {
+fn by_solver<S: Sat>(mut solver: S, alloc: Global, clauses: &Clauses) -> Result<Called, AskError> {
     let (vars, list, is_unsatisfiable) = clauses;
     let formula = formula_of(alloc, *vars, list)?;
     asked_by(&mut solver, alloc, *vars, &formula, *is_unsatisfiable)
 }
 
 /// The same of a call that may have been refused, which is no right answer.
-fn answered(call: Result<Called, Trouble>) -> Called {
+fn answered(call: Result<Called, AskError>) -> Called {
     match call {
         Ok(call) => call,
         Err(_) => None,
@@ -405,7 +405,7 @@ fn refuted_by(
     alloc: Global,
     formula: &Formula,
     is_unsatisfiable: bool,
-) -> Result<Called, Trouble>
+) -> Result<Called, AskError>
     requires { IsFormula formula.now }
 {
     let (refuted, is_again) = refute(refuter, alloc)?;
@@ -417,7 +417,7 @@ fn refuted_by(
 }
 
 /// How a refuter is asked about a list of clauses.
-fn by_refuter(alloc: Global, clauses: &Clauses) -> Result<Called, Trouble> {
+fn by_refuter(alloc: Global, clauses: &Clauses) -> Result<Called, AskError> {
     let (vars, list, is_unsatisfiable) = clauses;
     let formula = formula_of(alloc, *vars, list)?;
     let mut refuter = refuter_of(alloc, &formula)?;

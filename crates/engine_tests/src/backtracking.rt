@@ -3,7 +3,7 @@
 ghost use Rattle.std.specs.Prelude.{◌≡◌, ◌∷◌, [], true, IfOk};
 ghost use Rattle.lrat.specs.Literals.{IsLiteral, Follows};
 
-use crate::solvers::{Trouble, ask, load_list};
+use crate::solvers::{AskError, ask, load_list};
 use base::Budget;
 use solver::{Answer, Plain, Sat};
 use std::alloc::Global;
@@ -15,7 +15,7 @@ fn follows<S: Sat>(
     alloc: Global,
     literal: i32,
     budget: &mut Budget,
-) -> Result<bool, Trouble>
+) -> Result<bool, AskError>
     requires { IsLiteral (S.vars solver.old) literal }
     ensures vars { S.vars solver.new ≡ S.vars solver.old }
     ensures shown { IfOk result (λ shown. shown ≡ true → Follows (S.clauses solver.old) (literal ∷ [])) }
@@ -37,7 +37,7 @@ fn is_exactly(
     list: &[i32],
     assume: &[i32],
     wanted: Result<&[bool], &[i32]>,
-) -> Result<bool, Trouble> {
+) -> Result<bool, AskError> {
     let mut solver = Plain::new(alloc);
     load_list(&mut solver, alloc, vars, list)?;
     match (
@@ -68,7 +68,7 @@ fn a_model_is_of_what_is_assumed(rt: HostRuntime) -> Result<(), Fail> {
 }
 
 /// Whether 2, its negation and 3 follow from 1 and an implication.
-fn all_following<S: Sat>(mut solver: S, alloc: Global) -> Result<[bool; 3], Trouble> {
+fn all_following<S: Sat>(mut solver: S, alloc: Global) -> Result<[bool; 3], AskError> {
     load_list(&mut solver, alloc, 3, &[1, 0, -1, 2, 0])?;
     let second = follows(&mut solver, alloc, 2, &mut Budget::new(1000))?;
     let negated = follows(&mut solver, alloc, -2, &mut Budget::new(1000))?;
@@ -83,7 +83,7 @@ fn what_follows(rt: HostRuntime) {
 }
 
 /// Whether a solver begun anew with one unit has its model, though the clauses before had none.
-fn forgets(alloc: Global) -> Result<bool, Trouble> {
+fn forgets(alloc: Global) -> Result<bool, AskError> {
     let mut solver = Plain::new(alloc);
     load_list(&mut solver, alloc, 0, &[0])?;
     load_list(&mut solver, alloc, 2, &[2, 0])?;

@@ -16,22 +16,22 @@ use std::test::Fail;
 
 /// Why a question was not asked, or not answered.
 #[derive(Clone, Copy, Debug, PartialEq, Eq)]
-pub enum Trouble {
+pub enum AskError {
     /// a literal is out of range
     Unfit,
     /// the solver refused
     Refused(SatError),
 }
 
-impl From<SatError> for Trouble {
-    fn from(error: SatError) -> Trouble {
-        Trouble::Refused(error)
+impl From<SatError> for AskError {
+    fn from(error: SatError) -> AskError {
+        AskError::Refused(error)
     }
 }
 
-impl From<Refused> for Trouble {
-    fn from(refused: Refused) -> Trouble {
-        Trouble::Refused(SatError::OutOfMemory(refused))
+impl From<Refused> for AskError {
+    fn from(refused: Refused) -> AskError {
+        AskError::Refused(SatError::OutOfMemory(refused))
     }
 }
 
@@ -82,7 +82,7 @@ fn clause_end(list: &[i32], start: usize) -> usize
 }
 
 /// The formula of a list of clauses, each of which ends with 0 and whose literals must be in range.
-pub fn formula(alloc: Global, vars: u16, list: &[i32]) -> Result<Formula, Trouble>
+pub fn formula(alloc: Global, vars: u16, list: &[i32]) -> Result<Formula, AskError>
     ensures vars { IfOk result (λ f. f.vars ≡ vars) }
     ensures is_formula { IfOk result IsFormula }
 {
@@ -93,19 +93,19 @@ pub fn formula(alloc: Global, vars: u16, list: &[i32]) -> Result<Formula, Troubl
         let end = clause_end(list, start);
         let clause = &list[start..end];
         if !are_literals(clause, vars) {
-            return Err(Trouble::Unfit);
+            return Err(AskError::Unfit);
         }
         clauses.push(Clause::from_slice(alloc, clause)?)?;
         start = end + 1;
     }
     if clauses.len() > 4_294_967_295 {
-        return Err(Trouble::Unfit);
+        return Err(AskError::Unfit);
     }
     Ok(Formula { vars, clauses })
 }
 
 /// Adds the formula's clauses.
-fn add<S: Sat>(solver: &mut S, alloc: Global, formula: &Formula) -> Result<(), Trouble>
+fn add<S: Sat>(solver: &mut S, alloc: Global, formula: &Formula) -> Result<(), AskError>
     requires is_formula { IsFormula formula.now }
     requires vars { S.vars solver.old ≡ formula.now.vars }
     ensures { S.vars solver.new ≡ S.vars solver.old }
@@ -117,7 +117,7 @@ fn add<S: Sat>(solver: &mut S, alloc: Global, formula: &Formula) -> Result<(), T
 }
 
 /// Begins anew with the formula.
-fn load<S: Sat>(solver: &mut S, alloc: Global, formula: &Formula) -> Result<(), Trouble>
+fn load<S: Sat>(solver: &mut S, alloc: Global, formula: &Formula) -> Result<(), AskError>
     requires { IsFormula formula.now }
     ensures { OnOk result (S.vars solver.new ≡ formula.now.vars) }
 {
@@ -131,7 +131,7 @@ pub fn load_list<S: Sat>(
     alloc: Global,
     vars: u16,
     list: &[i32],
-) -> Result<(), Trouble>
+) -> Result<(), AskError>
     ensures { OnOk result (S.vars solver.new ≡ vars) }
 {
     let formula = formula(alloc, vars, list)?;
@@ -144,11 +144,11 @@ pub fn ask<S: Sat>(
     alloc: Global,
     assume: &[i32],
     budget: &mut Budget,
-) -> Result<Answer, Trouble>
+) -> Result<Answer, AskError>
     ensures { S.vars solver.new ≡ S.vars solver.old }
 {
     if !are_literals(assume, solver.vars()) {
-        return Err(Trouble::Unfit);
+        return Err(AskError::Unfit);
     }
     Ok(solver.solve(alloc, assume, budget)?)
 }
@@ -204,7 +204,7 @@ fn answers<S: Sat>(
     alloc: Global,
     formula: &Formula,
     question: Question,
-) -> Result<bool, Trouble>
+) -> Result<bool, AskError>
     requires { IsFormula formula.now }
 {
     let (assume, core) = question;
@@ -220,13 +220,13 @@ fn answers_list<S: Sat>(
     vars: u16,
     list: &[i32],
     question: Question,
-) -> Result<bool, Trouble> {
+) -> Result<bool, AskError> {
     let formula = formula(alloc, vars, list)?;
     answers(solver, alloc, &formula, question)
 }
 
 /// Whether the solver answers all short formulas rightly, one after the other.
-fn answers_short<S: Sat>(solver: &mut S, alloc: Global) -> Result<bool, Trouble> {
+fn answers_short<S: Sat>(solver: &mut S, alloc: Global) -> Result<bool, AskError> {
     for (vars, list, question) in &SHORT {
         if !answers_list(solver, alloc, *vars, list, *question)? {
             return Ok(false);
@@ -256,7 +256,7 @@ fn steps<S: Sat>(
     alloc: Global,
     vars: u16,
     list: &[i32],
-) -> Result<Option<u64>, Trouble> {
+) -> Result<Option<u64>, AskError> {
     let formula = formula(alloc, vars, list)?;
     load(solver, alloc, &formula)?;
     let mut budget = Budget::new(STEPS);
@@ -274,7 +274,7 @@ fn answers_worked<S: Sat>(
     alloc: Global,
     least: bool,
     most: u64,
-) -> Result<bool, Trouble> {
+) -> Result<bool, AskError> {
     for (vars, list, few) in &UNSATISFIABLE {
         let few = if least { *few } else { 0 };
         match steps(solver, alloc, *vars, list)? {
@@ -302,7 +302,7 @@ fn answers_more<S: Sat>(
     alloc: Global,
     list: &[i32],
     question: Question,
-) -> Result<bool, Trouble>
+) -> Result<bool, AskError>
     requires { S.vars solver.old ≡ 3 }
     ensures { S.vars solver.new ≡ S.vars solver.old }
 {
@@ -314,7 +314,7 @@ fn answers_more<S: Sat>(
 }
 
 /// Whether each question is answered rightly as the clauses come.
-fn grows<S: Sat>(solver: &mut S, alloc: Global) -> Result<bool, Trouble> {
+fn grows<S: Sat>(solver: &mut S, alloc: Global) -> Result<bool, AskError> {
     load_list(solver, alloc, 3, &[])?;
     for (list, question) in &GROWING {
         if !answers_more(solver, alloc, list, *question)? {
@@ -340,7 +340,7 @@ fn spent<S: Sat>(
     vars: u16,
     list: &[i32],
     steps: u64,
-) -> Result<Option<u64>, Trouble> {
+) -> Result<Option<u64>, AskError> {
     load_list(&mut solver, alloc, vars, list)?;
     let mut budget = Budget::new(steps);
     match ask(&mut solver, alloc, &[], &mut budget)? {
@@ -460,7 +460,7 @@ fn is_thorough(solver: &Cdcl) -> bool {
 }
 
 /// Whether the solver finds that the pigeons do not fit.
-fn is_refuted<S: Sat>(solver: &mut S, alloc: Global) -> Result<bool, Trouble> {
+fn is_refuted<S: Sat>(solver: &mut S, alloc: Global) -> Result<bool, AskError> {
     let list = pigeons(alloc, 8, 7)?;
     Ok(steps(solver, alloc, 56, list.as_slice())?.is_some())
 }

@@ -12,11 +12,11 @@ use std::io::Cursor;
 use std::test::Fail;
 
 /// The number and the place of a refusal, where there is one.
-type Refusal = Option<(u8, u64)>;
+type Numbered = Option<(u8, u64)>;
 
 /// Texts that the two readers see otherwise than by their second byte, with the refusals of the ASCII and of the
 /// binary one.
-static EITHER: [(&[u8], Refusal, Refusal); 4] = [
+static EITHER: [(&[u8], Numbered, Numbered); 4] = [
     (b"", Some((6, 0)), Some((6, 0))),
     (b"a", Some((6, 1)), Some((6, 1))),
     (b"aag 0 0 0 0 0\n", None, Some((2, 1))),
@@ -24,18 +24,18 @@ static EITHER: [(&[u8], Refusal, Refusal); 4] = [
 ];
 
 /// The number and the place of a refusal.
-fn told(error: Option<ReadError>) -> Refusal {
+fn told(error: Option<ReadError>) -> Numbered {
     let error = error?;
     Some((error.number(), error.place()))
 }
 
 /// The refusal of a text by the ASCII reader.
-fn ascii_refusal(alloc: Global, text: &[u8]) -> Refusal {
+fn ascii_refusal(alloc: Global, text: &[u8]) -> Numbered {
     told(aag::read(alloc, text).err())
 }
 
 /// The refusal by the binary reader.
-fn binary_refusal(alloc: Global, text: &[u8]) -> Refusal {
+fn binary_refusal(alloc: Global, text: &[u8]) -> Numbered {
     told(aig::read(alloc, text).err())
 }
 

@@ -7,25 +7,25 @@ use scan::{
 use std::alloc::Global;
 
 #[derive(Clone, Copy, PartialEq, Eq)]
-enum Refusal {
+enum NumberFault {
     Truncated,
     Number,
     Over,
     Byte,
 }
 
-const KINDS: Kinds<Refusal> = Kinds {
-    truncated: Refusal::Truncated,
-    number: Refusal::Number,
-    over: Refusal::Over,
-    byte: Refusal::Byte,
+const KINDS: Kinds<NumberFault> = Kinds {
+    truncated: NumberFault::Truncated,
+    number: NumberFault::Number,
+    over: NumberFault::Over,
+    byte: NumberFault::Byte,
 };
 
 /// What is answered, with what is left of the text.
-type Answer<T> = Result<(T, &'static [u8]), Fault<Refusal>>;
+type Answer<T> = Result<(T, &'static [u8]), Fault<NumberFault>>;
 
 /// What is left of the text where only that is answered.
-type Rest = Result<&'static [u8], Fault<Refusal>>;
+type Rest = Result<&'static [u8], Fault<NumberFault>>;
 
 static NUMBERS: [(&[u8], Answer<u32>); 9] = [
     (b"0", Ok((0, b""))),
@@ -34,42 +34,42 @@ static NUMBERS: [(&[u8], Answer<u32>); 9] = [
     (
         b"2147483648",
         Err(Fault::Text {
-            kind: Refusal::Over,
+            kind: NumberFault::Over,
             left: 10,
         }),
     ),
     (
         b"99999999999999999999999 ",
         Err(Fault::Text {
-            kind: Refusal::Over,
+            kind: NumberFault::Over,
             left: 24,
         }),
     ),
     (
         b"007",
         Err(Fault::Text {
-            kind: Refusal::Number,
+            kind: NumberFault::Number,
             left: 3,
         }),
     ),
     (
         b"00",
         Err(Fault::Text {
-            kind: Refusal::Number,
+            kind: NumberFault::Number,
             left: 2,
         }),
     ),
     (
         b"-1",
         Err(Fault::Text {
-            kind: Refusal::Number,
+            kind: NumberFault::Number,
             left: 2,
         }),
     ),
     (
         b"",
         Err(Fault::Text {
-            kind: Refusal::Truncated,
+            kind: NumberFault::Truncated,
             left: 0,
         }),
     ),
@@ -88,14 +88,14 @@ static BYTES: [(&[u8], Rest); 3] = [
     (
         b" 2",
         Err(Fault::Text {
-            kind: Refusal::Byte,
+            kind: NumberFault::Byte,
             left: 2,
         }),
     ),
     (
         b"",
         Err(Fault::Text {
-            kind: Refusal::Truncated,
+            kind: NumberFault::Truncated,
             left: 0,
         }),
     ),
@@ -107,14 +107,14 @@ static TAGS: [(&[u8], Rest); 3] = [
     (
         b"aig 1",
         Err(Fault::Text {
-            kind: Refusal::Byte,
+            kind: NumberFault::Byte,
             left: 4,
         }),
     ),
     (
         b"aa",
         Err(Fault::Text {
-            kind: Refusal::Truncated,
+            kind: NumberFault::Truncated,
             left: 0,
         }),
     ),
@@ -137,21 +137,21 @@ static FIELDS: [(&[u8], Answer<u32>); 4] = [
     (
         b"13 3",
         Err(Fault::Text {
-            kind: Refusal::Over,
+            kind: NumberFault::Over,
             left: 4,
         }),
     ),
     (
         b"12\n3",
         Err(Fault::Text {
-            kind: Refusal::Byte,
+            kind: NumberFault::Byte,
             left: 2,
         }),
     ),
     (
         b"12",
         Err(Fault::Text {
-            kind: Refusal::Truncated,
+            kind: NumberFault::Truncated,
             left: 0,
         }),
     ),
@@ -167,7 +167,7 @@ fn words_end_as_they_may(rt: HostRuntime) {
     assert!(rt;
         word(b"4,5", 9, ends, KINDS)
             == Err(Fault::Text {
-                kind: Refusal::Byte,
+                kind: NumberFault::Byte,
                 left: 2
             })
     );
@@ -180,49 +180,49 @@ static SIGNS: [(&[u8], Answer<Option<i64>>); 10] = [
     (
         b"0 x",
         Err(Fault::Text {
-            kind: Refusal::Byte,
+            kind: NumberFault::Byte,
             left: 2,
         }),
     ),
     (
         b"-5\n",
         Err(Fault::Text {
-            kind: Refusal::Byte,
+            kind: NumberFault::Byte,
             left: 1,
         }),
     ),
     (
         b"-0 1",
         Err(Fault::Text {
-            kind: Refusal::Number,
+            kind: NumberFault::Number,
             left: 4,
         }),
     ),
     (
         b"-x",
         Err(Fault::Text {
-            kind: Refusal::Number,
+            kind: NumberFault::Number,
             left: 2,
         }),
     ),
     (
         b"-10 ",
         Err(Fault::Text {
-            kind: Refusal::Over,
+            kind: NumberFault::Over,
             left: 4,
         }),
     ),
     (
         b"-",
         Err(Fault::Text {
-            kind: Refusal::Truncated,
+            kind: NumberFault::Truncated,
             left: 0,
         }),
     ),
     (
         b"",
         Err(Fault::Text {
-            kind: Refusal::Truncated,
+            kind: NumberFault::Truncated,
             left: 0,
         }),
     ),
@@ -242,35 +242,35 @@ static COUNTS: [(&[u8], Answer<[u32; 8]>); 8] = [
     (
         b"1 2 3\n",
         Err(Fault::Text {
-            kind: Refusal::Byte,
+            kind: NumberFault::Byte,
             left: 1,
         }),
     ),
     (
         b"1 2 3 4 5 6 7 8 9\n",
         Err(Fault::Text {
-            kind: Refusal::Byte,
+            kind: NumberFault::Byte,
             left: 3,
         }),
     ),
     (
         b"1 2 3 10\n",
         Err(Fault::Text {
-            kind: Refusal::Over,
+            kind: NumberFault::Over,
             left: 3,
         }),
     ),
     (
         b"1 2 03 4\n",
         Err(Fault::Text {
-            kind: Refusal::Number,
+            kind: NumberFault::Number,
             left: 5,
         }),
     ),
     (
         b"1 2 3 4",
         Err(Fault::Text {
-            kind: Refusal::Truncated,
+            kind: NumberFault::Truncated,
             left: 0,
         }),
     ),
@@ -293,13 +293,13 @@ impl LineKind for Row {
 
     type Context = u32;
 
-    type Refusal = Refusal;
+    type Fault = NumberFault;
 
     ghost allows = { λ _. Unit {0} };
 
     ghost at = { λ limit bytes. field_at limit any 10 bytes };
 
-    fn line(_alloc: Global, text: &[u8], limit: u32) -> Result<(u32, &[u8]), Fault<Refusal>> {
+    fn line(_alloc: Global, text: &[u8], limit: u32) -> Result<(u32, &[u8]), Fault<NumberFault>> {
         field(text, limit, b'\n', KINDS)
     }
 }
@@ -314,7 +314,7 @@ impl ItemKind for Entry {
 
     type Context = u32;
 
-    type Refusal = Refusal;
+    type Fault = NumberFault;
 
     ghost allows = { λ _. Unit {0} };
 
@@ -324,19 +324,19 @@ impl ItemKind for Entry {
         _alloc: Global,
         text: &[u8],
         limit: u32,
-    ) -> Result<(Option<i64>, &[u8]), Fault<Refusal>> {
+    ) -> Result<(Option<i64>, &[u8]), Fault<NumberFault>> {
         signed(text, limit, b'\n', KINDS)
     }
 }
 
 /// Whether lines of the numbers 1 and 2 are read, and the third line is left.
-fn are_lines_read(alloc: Global) -> Result<bool, Fault<Refusal>> {
+fn are_lines_read(alloc: Global) -> Result<bool, Fault<NumberFault>> {
     let (rows, rest) = lines::<Row>(alloc, 2, b"1\n2\n3\n", 9)?;
     Ok(rows.as_slice() == [1, 2].as_slice() && rest == b"3\n".as_slice())
 }
 
 /// Whether the items 1 and -2 are read, and what stands behind the line end is left.
-fn are_items_read(alloc: Global) -> Result<bool, Fault<Refusal>> {
+fn are_items_read(alloc: Global) -> Result<bool, Fault<NumberFault>> {
     let (entries, rest) = items::<Entry>(alloc, b"1 -2 0\n3", 9)?;
     Ok(entries.as_slice() == [1, -2].as_slice() && rest == b"3".as_slice())
 }
@@ -348,19 +348,19 @@ fn lists_come_with_ample_memory(rt: HostRuntime) {
 }
 
 /// Texts that break off before the number of lines that they state.
-static BROKEN: [(&[u8], Refusal, usize); 3] = [
-    (b"1\n2", Refusal::Truncated, 0),
-    (b"1\n\n", Refusal::Number, 1),
-    (b"1\n10\n", Refusal::Over, 3),
+static BROKEN: [(&[u8], NumberFault, usize); 3] = [
+    (b"1\n2", NumberFault::Truncated, 0),
+    (b"1\n\n", NumberFault::Number, 1),
+    (b"1\n10\n", NumberFault::Over, 3),
 ];
 
 /// Why 4,000,000,000 lines are not read.
-fn lines_fault(alloc: Global, text: &[u8]) -> Option<Fault<Refusal>> {
+fn lines_fault(alloc: Global, text: &[u8]) -> Option<Fault<NumberFault>> {
     lines::<Row>(alloc, 4_000_000_000, text, 9).err()
 }
 
 /// Why items are not read.
-fn items_fault(alloc: Global, text: &[u8]) -> Option<Fault<Refusal>> {
+fn items_fault(alloc: Global, text: &[u8]) -> Option<Fault<NumberFault>> {
     items::<Entry>(alloc, text, 9).err()
 }
 
@@ -371,7 +371,7 @@ fn lists_are_refused_where_they_break(rt: HostRuntime) {
         let (kind, left) = (*kind, *left);
         assert!(rt; fault == Some(Fault::Text { kind, left }), "{text:?}");
     }
-    let kind = Refusal::Truncated;
+    let kind = NumberFault::Truncated;
     let fault = items_fault(rt.alloc(), b"1 2 ");
     assert!(rt; fault == Some(Fault::Text { kind, left: 0 }));
 }

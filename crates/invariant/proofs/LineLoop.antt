@@ -10,7 +10,7 @@ use Rattle.scan.proofs.Toolbox.{spells_once}
 use Rattle.graph.specs.declared.circuit.Lit.{Lit}
 use Rattle.invariant.specs.Reading.{clause_at}
 use Rattle.invariant.specs.Texts.{SpellsClause, SpellsClauses}
-use Rattle.invariant.specs.declared.refusal.Refusal.{Refusal}
+use Rattle.invariant.specs.declared.invariant_fault.InvariantFault.{InvariantFault}
 use Rattle.invariant.proofs.ClauseLaws.{clause_reads, clause_takes}
 
 none_spelled : (cs : List (List Lit)) → SpellsClauses [] cs → cs ≡ []
@@ -74,6 +74,6 @@ read_stuck text rest cs others h lt e s =
     stuck rest r.0 lt e r.2
 
 -- only when out of memory
-pub read_fails : (text rest : List ℕ) (cs others : List (List Lit)) (e : Fault Refusal) → HasRead text rest cs → 0 < length rest → Fails e (clause_at rest) → SpellsClauses text others → e ≡ Memory witness
+pub read_fails : (text rest : List ℕ) (cs others : List (List Lit)) (e : Fault InvariantFault) → HasRead text rest cs → 0 < length rest → Fails e (clause_at rest) → SpellsClauses text others → e ≡ Memory witness
 read_fails text rest cs others (Memory refused) h lt f s = refl
 read_fails text rest cs others (Text kind left) h lt f s = absurd (read_stuck text rest cs others h lt f s)

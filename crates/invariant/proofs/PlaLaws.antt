@@ -23,7 +23,7 @@ use Rattle.graph.specs.declared.circuit.Lit.{Lit}
 use Rattle.invariant.specs.Plas.{value_byte, cube_row, literals_against, clause_of, behind_comments, head, columns_at, SpellsPla}
 use Rattle.invariant.specs.Refusals.{error_of}
 use Rattle.invariant.specs.declared.invariant_error.InvariantError.TheVariants.{OutOfMemory}
-use Rattle.invariant.specs.declared.refusal.Refusal.{Refusal}
+use Rattle.invariant.specs.declared.invariant_fault.InvariantFault.{InvariantFault}
 use Rattle.invariant.specs.PlaReading.{head_at, value_at, row_at, behind_lines, end_at, wide_at, pla_at}
 
 -- ---- the counts
@@ -265,6 +265,6 @@ pla_again file text cs s =
     ∙ ap (λ (ds : List (List Lit)). Some ds) (sym s.negated)
 
 -- only when out of memory
-pub pla_fails : (file : File) (text : List ℕ) (cs : List (List Lit)) (n : ℕ) (e : Fault Refusal) → Fails e (pla_at file text) → SpellsPla file text cs → error_of n e ≡ OutOfMemory witness
+pub pla_fails : (file : File) (text : List ℕ) (cs : List (List Lit)) (n : ℕ) (e : Fault InvariantFault) → Fails e (pla_at file text) → SpellsPla file text cs → error_of n e ≡ OutOfMemory witness
 pla_fails file text cs n (Memory refused) f s = refl
 pla_fails file text cs n (Text kind left) f s = absurd (none-some cs (sym f ∙ pla_again file text cs s))

@@ -7,18 +7,18 @@ use Rattle.certificate.specs.declared.cert_error.CertError.{CertError}
 use Rattle.certificate.specs.declared.cert_error.CertError.TheVariants as cert
 use Rattle.invariant.specs.declared.invariant_error.InvariantError.{InvariantError}
 use Rattle.invariant.specs.declared.invariant_error.InvariantError.TheVariants as error
-use Rattle.invariant.specs.declared.refusal.Refusal.{Refusal}
-use Rattle.invariant.specs.declared.refusal.Refusal.TheVariants.{Number, Byte, Truncated, Latch}
+use Rattle.invariant.specs.declared.invariant_fault.InvariantFault.{InvariantFault}
+use Rattle.invariant.specs.declared.invariant_fault.InvariantFault.TheVariants.{Number, Byte, Truncated, Latch}
 
 -- a refusal at a byte
-abbrev pub at_byte : Refusal → ℕ → InvariantError
+abbrev pub at_byte : InvariantFault → ℕ → InvariantError
 at_byte Number p = error.Number p
 at_byte Byte p = error.Byte p
 at_byte Truncated p = error.Truncated p
 at_byte Latch p = error.Latch p
 
 -- the error that a fault is in a text of this length
-abbrev pub error_of : ℕ → Fault Refusal → InvariantError
+abbrev pub error_of : ℕ → Fault InvariantFault → InvariantError
 error_of length (Memory refused) = error.OutOfMemory witness
 error_of length (Text kind left) = at_byte kind (length - left)
 

@@ -8,7 +8,7 @@ ghost use Rattle.invariant.specs.Plas.{columns_at, named_from, symbol_name};
 ghost use Rattle.invariant.specs.PlaReading.{is_symbol_of, name_by};
 
 use crate::names::{behind, behind_latch, own_name};
-use crate::refusal::{IN_LINE, Refusal};
+use crate::invariant_fault::{IN_LINE, InvariantFault};
 use base::{Refused, copied, filled_like, push};
 use graph::{AigerFile, Latch, Symbol, SymbolKind};
 use scan::{Fault, tag};
@@ -87,12 +87,12 @@ fn named<'a>(
 
 /// What follows the end of the names. Another name there is that of no latch, or of one that came before.
 #[tactic(auto, unfolding(scan::specs::Bytes::tag_at))]
-fn names_end(text: &[u8]) -> Result<&[u8], Fault<Refusal>>
+fn names_end(text: &[u8]) -> Result<&[u8], Fault<InvariantFault>>
     ensures { Gives (λ rest. rest.now) result (tag_at (codes "\n.ob inv\n") text.now) }
 {
     match text {
         [b' ', name @ ..] => Err(Fault::Text {
-            kind: Refusal::Latch,
+            kind: InvariantFault::Latch,
             left: name.len(),
         }),
         _ => tag(text, b"\n.ob inv\n", IN_LINE),
@@ -104,7 +104,7 @@ pub fn columns<'a>(
     alloc: Global,
     file: &AigerFile,
     text: &'a [u8],
-) -> Result<(Vec<Latch>, &'a [u8]), Fault<Refusal>>
+) -> Result<(Vec<Latch>, &'a [u8]), Fault<InvariantFault>>
     ensures { Gives (λ x. (x.0.items, x.1.now)) result (columns_at file.now text.now) }
 {
     let latches = file.model().latches();

@@ -17,7 +17,7 @@ mod lines;
 mod names;
 mod pla;
 mod reading;
-mod refusal;
+mod invariant_fault;
 mod rows;
 
 pub use invariant_error::InvariantError;

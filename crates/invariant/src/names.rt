@@ -5,7 +5,7 @@ ghost use Rattle.scan.specs.Bytes.{tag_at};
 ghost use Rattle.scan.specs.Numbers.{begins_digit, digits_after};
 ghost use Rattle.invariant.specs.Plas.{ends_name, latch_at, name_at, own_name_at};
 
-use crate::refusal::IN_LINE;
+use crate::invariant_fault::IN_LINE;
 use scan::tag;
 
 /// What follows these bytes, where they come next.

@@ -9,7 +9,7 @@ ghost use Rattle.invariant.specs.Texts.{IsRead};
 
 use crate::columns::columns;
 use crate::invariant_error::InvariantError;
-use crate::refusal::{IN_LINE, Refusal, error};
+use crate::invariant_fault::{IN_LINE, InvariantFault, error};
 use crate::rows::rows;
 use base::Seq;
 use graph::{AigerFile, Latch, Lit};
@@ -35,7 +35,7 @@ fn behind_comments(text: &[u8]) -> &[u8]
 
 /// The counts of columns and of cubes, and what follows them.
 #[tactic(auto, unfolding(crate::specs::PlaReading::head_at))]
-fn head(text: &[u8]) -> Result<(u32, u32, &[u8]), Fault<Refusal>>
+fn head(text: &[u8]) -> Result<(u32, u32, &[u8]), Fault<InvariantFault>>
     ensures { Gives (λ x. ((x.0, x.1), x.2.now)) result (head_at text.now) }
 {
     let rest = tag(text, b".i ", IN_LINE)?;
@@ -52,7 +52,7 @@ fn wide<'a>(
     file: &AigerFile,
     width: u32,
     text: &'a [u8],
-) -> Result<(Vec<Latch>, &'a [u8]), Fault<Refusal>>
+) -> Result<(Vec<Latch>, &'a [u8]), Fault<InvariantFault>>
     ensures { Gives (λ x. (x.0.items, x.1.now)) result (wide_at file.now width text.now) }
 {
     let (columns, rest) = columns(alloc, file, text)?;
@@ -60,7 +60,7 @@ fn wide<'a>(
         Ok((columns, rest))
     } else {
         Err(Fault::Text {
-            kind: Refusal::Latch,
+            kind: InvariantFault::Latch,
             left: rest.len(),
         })
     }
@@ -80,7 +80,7 @@ fn behind_lines(text: &[u8]) -> &[u8]
 
 /// The lines of no bytes that follow the end.
 #[tactic(auto, unfolding(crate::specs::PlaReading::end_at))]
-fn end(text: &[u8]) -> Result<&[u8], Fault<Refusal>>
+fn end(text: &[u8]) -> Result<&[u8], Fault<InvariantFault>>
     ensures { Gives (λ x. x.now) result (end_at text.now) }
 {
     let lines = tag(text, b".e\n", IN_LINE)?;
@@ -89,7 +89,7 @@ fn end(text: &[u8]) -> Result<&[u8], Fault<Refusal>>
         Ok(lines)
     } else {
         Err(Fault::Text {
-            kind: Refusal::Byte,
+            kind: InvariantFault::Byte,
             left: rest.len(),
         })
     }
@@ -97,7 +97,7 @@ fn end(text: &[u8]) -> Result<&[u8], Fault<Refusal>>
 
 /// The clauses of the cubes of the PLA that the whole text is.
 #[tactic(auto, unfolding(crate::specs::PlaReading::pla_at))]
-fn pla(alloc: Global, file: &AigerFile, text: &[u8]) -> Result<Seq<Seq<Lit>>, Fault<Refusal>>
+fn pla(alloc: Global, file: &AigerFile, text: &[u8]) -> Result<Seq<Seq<Lit>>, Fault<InvariantFault>>
     ensures { Gives (λ x. x) result (pla_at file.now text.now) }
 {
     let (width, count, rest) = head(behind_comments(text))?;

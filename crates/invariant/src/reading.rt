@@ -9,7 +9,7 @@ ghost use Rattle.invariant.specs.Texts.{IsRead, OfCertificate, SpellsClauses, Sp
 
 use crate::invariant_error::InvariantError;
 use crate::lines::clauses;
-use crate::refusal::error;
+use crate::invariant_fault::error;
 use base::Seq;
 use graph::Lit;
 use std::alloc::Global;

@@ -6,26 +6,26 @@ ghost use Rattle.scan.specs.Reading.{Gives};
 ghost use Rattle.invariant.specs.Plas.{literal_against, literals_against};
 ghost use Rattle.invariant.specs.PlaReading.{begins_dot, row_at, value_at};
 
-use crate::refusal::{IN_LINE, Refusal};
+use crate::invariant_fault::{IN_LINE, InvariantFault};
 use base::{Refused, Seq, push};
 use graph::{Latch, Lit};
 use scan::{Fault, tag};
 use std::alloc::Global;
 
 /// What a row says of a column: 0, 1, or nothing.
-fn value(text: &[u8]) -> Result<(Option<bool>, &[u8]), Fault<Refusal>>
+fn value(text: &[u8]) -> Result<(Option<bool>, &[u8]), Fault<InvariantFault>>
     ensures { Gives (λ x. (x.0, x.1.now)) result (value_at text.now) }
 {
     match text {
         [] => Err(Fault::Text {
-            kind: Refusal::Truncated,
+            kind: InvariantFault::Truncated,
             left: 0,
         }),
         [b'-', rest @ ..] => Ok((None, rest)),
         [b'0', rest @ ..] => Ok((Some(false), rest)),
         [b'1', rest @ ..] => Ok((Some(true), rest)),
         _ => Err(Fault::Text {
-            kind: Refusal::Byte,
+            kind: InvariantFault::Byte,
             left: text.len(),
         }),
     }
@@ -55,7 +55,7 @@ fn row<'a>(
     alloc: Global,
     columns: &[Latch],
     text: &'a [u8],
-) -> Result<(Vec<Lit>, &'a [u8]), Fault<Refusal>>
+) -> Result<(Vec<Lit>, &'a [u8]), Fault<InvariantFault>>
     ensures { Gives (λ x. (x.0.items, x.1.now)) result (row_at columns.now text.now) }
 {
     let mut literals = Vec::new(alloc);
@@ -84,12 +84,12 @@ fn clause<'a>(
     alloc: Global,
     columns: &[Latch],
     text: &'a [u8],
-) -> Result<(Seq<Lit>, &'a [u8]), Fault<Refusal>>
+) -> Result<(Seq<Lit>, &'a [u8]), Fault<InvariantFault>>
     ensures { Gives (λ x. (x.0, x.1.now)) result (row_at columns.now text.now) }
 {
     if begins_dot(text) {
         return Err(Fault::Text {
-            kind: Refusal::Truncated,
+            kind: InvariantFault::Truncated,
             left: text.len(),
         });
     }
@@ -103,7 +103,7 @@ pub fn rows<'a>(
     columns: &[Latch],
     count: u32,
     text: &'a [u8],
-) -> Result<(Seq<Seq<Lit>>, &'a [u8]), Fault<Refusal>>
+) -> Result<(Seq<Seq<Lit>>, &'a [u8]), Fault<InvariantFault>>
     ensures { Gives (λ x. (x.0, x.1.now)) result (many_at (row_at columns.now) count text.now) }
 {
     let mut clauses = Seq::new(alloc);

@@ -14,7 +14,7 @@ use Rattle.lrat.specs.Limits.{IsLine}
 use Rattle.lrat.specs.Texts.{line_text, proof_text, SpellsLine, SpellsProof, error_of}
 use Rattle.lrat.specs.declared.line.Line.{Line}
 use Rattle.lrat.specs.declared.lrat_error.LratError.TheVariants.{OutOfMemory}
-use Rattle.lrat.specs.declared.text.Refusal.{Refusal}
+use Rattle.lrat.specs.declared.text.LratFault.{LratFault}
 use Rattle.lrat.proofs.TextLaws.{line_reads, line_takes}
 
 -- each value has a byte
@@ -86,11 +86,11 @@ read_stuck text rest lines others h lt e s =
     stuck rest r.0 lt e r.2
 
 -- only when out of memory
-pub read_fails : (text rest : List ℕ) (lines others : List Line) (e : Fault Refusal) → HasRead text rest lines → 0 < length rest → Fails e (line_at rest) → SpellsProof text others → e ≡ Memory witness
+pub read_fails : (text rest : List ℕ) (lines others : List Line) (e : Fault LratFault) → HasRead text rest lines → 0 < length rest → Fails e (line_at rest) → SpellsProof text others → e ≡ Memory witness
 read_fails text rest lines others (Memory refused) h lt f s = refl
 read_fails text rest lines others (Text kind left) h lt f s = absurd (read_stuck text rest lines others h lt f s)
 
-pub refused_for_memory : {A : Type 0} (n : ℕ) (e : Fault Refusal) (x : A) (r : Option A) → Fails e r → r ≡ Some x → error_of n e ≡ OutOfMemory witness
+pub refused_for_memory : {A : Type 0} (n : ℕ) (e : Fault LratFault) (x : A) (r : Option A) → Fails e r → r ≡ Some x → error_of n e ≡ OutOfMemory witness
 refused_for_memory n (Memory refused) x r f s = refl
 refused_for_memory n (Text kind left) x r f s = absurd (none-some x (sym f ∙ s))
 

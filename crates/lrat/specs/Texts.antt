@@ -12,8 +12,8 @@ use Rattle.lrat.specs.declared.line.Line.{Line}
 use Rattle.lrat.specs.declared.line.Line.TheVariants.{Add, Delete}
 use Rattle.lrat.specs.declared.lrat_error.LratError.{LratError}
 use Rattle.lrat.specs.declared.lrat_error.LratError.TheVariants.{Number, Byte, Truncated, OutOfMemory}
-use Rattle.lrat.specs.declared.text.Refusal.{Refusal}
-use Rattle.lrat.specs.declared.text.Refusal.TheVariants.{Number as NoNumber, Byte as OtherByte, Truncated as EndsEarly}
+use Rattle.lrat.specs.declared.text.LratFault.{LratFault}
+use Rattle.lrat.specs.declared.text.LratFault.TheVariants.{Number as NoNumber, Byte as OtherByte, Truncated as EndsEarly}
 
 -- numbers one after another, a space behind each
 abbrev pub spaced : {A : Type 0} → (A → List ℕ) → List A → List ℕ
@@ -42,7 +42,7 @@ abbrev pub IsRead : {V : Type 0} → Result V LratError → V → Type 0
 IsRead result value = MatchResult result (λ v. v ≡ value) (λ e. e ≡ OutOfMemory witness)
 
 -- the error for a fault in a text of this number of bytes
-abbrev pub error_of : ℕ → Fault Refusal → LratError
+abbrev pub error_of : ℕ → Fault LratFault → LratError
 error_of length (Memory refused) = (OutOfMemory witness)
 error_of length (Text NoNumber left) = Number (length - left)
 error_of length (Text OtherByte left) = Byte (length - left)

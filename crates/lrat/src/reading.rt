@@ -24,7 +24,7 @@ impl<K: Copy> ItemKind for Literals<K> {
 
     type Context = Kinds<K>;
 
-    type Refusal = K;
+    type Fault = K;
 
     ghost allows = { λ _. Unit {0} };
 
@@ -54,7 +54,7 @@ impl<K: Copy> ItemKind for Hints<K> {
 
     type Context = Kinds<K>;
 
-    type Refusal = K;
+    type Fault = K;
 
     ghost allows = { λ _. Unit {0} };
 
@@ -81,7 +81,7 @@ impl<K: Copy> ItemKind for Ids<K> {
 
     type Context = Kinds<K>;
 
-    type Refusal = K;
+    type Fault = K;
 
     ghost allows = { λ _. Unit {0} };
 

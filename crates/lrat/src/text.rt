@@ -17,7 +17,7 @@ use std::alloc::Global;
 
 /// What is wrong in a text, before its place is known as a byte of the whole.
 #[derive(Clone, Copy, PartialEq, Eq)]
-enum Refusal {
+enum LratFault {
     /// No number, or one that is 0 in place of an id or over its limit.
     Number,
     /// Another byte than the line needs.
@@ -27,15 +27,15 @@ enum Refusal {
 }
 
 /// The faults in a line.
-const IN_LINE: Kinds<Refusal> = Kinds {
-    truncated: Refusal::Truncated,
-    number: Refusal::Number,
-    over: Refusal::Number,
-    byte: Refusal::Byte,
+const IN_LINE: Kinds<LratFault> = Kinds {
+    truncated: LratFault::Truncated,
+    number: LratFault::Number,
+    over: LratFault::Number,
+    byte: LratFault::Byte,
 };
 
 /// The error for a fault in a text of `length` bytes.
-fn error(length: usize, fault: Fault<Refusal>) -> LratError
+fn error(length: usize, fault: Fault<LratFault>) -> LratError
     ensures { result ≡ error_of length fault }
 {
     match fault {
@@ -43,22 +43,22 @@ fn error(length: usize, fault: Fault<Refusal>) -> LratError
         Fault::Text { kind, left } => {
             let place = place(length, left);
             match kind {
-                Refusal::Number => LratError::Number { place },
-                Refusal::Byte => LratError::Byte { place },
-                Refusal::Truncated => LratError::Truncated { place },
+                LratFault::Number => LratError::Number { place },
+                LratFault::Byte => LratError::Byte { place },
+                LratFault::Truncated => LratError::Truncated { place },
             }
         }
     }
 }
 
 /// The line that the whole text is.
-fn only_line(alloc: Global, text: &[u8]) -> Result<Line, Fault<Refusal>>
+fn only_line(alloc: Global, text: &[u8]) -> Result<Line, Fault<LratFault>>
     ensures { Gives (λ x. x) result (ended (line_at text.now)) }
 {
     let (line, rest) = next_line(alloc, text, IN_LINE)?;
     if !rest.is_empty() {
         return Err(Fault::Text {
-            kind: Refusal::Byte,
+            kind: LratFault::Byte,
             left: rest.len(),
         });
     }
@@ -80,7 +80,7 @@ pub fn parse_line(alloc: Global, text: &[u8]) -> Result<Line, LratError>
 }
 
 /// The lines that the whole text is.
-fn lines(alloc: Global, text: &[u8]) -> Result<Proof, Fault<Refusal>>
+fn lines(alloc: Global, text: &[u8]) -> Result<Proof, Fault<LratFault>>
     ensures found { IfOk result (λ proof. SpellsProof text.now proof) }
     ensures only { (lines : List ALine) → SpellsProof text.now lines → MatchResult result (λ proof. proof ≡ lines) (λ e. e ≡ Memory witness) }
 {

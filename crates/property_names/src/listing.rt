@@ -1,6 +1,6 @@
 //! How properties and their names in a circuit's symbol table are shown.
 
-use crate::symbols::{Unnamed, property_of};
+use crate::symbols::{NameError, property_of};
 use explanations::Printable;
 use graph::{AigerFile, Property};
 use std::fmt;
@@ -65,11 +65,11 @@ impl fmt::Display for Listing<'_> {
     }
 }
 
-impl fmt::Display for Unnamed {
+impl fmt::Display for NameError {
     fn fmt<W: fmt::Write>(&self, f: &mut fmt::Formatter<W>) -> fmt::Result {
         f.write_str(match self {
-            Unnamed::Unknown => "no property is called",
-            Unnamed::Several => "more than one property is called",
+            NameError::Unknown => "no property is called",
+            NameError::Several => "more than one property is called",
         })
     }
 }

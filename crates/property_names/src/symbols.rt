@@ -20,7 +20,7 @@ pub enum Asked<'a> {
 
 /// Why a name is of no property.
 #[derive(Clone, Copy, PartialEq, Eq)]
-pub enum Unnamed {
+pub enum NameError {
     /// No property has it.
     Unknown,
     /// Several properties have it.
@@ -74,7 +74,7 @@ fn called_by(symbol: &Symbol, name: &[u8], are_outputs_bad: bool) -> Option<Prop
 }
 
 /// The one property of the circuit that has this name in the symbol table.
-pub fn property_called(file: &AigerFile, name: &str) -> Result<Property, Unnamed>
+pub fn property_called(file: &AigerFile, name: &str) -> Result<Property, NameError>
     ensures { IfOk result (IsCalled file.now.symbols name.now) }
 {
     let are_outputs_bad = file.model().parts().are_outputs_bad();
@@ -83,12 +83,12 @@ pub fn property_called(file: &AigerFile, name: &str) -> Result<Property, Unnamed
     for symbol in symbols {
         if let Some(property) = called_by(symbol, name.as_bytes(), are_outputs_bad) {
             if found.is_some() {
-                return Err(Unnamed::Several);
+                return Err(NameError::Several);
             }
             found = Some(property);
         }
     }
-    found.ok_or(Unnamed::Unknown)
+    found.ok_or(NameError::Unknown)
 }
 
 /// The name of the property in the circuit's symbol table, where it has one.

@@ -12,8 +12,8 @@ use Rattle.scan.specs.declared.fault.Fault.TheVariants.{Memory, Text}
 use Rattle.pieces.specs.Pieces.{piece_at, Lies}
 use Rattle.pieces.proofs.PieceLaws.{nil_piece, piece_nil, piece_whole}
 use Rattle.stimulus.specs.declared.stim_error.StimError.TheVariants as text
-use Rattle.stimulus.specs.declared.reading.Refusal.{Refusal}
-use Rattle.stimulus.specs.declared.reading.Refusal.TheVariants as kind
+use Rattle.stimulus.specs.declared.reading.StimFault.{StimFault}
+use Rattle.stimulus.specs.declared.reading.StimFault.TheVariants as kind
 use Rattle.replay.specs.declared.text_error.TextError.{TextError}
 use Rattle.replay.specs.declared.text_error.TextError.TheVariants.{Refused, Device}
 use Rattle.replay.specs.Lines.{IsOfLine}
@@ -67,7 +67,7 @@ some_taken p law later rest n x within e =
 -- ---- refusals
 
 -- a text refusal is reported only of a text from which nothing is read
-pub for_text : (total : ℕ) (fault : Fault Refusal) (P : Type 0) {A : Type 0} (o : Option A) → (o ≡ None → P) → Fails fault o → ForText (Refused (error_of total fault)) P
+pub for_text : (total : ℕ) (fault : Fault StimFault) (P : Type 0) {A : Type 0} (o : Option A) → (o ≡ None → P) → Fails fault o → ForText (Refused (error_of total fault)) P
 for_text total (Memory refused) P o f none = tt
 for_text total (Text kind.Status left) P o f none = f none
 for_text total (Text kind.PropertyLine left) P o f none = f none

@@ -7,7 +7,7 @@ ghost use Rattle.replay.specs.Reading.{digit_at, dot_at, line_where, status_at};
 use graph::Property;
 use scan::{Fault, LineKind, byte, items_into, tag};
 use std::alloc::Global;
-use stimulus::{IN_LINES, IN_STATUS, Refusal, Values, begins_otherwise, property};
+use stimulus::{IN_LINES, IN_STATUS, StimFault, Values, begins_otherwise, property};
 
 /// What the first line of a stimulus says.
 #[derive(Clone, Copy, PartialEq, Eq)]
@@ -22,14 +22,14 @@ pub enum Status {
 
 /// The status that a text begins with, and what follows it.
 #[tactic(auto, unfolding(crate::specs::Reading::digit_at))]
-fn digit(text: &[u8]) -> Result<(Status, &[u8]), Fault<Refusal>>
+fn digit(text: &[u8]) -> Result<(Status, &[u8]), Fault<StimFault>>
     ensures { Gives (λ x. (x.0, x.1.now)) result (digit_at text.now) }
 {
     match text {
         [b'0', rest @ ..] => Ok((Status::Holds, rest)),
         [b'1', rest @ ..] => Ok((Status::Violated, rest)),
         [b'2', rest @ ..] => Ok((Status::Unknown, rest)),
-        _ => Err(begins_otherwise(text, Refusal::Status)),
+        _ => Err(begins_otherwise(text, StimFault::Status)),
     }
 }
 
@@ -41,14 +41,14 @@ impl LineKind for StatusLine {
 
     type Context = ();
 
-    type Refusal = Refusal;
+    type Fault = StimFault;
 
     ghost allows = { λ _. Unit {0} };
 
     ghost at = { λ _ bytes. status_at bytes };
 
     #[tactic(auto, unfolding(crate::specs::Reading::status_at))]
-    fn line(_alloc: Global, text: &[u8], _context: ()) -> Result<(Status, &[u8]), Fault<Refusal>> {
+    fn line(_alloc: Global, text: &[u8], _context: ()) -> Result<(Status, &[u8]), Fault<StimFault>> {
         let (status, rest) = digit(text)?;
         let rest = byte(rest, b'\n', IN_STATUS)?;
         Ok((status, rest))
@@ -63,7 +63,7 @@ impl LineKind for PropertyLine {
 
     type Context = ();
 
-    type Refusal = Refusal;
+    type Fault = StimFault;
 
     ghost allows = { λ _. Unit {0} };
 
@@ -73,7 +73,7 @@ impl LineKind for PropertyLine {
         _alloc: Global,
         bytes: &[u8],
         _context: (),
-    ) -> Result<(Property, &[u8]), Fault<Refusal>> {
+    ) -> Result<(Property, &[u8]), Fault<StimFault>> {
         property(bytes)
     }
 }
@@ -86,14 +86,14 @@ impl LineKind for DotLine {
 
     type Context = ();
 
-    type Refusal = Refusal;
+    type Fault = StimFault;
 
     ghost allows = { λ _. Unit {0} };
 
     ghost at = { λ _ bytes. dot_at bytes };
 
     #[tactic(auto, unfolding(crate::specs::Reading::dot_at))]
-    fn line(_alloc: Global, text: &[u8], _context: ()) -> Result<((), &[u8]), Fault<Refusal>> {
+    fn line(_alloc: Global, text: &[u8], _context: ()) -> Result<((), &[u8]), Fault<StimFault>> {
         let rest = tag(text, b".\n", IN_LINES)?;
         Ok(((), rest))
     }
@@ -106,7 +106,7 @@ pub fn line_or_end<'t>(
     alloc: Global,
     line: &mut Vec<bool>,
     text: &'t [u8],
-) -> Result<(bool, &'t [u8]), Fault<Refusal>>
+) -> Result<(bool, &'t [u8]), Fault<StimFault>>
     ensures { Gives (λ x. (line_where x.0 line.new.items, x.1.now)) result (line_at text.now) }
 {
     match text {

@@ -17,10 +17,10 @@ use pieces::Pieces;
 use scan::{LineKind, items_into};
 use std::alloc::Global;
 use std::marker::Model;
-use stimulus::{Refusal, StimError, Values, text_error};
+use stimulus::{StimFault, StimError, Values, text_error};
 
 /// Reads the next line, of one kind.
-fn line_from<L: LineKind<Refusal = Refusal>, S: Source>(
+fn line_from<L: LineKind<Fault = StimFault>, S: Source>(
     alloc: Global,
     pieces: &mut Pieces,
     before: &mut usize,

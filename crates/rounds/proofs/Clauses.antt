@@ -21,8 +21,8 @@ use Rattle.extension.specs.Extended.{extended}
 use Rattle.extension.specs.Inductive.{IsInductiveOver, IsOverAll}
 use Rattle.extension.specs.Rounds.{ended_literal, rounds_of}
 use Rattle.checker3.specs.Judged.{IsGrown, IsNoExtension, IsOutside, IsUnshowable}
-use Rattle.checker3.specs.declared.refusal.Refusal.{Refusal}
-use Rattle.checker3.specs.declared.refusal.Refusal.TheVariants as refusal
+use Rattle.checker3.specs.declared.check_error.CheckError.{CheckError}
+use Rattle.checker3.specs.declared.check_error.CheckError.TheVariants as refusal
 use Rattle.certificate3.specs.declared.claim.Claim.{Claim}
 use Rattle.certify3.specs.Causes.{HasCause, IsOutsideAt, IsRepeated}
 use Rattle.certify3.specs.Outcomes.{IsCertified}
@@ -106,7 +106,7 @@ pub record AreGiven (m : Parts) (j k : ℕ) (inv : List (List Lit)) : Type 0 whe
   pub well : IsWellFormed (rounds_of m j k)
   pub invariant : IsInvariant (rounds_of m j k) inv
 
-showable_so : (m : Parts) (j k : ℕ) (r : Refusal) → IsShowable m (Justice j) k → IsUnshowable m (Justice j) k r → ⊥
+showable_so : (m : Parts) (j k : ℕ) (r : CheckError) → IsShowable m (Justice j) k → IsUnshowable m (Justice j) k r → ⊥
 showable_so m j k refusal.NoProperty showable un = un showable.exists
 showable_so m j k refusal.TooManyRounds showable un = let few = showable.few in let more = un.1 in omega (arith, few, more)
 showable_so m j k refusal.Limit showable un = let within = showable.within in let more = un.2 in omega (arith, within, more)
@@ -117,7 +117,7 @@ showable_so m j k (refusal.Line fault) showable un = un
 grows : (m : Parts) → IsWellFormed m → IsGrown m [] []
 grows m well = record { extends = record { latches = tt; gates = tt }; well_formed = subst IsWellFormed (sym (plain m)) well }
 
-extends_so : (m : Parts) (r : Refusal) → IsWellFormed m → m.max_var ≤ 4194303 → IsNoExtension m [] [] r → ⊥
+extends_so : (m : Parts) (r : CheckError) → IsWellFormed m → m.max_var ≤ 4194303 → IsNoExtension m [] [] r → ⊥
 extends_so m refusal.NoProperty well within none = none
 extends_so m refusal.TooManyRounds well within none = none
 extends_so m refusal.Limit well within none = omega (arith, within, none)
@@ -125,7 +125,7 @@ extends_so m refusal.NotExtension well within none = none (grows m well)
 extends_so m (refusal.Outside i) well within none = none
 extends_so m (refusal.Line fault) well within none = none
 
-outside_so : (m : Parts) (inv : List (List Lit)) (r : Refusal) → All (IsOverAll m) inv → IsOutsideAt m inv r → ⊥
+outside_so : (m : Parts) (inv : List (List Lit)) (r : CheckError) → All (IsOverAll m) inv → IsOutsideAt m inv r → ⊥
 outside_so m inv refusal.NoProperty over none = none
 outside_so m inv refusal.TooManyRounds over none = none
 outside_so m inv refusal.Limit over none = none
@@ -138,9 +138,9 @@ repeated_so m inv k well h repeated = repeated.improper (m.max_var + 1) (proper_
 
 refused_so : (m : Parts) (j k : ℕ) (inv : List (List Lit)) (after : Steps) (e : CertifyError) → AreGiven m j k inv → HasCause m (claim_of j k) [] [] inv e → IfOk (tried_of e) (IsMeantFor m j k after)
 refused_so m j k inv after (certify.NoProperty n) given cause = absurd (cause.1 given.showable.exists)
-refused_so m j k inv after (certify.Refusal r) given (inl un) = absurd (showable_so m j k r given.showable un)
-refused_so m j k inv after (certify.Refusal r) given (inr (showable, inl none)) = absurd (extends_so (rounds_of m j k) r given.well showable.within none)
-refused_so m j k inv after (certify.Refusal r) given (inr (showable, inr (grown, out))) =
+refused_so m j k inv after (certify.Refused r) given (inl un) = absurd (showable_so m j k r given.showable un)
+refused_so m j k inv after (certify.Refused r) given (inr (showable, inl none)) = absurd (extends_so (rounds_of m j k) r given.well showable.within none)
+refused_so m j k inv after (certify.Refused r) given (inr (showable, inr (grown, out))) =
     absurd (outside_so (rounds_of m j k) inv r (all_in_range (rounds_of m j k) inv given.well given.invariant) (subst (λ (q : Parts). IsOutsideAt q inv r) (plain (rounds_of m j k)) out))
 refused_so m j k inv after certify.TooMany given cause = tt
 refused_so m j k inv after (certify.Repeated i) given cause =

@@ -56,7 +56,7 @@ shown_by m j k inv text law well h = (record { evidence = h.evidence; is_text = 
 
 refused_tried : (m : Parts) (j k : ℕ) (e : CertifyError) → IfOk (tried_of e) (IsTried m j k)
 refused_tried m j k (certify.NoProperty n) = tt
-refused_tried m j k (certify.Refusal r) = tt
+refused_tried m j k (certify.Refused r) = tt
 refused_tried m j k certify.TooMany = tt
 refused_tried m j k (certify.Repeated i) = tt
 refused_tried m j k (certify.IdsTaken used_up) = tt

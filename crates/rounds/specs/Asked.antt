@@ -53,7 +53,7 @@ cause_in reason.NoEvidence = NoEvidence
 -- what comes of a refusal to make a certificate: a limit, used-up ids and out of memory end the asking
 abbrev pub tried_of : CertifyError → Result Tried DecideError
 tried_of (certify.NoProperty n) = Ok (Unknown NoEvidence)
-tried_of (certify.Refusal r) = Ok (Unknown NoEvidence)
+tried_of (certify.Refused r) = Ok (Unknown NoEvidence)
 tried_of certify.TooMany = Err Limit
 tried_of (certify.Repeated k) = Ok (Unknown NoEvidence)
 tried_of (certify.IdsTaken used_up) = Err (IdsTaken full)

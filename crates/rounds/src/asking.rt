@@ -118,7 +118,7 @@ fn of_certified(certified: Result<Certified, CertifyError>) -> Result<Tried, Dec
         Err(CertifyError::IdsTaken(full)) => Err(DecideError::IdsTaken(full)),
         Err(CertifyError::OutOfMemory(refused)) => Err(DecideError::OutOfMemory(refused)),
         Err(CertifyError::NoProperty(_)) => Ok(Tried::Unknown(Cause::NoEvidence)),
-        Err(CertifyError::Refusal(_)) => Ok(Tried::Unknown(Cause::NoEvidence)),
+        Err(CertifyError::Refused(_)) => Ok(Tried::Unknown(Cause::NoEvidence)),
         Err(CertifyError::Repeated { .. }) => Ok(Tried::Unknown(Cause::NoEvidence)),
     }
 }

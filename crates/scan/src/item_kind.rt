@@ -20,8 +20,8 @@ pub trait ItemKind {
     /// What an item's meaning depends on, as the greatest number.
     type Context: Copy;
 
-    /// The refusals of the reader.
-    type Refusal: Copy;
+    /// What the reader finds wrong in a text.
+    type Fault: Copy;
 
     /// What has to hold of the context.
     ghost allows: { Self.Context → Type 0 };
@@ -34,7 +34,7 @@ pub trait ItemKind {
         alloc: Global,
         text: &[u8],
         context: Self::Context,
-    ) -> Result<(Option<Self::Item>, &[u8]), Fault<Self::Refusal>>
+    ) -> Result<(Option<Self::Item>, &[u8]), Fault<Self::Fault>>
         requires { allows context }
         ensures value { Gives (λ x. (x.0, x.1.now)) result (at context text.now) }
         ensures shorter { IfOk result (λ x. length x.1.now < length text.now) };
@@ -47,7 +47,7 @@ pub fn items_into<'t, L: ItemKind>(
     items: &mut Vec<L::Item>,
     text: &'t [u8],
     context: L::Context,
-) -> Result<&'t [u8], Fault<L::Refusal>>
+) -> Result<&'t [u8], Fault<L::Fault>>
     requires allows { L.allows context }
     requires item { IsItemSize (type_size L.Item.row) }
     ensures value { Gives (λ x. (items.new.items, x.now)) result (items_at (L.at context) text.now) }
@@ -70,7 +70,7 @@ pub fn items<L: ItemKind>(
     alloc: Global,
     text: &[u8],
     context: L::Context,
-) -> Result<(Vec<L::Item>, &[u8]), Fault<L::Refusal>>
+) -> Result<(Vec<L::Item>, &[u8]), Fault<L::Fault>>
     requires allows { L.allows context }
     requires item { IsItemSize (type_size L.Item.row) }
     ensures value { Gives (λ x. (x.0.items, x.1.now)) result (items_at (L.at context) text.now) }

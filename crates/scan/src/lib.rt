@@ -29,7 +29,7 @@
 //!
 //! ```text
 //! #[tactic(auto, unfolding(crate::specs::Pairs::pair_at))]
-//! fn one_pair(text: &[u8]) -> Result<(Pair, &[u8]), Fault<Refusal>>
+//! fn one_pair(text: &[u8]) -> Result<(Pair, &[u8]), Fault<PairFault>>
 //!     ensures { Gives (λ x. (x.0, x.1.now)) result (pair_at text.now) }
 //! {
 //!     let (left, rest) = field(text, MOST, b' ', LITERAL)?;

@@ -19,8 +19,8 @@ pub trait LineKind {
     /// What a line's meaning depends on, as the greatest variable.
     type Context: Copy;
 
-    /// The refusals of the reader.
-    type Refusal: Copy;
+    /// What the reader finds wrong in a text.
+    type Fault: Copy;
 
     /// What has to hold of the context.
     ghost allows: { Self.Context → Type 0 };
@@ -33,7 +33,7 @@ pub trait LineKind {
         alloc: Global,
         text: &[u8],
         context: Self::Context,
-    ) -> Result<(Self::Item, &[u8]), Fault<Self::Refusal>>
+    ) -> Result<(Self::Item, &[u8]), Fault<Self::Fault>>
         requires { allows context }
         ensures { Gives (λ x. (x.0, x.1.now)) result (at context text.now) };
 }
@@ -47,7 +47,7 @@ pub fn lines_into<'t, L: LineKind>(
     count: u32,
     text: &'t [u8],
     context: L::Context,
-) -> Result<&'t [u8], Fault<L::Refusal>>
+) -> Result<&'t [u8], Fault<L::Fault>>
     requires allows { L.allows context }
     requires item { IsItemSize (type_size L.Item.row) }
     ensures { Gives (λ x. (items.new.items, x.now)) result (many_at (L.at context) count text.now) }
@@ -68,7 +68,7 @@ pub fn lines<L: LineKind>(
     count: u32,
     text: &[u8],
     context: L::Context,
-) -> Result<(Vec<L::Item>, &[u8]), Fault<L::Refusal>>
+) -> Result<(Vec<L::Item>, &[u8]), Fault<L::Fault>>
     requires allows { L.allows context }
     requires item { IsItemSize (type_size L.Item.row) }
     ensures { Gives (λ x. (x.0.items, x.1.now)) result (many_at (L.at context) count text.now) }

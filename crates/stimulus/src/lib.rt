@@ -28,7 +28,7 @@ mod writing;
 pub use judge_error::JudgeError;
 pub use judging::judge;
 pub use reading::{
-    IN_LINES, IN_STATUS, Refusal, Values, begins_otherwise, property, read, text_error,
+    IN_LINES, IN_STATUS, StimFault, Values, begins_otherwise, property, read, text_error,
 };
 pub use sim_error::SimError;
 pub use stim_error::StimError;

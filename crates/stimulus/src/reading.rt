@@ -16,7 +16,7 @@ use std::alloc::Global;
 
 /// What is wrong in a text, before its place is known as a byte of the whole.
 #[derive(Clone, Copy, PartialEq, Eq)]
-pub enum Refusal {
+pub enum StimFault {
     /// The first line is not 0, 1 or 2.
     Status,
     /// The second line is not a property.
@@ -30,36 +30,36 @@ pub enum Refusal {
 }
 
 /// The faults behind the status.
-pub const IN_STATUS: Kinds<Refusal> = Kinds {
-    truncated: Refusal::Truncated,
-    number: Refusal::Status,
-    over: Refusal::Status,
-    byte: Refusal::Status,
+pub const IN_STATUS: Kinds<StimFault> = Kinds {
+    truncated: StimFault::Truncated,
+    number: StimFault::Status,
+    over: StimFault::Status,
+    byte: StimFault::Status,
 };
 
 /// The faults of a property's number and its line end.
-pub const IN_PROPERTY: Kinds<Refusal> = Kinds {
-    truncated: Refusal::Truncated,
-    number: Refusal::PropertyLine,
-    over: Refusal::PropertyLine,
-    byte: Refusal::PropertyLine,
+pub const IN_PROPERTY: Kinds<StimFault> = Kinds {
+    truncated: StimFault::Truncated,
+    number: StimFault::PropertyLine,
+    over: StimFault::PropertyLine,
+    byte: StimFault::PropertyLine,
 };
 
 /// The faults of the lines behind the property.
-pub const IN_LINES: Kinds<Refusal> = Kinds {
-    truncated: Refusal::Truncated,
-    number: Refusal::Character,
-    over: Refusal::Character,
-    byte: Refusal::Character,
+pub const IN_LINES: Kinds<StimFault> = Kinds {
+    truncated: StimFault::Truncated,
+    number: StimFault::Character,
+    over: StimFault::Character,
+    byte: StimFault::Character,
 };
 
 /// The fault of a text that begins otherwise than it is to: at its first byte, or that it ends.
-pub fn begins_otherwise(text: &[u8], kind: Refusal) -> Fault<Refusal>
+pub fn begins_otherwise(text: &[u8], kind: StimFault) -> Fault<StimFault>
     ensures { result ≡ fault_at text.now kind }
 {
     if text.is_empty() {
         return Fault::Text {
-            kind: Refusal::Truncated,
+            kind: StimFault::Truncated,
             left: 0,
         };
     }
@@ -71,7 +71,7 @@ pub fn begins_otherwise(text: &[u8], kind: Refusal) -> Fault<Refusal>
 
 /// The property of a line, and what follows that.
 #[tactic(auto, unfolding(crate::specs::Reading::property_at, crate::specs::Reading::bad_at, crate::specs::Reading::justice_at, crate::specs::Reading::output_at))]
-pub fn property(text: &[u8]) -> Result<(Property, &[u8]), Fault<Refusal>>
+pub fn property(text: &[u8]) -> Result<(Property, &[u8]), Fault<StimFault>>
     ensures { Gives (λ x. (x.0, x.1.now)) result (property_at text.now) }
 {
     match text {
@@ -87,13 +87,13 @@ pub fn property(text: &[u8]) -> Result<(Property, &[u8]), Fault<Refusal>>
             let (n, rest) = field(position, u32::MAX, b'\n', IN_PROPERTY)?;
             Ok((Property::Output(n), rest))
         }
-        _ => Err(begins_otherwise(text, Refusal::PropertyLine)),
+        _ => Err(begins_otherwise(text, StimFault::PropertyLine)),
     }
 }
 
 /// What follows the status up to the end of the property's line, and what follows that.
 #[tactic(auto, unfolding(crate::specs::Reading::heading_at))]
-fn heading(text: &[u8]) -> Result<(Property, &[u8]), Fault<Refusal>>
+fn heading(text: &[u8]) -> Result<(Property, &[u8]), Fault<StimFault>>
     ensures { Gives (λ x. (x.0, x.1.now)) result (heading_at text.now) }
 {
     let rest = byte(text, b'\n', IN_STATUS)?;
@@ -102,7 +102,7 @@ fn heading(text: &[u8]) -> Result<(Property, &[u8]), Fault<Refusal>>
 
 /// What follows the status of a stimulus without a run.
 #[tactic(auto, unfolding(crate::specs::Reading::concluded_at))]
-fn concluded(text: &[u8]) -> Result<(Property, &[u8]), Fault<Refusal>>
+fn concluded(text: &[u8]) -> Result<(Property, &[u8]), Fault<StimFault>>
     ensures { Gives (λ x. (x.0, x.1.now)) result (concluded_at text.now) }
 {
     let (property, rest) = heading(text)?;
@@ -120,7 +120,7 @@ impl ItemKind for Values {
 
     type Context = ();
 
-    type Refusal = Refusal;
+    type Fault = StimFault;
 
     ghost allows = { λ _. Unit {0} };
 
@@ -131,12 +131,12 @@ impl ItemKind for Values {
         _alloc: Global,
         text: &[u8],
         _context: (),
-    ) -> Result<(Option<bool>, &[u8]), Fault<Refusal>> {
+    ) -> Result<(Option<bool>, &[u8]), Fault<StimFault>> {
         match text {
             [b'0', rest @ ..] => Ok((Some(false), rest)),
             [b'1', rest @ ..] => Ok((Some(true), rest)),
             [b'\n', rest @ ..] => Ok((None, rest)),
-            _ => Err(begins_otherwise(text, Refusal::Character)),
+            _ => Err(begins_otherwise(text, StimFault::Character)),
         }
     }
 }
@@ -151,7 +151,7 @@ impl ItemKind for InputLines {
 
     type Context = ();
 
-    type Refusal = Refusal;
+    type Fault = StimFault;
 
     ghost allows = { λ _. Unit {0} };
 
@@ -162,7 +162,7 @@ impl ItemKind for InputLines {
         alloc: Global,
         text: &[u8],
         _context: (),
-    ) -> Result<(Option<Seq<bool>>, &[u8]), Fault<Refusal>> {
+    ) -> Result<(Option<Seq<bool>>, &[u8]), Fault<StimFault>> {
         match text {
             [b'.', rest @ ..] => {
                 let rest = byte(rest, b'\n', IN_LINES)?;
@@ -178,7 +178,7 @@ impl ItemKind for InputLines {
 
 /// What follows the status of a stimulus with a run.
 #[tactic(auto, unfolding(crate::specs::Reading::violated_at))]
-fn violated(alloc: Global, text: &[u8]) -> Result<(Stimulus, &[u8]), Fault<Refusal>>
+fn violated(alloc: Global, text: &[u8]) -> Result<(Stimulus, &[u8]), Fault<StimFault>>
     ensures { Gives (λ x. (x.0, x.1.now)) result (violated_at text.now) }
 {
     let (property, rest) = heading(text)?;
@@ -194,7 +194,7 @@ fn violated(alloc: Global, text: &[u8]) -> Result<(Stimulus, &[u8]), Fault<Refus
 
 /// The stimulus that a text begins with, and what follows it.
 #[tactic(auto, unfolding(crate::specs::Reading::stimulus_at, crate::specs::Reading::holds_at, crate::specs::Reading::unknown_at))]
-fn stimulus(alloc: Global, text: &[u8]) -> Result<(Stimulus, &[u8]), Fault<Refusal>>
+fn stimulus(alloc: Global, text: &[u8]) -> Result<(Stimulus, &[u8]), Fault<StimFault>>
     ensures { Gives (λ x. (x.0, x.1.now)) result (stimulus_at text.now) }
 {
     match text {
@@ -207,18 +207,18 @@ fn stimulus(alloc: Global, text: &[u8]) -> Result<(Stimulus, &[u8]), Fault<Refus
             let (property, rest) = concluded(rest)?;
             Ok((Stimulus::Unknown(property), rest))
         }
-        _ => Err(begins_otherwise(text, Refusal::Status)),
+        _ => Err(begins_otherwise(text, StimFault::Status)),
     }
 }
 
 /// The stimulus that the whole text is.
-fn only_stimulus(alloc: Global, text: &[u8]) -> Result<Stimulus, Fault<Refusal>>
+fn only_stimulus(alloc: Global, text: &[u8]) -> Result<Stimulus, Fault<StimFault>>
     ensures { Gives (λ x. x) result (ended (stimulus_at text.now)) }
 {
     let (stimulus, rest) = stimulus(alloc, text)?;
     if !rest.is_empty() {
         return Err(Fault::Text {
-            kind: Refusal::AfterEnd,
+            kind: StimFault::AfterEnd,
             left: rest.len(),
         });
     }
@@ -226,7 +226,7 @@ fn only_stimulus(alloc: Global, text: &[u8]) -> Result<Stimulus, Fault<Refusal>>
 }
 
 /// The error for a fault in a text of `length` bytes.
-pub fn text_error(length: usize, fault: Fault<Refusal>) -> StimError
+pub fn text_error(length: usize, fault: Fault<StimFault>) -> StimError
     ensures { result ≡ error_of length fault }
 {
     match fault {
@@ -234,11 +234,11 @@ pub fn text_error(length: usize, fault: Fault<Refusal>) -> StimError
         Fault::Text { kind, left } => {
             let place = place(length, left);
             match kind {
-                Refusal::Status => StimError::Status { place },
-                Refusal::PropertyLine => StimError::PropertyLine { place },
-                Refusal::Character => StimError::Character { place },
-                Refusal::Truncated => StimError::Truncated { place },
-                Refusal::AfterEnd => StimError::AfterEnd { place },
+                StimFault::Status => StimError::Status { place },
+                StimFault::PropertyLine => StimError::PropertyLine { place },
+                StimFault::Character => StimError::Character { place },
+                StimFault::Truncated => StimError::Truncated { place },
+                StimFault::AfterEnd => StimError::AfterEnd { place },
             }
         }
     }

@@ -3,7 +3,7 @@ use Rattle.lrat.proofs.Fit.{err_gives, read32}
 use Rattle.cnf.specs.Clauses.{bad_units, step_units}
 use Rattle.cnf.specs.Formulas.{bad_formula, shared_formula}
 use Rattle.cdcl_log.specs.Logged.{with_units}
-use Rattle.certify.specs.Halts.{IsHalt}
+use Rattle.certify.specs.ProveErrors.{IsProveError}
 use Rattle.certify.specs.Sections.{AreProofs, case_with}
 use Rattle.certify.specs.declared.counterexample.Case.TheVariants.{Bad}
 use Rattle.certify.proofs.Closed.{others_are, shared_of}
@@ -13,7 +13,7 @@ use Rattle.certify.proofs.proving.close_others.Goals as goal
 
 pub returns-in_err-close_steps-clause-halted : goal.returns-in_err-close_steps-clause-halted
 returns-in_err-close_steps-clause-halted c =
-    err_gives (IsHalt c.args.circuit.now c.args.invariant.now c.args.bad c.close_steps.new.budget) _ c.in_err-close_steps.field-0.0 c.from_residual-in_err-close_steps.ensures.1
+    err_gives (IsProveError c.args.circuit.now c.args.invariant.now c.args.bad c.close_steps.new.budget) _ c.in_err-close_steps.field-0.0 c.from_residual-in_err-close_steps.ensures.1
     (c.in_err-close_steps.ensures.halted c.args.bad)
 
 pub returns-in_err-close-clause-halted : goal.returns-in_err-close-clause-halted
@@ -24,7 +24,7 @@ returns-in_err-close-clause-halted c =
     let units : c.in_ok-units.units ≡ bad_units m c.args.bad = c.in_ok-units.ensures ∙ ap (λ x. x ∷ []) (read32 _ fits) ∙ ap (λ x. x ∷ []) c.bad_unit.ensures.unit in
     let case : with_units c.close_steps.new.cases.refuter.formula c.in_ok-units.units ≡ bad_formula m inv c.args.bad =
     case_is c.close_steps.new.cases.refuter.formula (shared_formula m inv) c.in_ok-units.units (bad_units m c.args.bad) (search rules) units in
-    err_gives (IsHalt m inv c.args.bad c.close.new.budget) _ c.in_err-close.field-0.0 c.from_residual-in_err-close.ensures.1
+    err_gives (IsProveError m inv c.args.bad c.close.new.budget) _ c.in_err-close.field-0.0 c.from_residual-in_err-close.ensures.1
     (halt_of m inv c.args.bad Bad _ c.close.new.budget c.in_err-close.field-0.0 tt case c.in_err-close.ensures.halted)
 
 pub returns-clause-proved : goal.returns-clause-proved

@@ -1,14 +1,14 @@
 use Rattle.std.proofs.Common.{[], map}
 use Rattle.checker.specs.Accepted.{init_case}
 use Rattle.lrat.proofs.Fit.{err_gives}
-use Rattle.certify.specs.Halts.{IsHalt}
+use Rattle.certify.specs.ProveErrors.{IsProveError}
 use Rattle.certify.specs.Sections.{AreProofs}
 use Rattle.certify.proofs.Pairs.{none_yet}
 use Rattle.certify.proofs.proving.prove_cases.Goals as goal
 
 pub returns-in_err-prove_initial-clause-halted : goal.returns-in_err-prove_initial-clause-halted
 returns-in_err-prove_initial-clause-halted c =
-    err_gives (IsHalt c.args.circuit.now c.args.invariant.now c.args.bad c.prove_initial.new.budget) _ c.in_err-prove_initial.field-0.0 c.from_residual.ensures.1
+    err_gives (IsProveError c.args.circuit.now c.args.invariant.now c.args.bad c.prove_initial.new.budget) _ c.in_err-prove_initial.field-0.0 c.from_residual.ensures.1
     (c.in_err-prove_initial.ensures.halted c.args.bad)
 
 pub returns-clause-proved : goal.returns-clause-proved

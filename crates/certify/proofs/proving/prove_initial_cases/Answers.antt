@@ -8,9 +8,9 @@ use Rattle.cnf.specs.Formulas.{IsOverLatches, init_formula, start_formula}
 use Rattle.cdcl_log.specs.Logged.{with_units}
 use Rattle.checker.specs.Accepted.{init_case}
 use Rattle.checker.proofs.InOrder.{clause_is}
-use Rattle.certify.specs.Halts.{IsHalt}
+use Rattle.certify.specs.ProveErrors.{IsProveError}
 use Rattle.certify.specs.Sections.{AreProofs, case_over}
-use Rattle.certify.specs.declared.halt.Halt.TheVariants.{OutOfMemory}
+use Rattle.certify.specs.declared.prove_error.ProveError.TheVariants.{OutOfMemory}
 use Rattle.certify.specs.declared.counterexample.Case.TheVariants.{Initial}
 use Rattle.certify.proofs.Pairs.{case_is, case_over_is, one_mapped}
 use Rattle.certify.proofs.Stopped.{halt_of}
@@ -39,7 +39,7 @@ returns-in_err-prove-clause-halted c =
     let clause = clause_is inv c.loop-place.place c.index-invariant-place.result c.as_slice.result.now c.loop-place-test.true c.index-invariant-place.is c.as_slice.ensures in
     let case : with_units c.loop-place.refuter.formula c.as_slice-in-loop-place.result.now ≡ init_formula m (get_or inv c.loop-place.place []) =
     case_is _ (start_formula m) _ (init_units m (get_or inv c.loop-place.place [])) (search rules) (search rules) in
-    err_gives (λ h. (a : Lit) → IsHalt m inv a c.prove.new.budget h) _ c.in_err-prove.field-0.0 c.from_residual-in_err-prove.ensures.1
+    err_gives (λ h. (a : Lit) → IsProveError m inv a c.prove.new.budget h) _ c.in_err-prove.field-0.0 c.from_residual-in_err-prove.ensures.1
     (λ a. halt_of m inv a (Initial c.loop-place.place) _ c.prove.new.budget c.in_err-prove.field-0.0 c.loop-place-test.true case c.in_err-prove.ensures.halted)
 
 pub loop-place-preserved : goal.loop-place-preserved
@@ -58,11 +58,11 @@ loop-place-preserved c =
 
 pub returns-in_err-push-clause-halted : goal.returns-in_err-push-clause-halted
 returns-in_err-push-clause-halted c =
-    err_gives (λ h. (a : Lit) → IsHalt c.args.circuit.now c.args.invariant.now a c.prove.new.budget h) _ (OutOfMemory witness) c.from_residual-in_err-push.ensures.1 (λ a. tt)
+    err_gives (λ h. (a : Lit) → IsProveError c.args.circuit.now c.args.invariant.now a c.prove.new.budget h) _ (OutOfMemory witness) c.from_residual-in_err-push.ensures.1 (λ a. tt)
 
 pub returns-in_err-units-clause-halted : goal.returns-in_err-units-clause-halted
 returns-in_err-units-clause-halted c =
-    err_gives (λ h. (a : Lit) → IsHalt c.args.circuit.now c.args.invariant.now a c.loop-place.budget h) _ (OutOfMemory witness) c.from_residual.ensures.1 (λ a. tt)
+    err_gives (λ h. (a : Lit) → IsProveError c.args.circuit.now c.args.invariant.now a c.loop-place.budget h) _ (OutOfMemory witness) c.from_residual.ensures.1 (λ a. tt)
 
 pub returns-clause-proved : goal.returns-clause-proved
 returns-clause-proved c = λ cs are.

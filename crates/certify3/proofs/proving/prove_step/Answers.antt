@@ -1,7 +1,7 @@
 use Rattle.std.proofs.Common.{◌≡◌, ◌+◌, ◌*◌, ◌∙◌, arith}
 use Rattle.graph.specs.declared.circuit.Lit.{Lit}
 use Rattle.lrat.proofs.Fit.{if_err}
-use Rattle.certify3.specs.Halts.{IsHalt, IsHaltAt}
+use Rattle.certify3.specs.ProveErrors.{IsProveError, IsProveErrorAt}
 use Rattle.certify3.specs.declared.showing.Kind.TheVariants.{Step}
 use Rattle.certify3.proofs.Stopped.{step_halt}
 use Rattle.certify3.proofs.proving.prove_step.Goals as goal
@@ -12,5 +12,5 @@ returns-clause-halted c =
     let inv = c.args.invariant.now in
     let after = c.show.new.budget in
     let once : 1 * (m.max_var + 1) ≡ m.max_var + 1 = omega arith in
-    if_err (IsHaltAt c.in_ok-formula.formula Step c.after.result inv after) (λ h. (a : Lit) → IsHalt m inv a after h) c.show.result
+    if_err (IsProveErrorAt c.in_ok-formula.formula Step c.after.result inv after) (λ h. (a : Lit) → IsProveError m inv a after h) c.show.result
     (λ h halt a. step_halt m inv a c.in_ok-formula.formula c.after.result after h c.in_ok-formula.ensures.formula c.after.ensures.max_var (c.after.ensures.offset ∙ once) halt) c.show.ensures.halted

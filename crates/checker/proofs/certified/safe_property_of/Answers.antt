@@ -2,7 +2,7 @@ use Rattle.std.proofs.Common.{None, Some, subst}
 use Rattle.aiger.proofs.LayoutLaws.{match_gives}
 use Rattle.checker.specs.AnyVersion.{IsFoundOf}
 use Rattle.checker.specs.Verdicts.{Accepts, IsRefusal}
-use Rattle.checker.specs.Stops.{IsStop, stop_of_reader}
+use Rattle.checker.specs.AnswerErrors.{IsAnswerError, error_of_reader}
 use Rattle.checker.proofs.SourceLaws.{found_none, found_some, reader_stops}
 use Rattle.checker.proofs.certified.safe_property_of.Goals as goal
 
@@ -11,7 +11,7 @@ returns-in_err-outcome-clause-says g c xs first text later left =
     let (ys, before, refused) = c.in_err-outcome.ensures.says text later left in (
       ys,
       before,
-      match_gives (λ p. Accepts xs ys p) (IsStop (IsRefusal xs ys)) c.from_residual.result (stop_of_reader c.in_err-outcome.field-0.0) c.from_residual.ensures.1
+      match_gives (λ p. Accepts xs ys p) (IsAnswerError (IsRefusal xs ys)) c.from_residual.result (error_of_reader c.in_err-outcome.field-0.0) c.from_residual.ensures.1
           (reader_stops xs ys c.args.file.now c.in_err-outcome.field-0.0 first refused),
     )
 

@@ -1,7 +1,7 @@
 use Rattle.std.proofs.Common.{refl}
 use Rattle.aiger.proofs.LayoutLaws.{match_gives}
 use Rattle.checker.specs.Replayed.{Confirms, IsRunRefusal}
-use Rattle.checker.specs.Stops.{IsStop, stop_of_load}
+use Rattle.checker.specs.AnswerErrors.{IsAnswerError, error_of_load}
 use Rattle.checker.proofs.Said.{load_stops}
 use Rattle.checker.proofs.StimulusLaws.{first_stops}
 use Rattle.checker.proofs.replayed.violated_property.Goals as goal
@@ -14,8 +14,8 @@ returns-in_err-file-clause-says g c text later left =
       λ other rest end. (
         rest,
         end,
-        match_gives (λ p. Confirms xs rest p) (IsStop (IsRunRefusal xs rest)) c.from_residual.result (stop_of_load c.in_err-file.field-0.0) c.from_residual.ensures.1
-            (first_stops xs rest (stop_of_load c.in_err-file.field-0.0) (load_stops xs c.in_err-file.field-0.0 refused)),
+        match_gives (λ p. Confirms xs rest p) (IsAnswerError (IsRunRefusal xs rest)) c.from_residual.result (error_of_load c.in_err-file.field-0.0) c.from_residual.ensures.1
+            (first_stops xs rest (error_of_load c.in_err-file.field-0.0) (load_stops xs c.in_err-file.field-0.0 refused)),
       ),
     )
 

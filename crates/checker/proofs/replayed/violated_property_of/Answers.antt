@@ -2,7 +2,7 @@ use Rattle.std.proofs.Common.{None, Some, subst}
 use Rattle.aiger.proofs.LayoutLaws.{match_gives}
 use Rattle.replay.specs.Found.{IsFound}
 use Rattle.checker.specs.Replayed.{Confirms, IsRunRefusal}
-use Rattle.checker.specs.Stops.{IsStop, stop_of_text}
+use Rattle.checker.specs.AnswerErrors.{IsAnswerError, error_of_text}
 use Rattle.checker.proofs.StimulusLaws.{found_none, found_some, text_stops}
 use Rattle.checker.proofs.replayed.violated_property_of.Goals as goal
 
@@ -11,7 +11,7 @@ returns-in_err-outcome-clause-says g c xs first text later left =
     let (ys, before, refused) = c.in_err-outcome.ensures.says text later left in (
       ys,
       before,
-      match_gives (λ p. Confirms xs ys p) (IsStop (IsRunRefusal xs ys)) c.from_residual.result (stop_of_text c.in_err-outcome.field-0.0) c.from_residual.ensures.1
+      match_gives (λ p. Confirms xs ys p) (IsAnswerError (IsRunRefusal xs ys)) c.from_residual.result (error_of_text c.in_err-outcome.field-0.0) c.from_residual.ensures.1
           (text_stops xs ys c.args.file.now c.in_err-outcome.field-0.0 first refused),
     )
 

@@ -4,7 +4,7 @@ use Rattle.certificate3.specs.Texts.{Proofs}
 use Rattle.certificate3.proofs.ChainLaws.{finds_to, stops_all}
 use Rattle.certificate3.proofs.SkipLaws.{Skips}
 use Rattle.extension.specs.Inductive.{IsOverAll}
-use Rattle.checker3.specs.declared.refusal.Refusal.TheVariants.{Outside, Line}
+use Rattle.checker3.specs.declared.check_error.CheckError.TheVariants.{Outside, Line}
 use Rattle.checker3.specs.Judged.{HasProofs, IsOutside, IsProvedOver}
 use Rattle.checker3.proofs.evidence.check_invariant.Goals as goal
 

@@ -5,7 +5,7 @@ use Rattle.certificate3.proofs.ChainLaws.{goes_on, maps_ok, stops}
 use Rattle.certificate3.proofs.PartLaws.{a_certificate, then_evidence}
 use Rattle.certificate3.proofs.PieceLaws.{claim_of_piece}
 use Rattle.checker3.specs.declared.text.Outcome.{Outcome}
-use Rattle.checker3.specs.declared.refusal.Refusal.{Refusal}
+use Rattle.checker3.specs.declared.check_error.CheckError.{CheckError}
 use Rattle.checker3.specs.Judged.{IsJudged}
 use Rattle.checker3.proofs.text.check_behind.Goals as goal
 
@@ -28,7 +28,7 @@ pub returns-clause-says : goal.returns-clause-says
 returns-clause-says g c =
     let P = λ (d : Certificate) (found : Outcome). (found.claim ≡ d.claim) × IsJudged c.args.circuit.now d found.refusal in
     let claim = c.in_ok-claim.claim in
-    let told : Option Refusal → Outcome = λ found. record { claim = claim; refusal = found } in
+    let told : Option CheckError → Outcome = λ found. record { claim = claim; refusal = found } in
     goes_on P claim_at then_evidence claim (Ok (told c.in_ok-refusal.refusal)) _ _ _ c.args.reader.now.held c.line.new.self.held c.check_claim.new.reader.held c.in_ok-claim.ensures.says
     (maps_ok (λ e found. IsJudged c.args.circuit.now (a_certificate claim e) found) P evidence_at (a_certificate claim) told c.in_ok-refusal.refusal _ _ c.line.new.self.held c.check_claim.new.reader.held c.in_ok-refusal.ensures.says
     (λ e found judged. (refl, judged)))

@@ -4,7 +4,7 @@ use Rattle.certificate3.specs.Reading.{evidence_at}
 use Rattle.certificate3.proofs.ChainLaws.{finds_to, stops_all, weakens}
 use Rattle.certificate3.proofs.PartLaws.{a_certificate}
 use Rattle.certificate3.proofs.SkipLaws.{Skips}
-use Rattle.checker3.specs.declared.refusal.Refusal.TheVariants.{Limit}
+use Rattle.checker3.specs.declared.check_error.CheckError.TheVariants.{Limit}
 use Rattle.checker3.specs.Judged.{IsJudged, IsJudgedFor}
 use Rattle.checker3.proofs.Claiming.{countable_here, counter_here, ended_here, ended_range, limit_here, unshowable_here}
 use Rattle.checker3.proofs.Judging.{judged_for}

@@ -7,25 +7,25 @@ use std::io;
 
 /// Why words ask for nothing that is to be done: they are wrong, or they ask for help.
 #[derive(Drop)]
-pub struct Wrong {
+pub struct UsageError {
     error: Error,
 }
 
-impl From<Error> for Wrong {
-    fn from(error: Error) -> Wrong {
-        Wrong { error }
+impl From<Error> for UsageError {
+    fn from(error: Error) -> UsageError {
+        UsageError { error }
     }
 }
 
-impl From<AllocError> for Wrong {
-    fn from(e: AllocError) -> Wrong {
-        Wrong {
+impl From<AllocError> for UsageError {
+    fn from(e: AllocError) -> UsageError {
+        UsageError {
             error: Error::from(e),
         }
     }
 }
 
-impl Wrong {
+impl UsageError {
     /// Whether memory ran out.
     pub fn is_out_of_memory(&self) -> bool {
         self.error.kind() == ErrorKind::OutOfMemory

@@ -8,7 +8,7 @@ use thiserror::Error;
 
 /// Why a certificate is not accepted for a circuit: the first cause.
 #[derive(Clone, Copy, Debug, PartialEq, Eq, Error)]
-pub enum Refusal {
+pub enum CheckError {
     /// the circuit has no such property
     #[error("there is no such property")]
     NoProperty,
@@ -29,18 +29,18 @@ pub enum Refusal {
     Line(Fault),
 }
 
-impl Refusal {
+impl CheckError {
     /// The refusal's number.
     pub fn number(self) -> u8
         ensures { result ≡ number_of self }
     {
         match self {
-            Refusal::NoProperty => 30,
-            Refusal::TooManyRounds => 56,
-            Refusal::Limit => 4,
-            Refusal::NotExtension => 54,
-            Refusal::Outside(_) => 55,
-            Refusal::Line(fault) => fault.number(),
+            CheckError::NoProperty => 30,
+            CheckError::TooManyRounds => 56,
+            CheckError::Limit => 4,
+            CheckError::NotExtension => 54,
+            CheckError::Outside(_) => 55,
+            CheckError::Line(fault) => fault.number(),
         }
     }
 
@@ -49,7 +49,7 @@ impl Refusal {
         ensures { result ≡ place_of self }
     {
         match self {
-            Refusal::Outside(clause) => clause,
+            CheckError::Outside(clause) => clause,
             _ => 0,
         }
     }

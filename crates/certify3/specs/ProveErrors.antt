@@ -16,13 +16,13 @@ use Rattle.certify3.specs.Counterexamples.{IsCounterexample, Satisfies}
 use Rattle.certify3.specs.declared.counterexample.Case.{Case}
 use Rattle.certify3.specs.declared.counterexample.Case.TheVariants as case
 use Rattle.certify3.specs.declared.counterexample.Counterexample.{Counterexample}
-use Rattle.certify3.specs.declared.halt.Halt.{Halt}
-use Rattle.certify3.specs.declared.halt.Halt.TheVariants.{NotInvariant, Spent, IdsTaken, OutOfMemory}
+use Rattle.certify3.specs.declared.prove_error.ProveError.{ProveError}
+use Rattle.certify3.specs.declared.prove_error.ProveError.TheVariants.{NotInvariant, Spent, IdsTaken, OutOfMemory}
 use Rattle.certify3.specs.declared.showing.Kind.{Kind}
 use Rattle.certify3.specs.declared.showing.Kind.TheVariants.{First, Step}
 
 -- what a refusal of a solver is here
-abbrev pub of_solver : SatError → Halt
+abbrev pub of_solver : SatError → ProveError
 of_solver (solver.Limit used_up) = IdsTaken full
 of_solver (solver.OutOfMemory refused) = OutOfMemory witness
 
@@ -32,11 +32,11 @@ case_of First k = case.First k
 case_of Step k = case.Step k
 
 -- what stopped a case: values that satisfy its formula, or a budget that is exhausted; used-up ids and memory can stop anything
-abbrev pub IsHaltOf : Formula → Case → Steps → Halt → Type 0
-IsHaltOf f case after (NotInvariant c) = (c.case ≡ case) × Satisfies c.values.items f
-IsHaltOf f case after Spent = after.left ≡ 0
-IsHaltOf f case after (IdsTaken used_up) = Unit {0}
-IsHaltOf f case after (OutOfMemory refused) = Unit {0}
+abbrev pub IsProveErrorOf : Formula → Case → Steps → ProveError → Type 0
+IsProveErrorOf f case after (NotInvariant c) = (c.case ≡ case) × Satisfies c.values.items f
+IsProveErrorOf f case after Spent = after.left ≡ 0
+IsProveErrorOf f case after (IdsTaken used_up) = Unit {0}
+IsProveErrorOf f case after (OutOfMemory refused) = Unit {0}
 
 -- the values satisfy the formula, and deny one of the clauses at the time: that of the case
 pub record IsFoundAt (f : Formula) (kind : Kind) (time : TimeFrame) (cs : List (List Lit)) (c : Counterexample) : Type 0 where
@@ -46,15 +46,15 @@ pub record IsFoundAt (f : Formula) (kind : Kind) (time : TimeFrame) (cs : List (
   pub satisfied : Satisfies c.values.items (with_units f (map (denial time.max_var time.offset) (clause_at cs clause)))
 
 -- what stopped one of the cases of clauses at a time
-abbrev pub IsHaltAt : Formula → Kind → TimeFrame → List (List Lit) → Steps → Halt → Type 0
-IsHaltAt f kind time cs after (NotInvariant c) = IsFoundAt f kind time cs c
-IsHaltAt f kind time cs after Spent = after.left ≡ 0
-IsHaltAt f kind time cs after (IdsTaken used_up) = Unit {0}
-IsHaltAt f kind time cs after (OutOfMemory refused) = Unit {0}
+abbrev pub IsProveErrorAt : Formula → Kind → TimeFrame → List (List Lit) → Steps → ProveError → Type 0
+IsProveErrorAt f kind time cs after (NotInvariant c) = IsFoundAt f kind time cs c
+IsProveErrorAt f kind time cs after Spent = after.left ≡ 0
+IsProveErrorAt f kind time cs after (IdsTaken used_up) = Unit {0}
+IsProveErrorAt f kind time cs after (OutOfMemory refused) = Unit {0}
 
 -- what stopped one of the cases
-abbrev pub IsHalt : Parts → List (List Lit) → Lit → Steps → Halt → Type 0
-IsHalt m inv a after (NotInvariant c) = IsCounterexample m inv a c
-IsHalt m inv a after Spent = after.left ≡ 0
-IsHalt m inv a after (IdsTaken used_up) = Unit {0}
-IsHalt m inv a after (OutOfMemory refused) = Unit {0}
+abbrev pub IsProveError : Parts → List (List Lit) → Lit → Steps → ProveError → Type 0
+IsProveError m inv a after (NotInvariant c) = IsCounterexample m inv a c
+IsProveError m inv a after Spent = after.left ≡ 0
+IsProveError m inv a after (IdsTaken used_up) = Unit {0}
+IsProveError m inv a after (OutOfMemory refused) = Unit {0}

@@ -18,7 +18,7 @@ pub enum Role {
 
 /// Why there is no answer.
 #[derive(Clone, Copy)]
-pub enum NoAnswer {
+pub enum ExitError {
     /// Both files are the standard input, or a word names no property.
     BadArgument,
     /// There is no memory for the words, or for the system at a file.
@@ -36,36 +36,36 @@ pub enum NoAnswer {
     Call(RunError),
 }
 
-impl From<RunError> for NoAnswer {
-    fn from(e: RunError) -> NoAnswer {
-        NoAnswer::Call(e)
+impl From<RunError> for ExitError {
+    fn from(e: RunError) -> ExitError {
+        ExitError::Call(e)
     }
 }
 
-impl From<Refused> for NoAnswer {
-    fn from(refused: Refused) -> NoAnswer {
-        NoAnswer::Call(RunError::OutOfMemory(refused))
+impl From<Refused> for ExitError {
+    fn from(refused: Refused) -> ExitError {
+        ExitError::Call(RunError::OutOfMemory(refused))
     }
 }
 
 /// What a call of the system gave, or the fault of one that failed.
-pub fn given<T>(got: io::Result<T>) -> Result<T, NoAnswer> {
+pub fn given<T>(got: io::Result<T>) -> Result<T, ExitError> {
     match got {
         Ok(value) => Ok(value),
         Err(error) => Err(match error.kind() {
-            io::ErrorKind::OutOfMemory => NoAnswer::Memory,
-            _ => NoAnswer::Call(RunError::Device),
+            io::ErrorKind::OutOfMemory => ExitError::Memory,
+            _ => ExitError::Call(RunError::Device),
         }),
     }
 }
 
 /// The file of this role, or the fault of one that was not opened.
-pub fn opened<T>(role: Role, got: io::Result<T>) -> Result<T, NoAnswer> {
+pub fn opened<T>(role: Role, got: io::Result<T>) -> Result<T, ExitError> {
     match got {
         Ok(file) => Ok(file),
         Err(error) => Err(match error.kind() {
-            io::ErrorKind::OutOfMemory => NoAnswer::Memory,
-            kind => NoAnswer::At {
+            io::ErrorKind::OutOfMemory => ExitError::Memory,
+            kind => ExitError::At {
                 role,
                 word: word_of(kind),
             },
@@ -74,13 +74,13 @@ pub fn opened<T>(role: Role, got: io::Result<T>) -> Result<T, NoAnswer> {
 }
 
 /// Tells a fault, and the status of one.
-pub fn fault(rt: &HostRuntime, why: NoAnswer) -> ExitCode {
+pub fn fault(rt: &HostRuntime, why: ExitError) -> ExitCode {
     let _ = match why {
-        NoAnswer::BadArgument => eprintln!(rt; "aigcheck: bad argument"),
-        NoAnswer::Memory => eprintln!(rt; "aigcheck: out of memory"),
-        NoAnswer::Told => Ok(()),
-        NoAnswer::At { .. } => eprintln!(rt; "aigcheck: {}", RunError::Device),
-        NoAnswer::Call(error) => eprintln!(rt; "aigcheck: {error}"),
+        ExitError::BadArgument => eprintln!(rt; "aigcheck: bad argument"),
+        ExitError::Memory => eprintln!(rt; "aigcheck: out of memory"),
+        ExitError::Told => Ok(()),
+        ExitError::At { .. } => eprintln!(rt; "aigcheck: {}", RunError::Device),
+        ExitError::Call(error) => eprintln!(rt; "aigcheck: {error}"),
     };
     ExitCode::from(FAULT)
 }

@@ -10,30 +10,30 @@ use Rattle.certificate.specs.declared.reader_error.ReaderError.TheVariants.{Refu
 use Rattle.stimulus.specs.Numbers.{stim_number_of}
 use Rattle.replay.specs.declared.text_error.TextError.{TextError}
 use Rattle.replay.specs.declared.text_error.TextError.TheVariants.{Refused as StimulusRefused, Device as TextFailed}
-use Rattle.checker.specs.declared.stop.Stop.{Stop}
-use Rattle.checker.specs.declared.stop.Stop.TheVariants.{No, OutOfMemory, Device}
+use Rattle.checker.specs.declared.answer_error.AnswerError.{AnswerError}
+use Rattle.checker.specs.declared.answer_error.AnswerError.TheVariants.{No, OutOfMemory, Device}
 
 -- a refusal is a no with its number, but for out of memory
-abbrev pub stop_of : ℕ → Stop
-stop_of n = if n == 20 then OutOfMemory witness else No n
+abbrev pub error_numbered : ℕ → AnswerError
+error_numbered n = if n == 20 then OutOfMemory witness else No n
 
-abbrev pub stop_of_load : LoadError → Stop
-stop_of_load (Refused e) = stop_of (read_number e)
-stop_of_load LoadDevice = Device
+abbrev pub error_of_load : LoadError → AnswerError
+error_of_load (Refused e) = error_numbered (read_number e)
+error_of_load LoadDevice = Device
 
-abbrev pub stop_of_reader : ReaderError → Stop
-stop_of_reader (CertificateRefused e) = stop_of (certificate_number e)
-stop_of_reader SourceFailed = Device
+abbrev pub error_of_reader : ReaderError → AnswerError
+error_of_reader (CertificateRefused e) = error_numbered (certificate_number e)
+error_of_reader SourceFailed = Device
 
-abbrev pub stop_of_text : TextError → Stop
-stop_of_text (StimulusRefused e) = stop_of (stim_number_of e)
-stop_of_text TextFailed = Device
+abbrev pub error_of_text : TextError → AnswerError
+error_of_text (StimulusRefused e) = error_numbered (stim_number_of e)
+error_of_text TextFailed = Device
 
 -- where it stops, a no has a number of which this holds
-abbrev pub IsStop : (ℕ → Type 0) → Stop → Type 0
-IsStop IsNo (No n) = IsNo n
-IsStop IsNo (OutOfMemory refused) = Unit {0}
-IsStop IsNo Device = Unit {0}
+abbrev pub IsAnswerError : (ℕ → Type 0) → AnswerError → Type 0
+IsAnswerError IsNo (No n) = IsNo n
+IsAnswerError IsNo (OutOfMemory refused) = Unit {0}
+IsAnswerError IsNo Device = Unit {0}
 
 -- counts of the failures of the three devices
 pub record Counts : Type 0 where

@@ -1,12 +1,12 @@
 -- What becomes of a refusal on its way to the end of a command.
 use Rattle.std.specs.Prelude.{◌≡◌, ◌≢◌, ℕ}
 use Rattle.aigmc_files.specs.Numbers.{number_of, place_of}
-use Rattle.aigmc_files.specs.declared.stop.Role.{Role}
-use Rattle.aigmc_files.specs.declared.stop.Stop.{Stop}
-use Rattle.aigmc_files.specs.declared.stop.Stop.TheVariants.{BadArgument, Taken, Told, Memory, Refused, Fault, System, At, NoProperty}
+use Rattle.aigmc_files.specs.declared.exit_error.Role.{Role}
+use Rattle.aigmc_files.specs.declared.exit_error.ExitError.{ExitError}
+use Rattle.aigmc_files.specs.declared.exit_error.ExitError.TheVariants.{BadArgument, Taken, Told, Memory, Refused, Fault, System, At, NoProperty}
 
 -- a refusal with this number and place, of the file with this role
-abbrev pub IsAt : Role → ℕ → ℕ → Stop → Type 0
+abbrev pub IsAt : Role → ℕ → ℕ → ExitError → Type 0
 IsAt role n p (At r number place word) = (r ≡ role) × (number ≡ n) × (place ≡ p)
 IsAt role n p BadArgument = ⊥
 IsAt role n p Taken = ⊥
@@ -22,7 +22,7 @@ abbrev pub IsOfText : ℕ → Type 0
 IsOfText n = (n ≢ 20) × (n ≢ 21)
 
 -- the same refusal, but one of the system as that of the file with this role
-abbrev pub IsOfDevice : Role → Stop → Stop → Type 0
+abbrev pub IsOfDevice : Role → ExitError → ExitError → Type 0
 IsOfDevice role (System word) s = IsAt role 21 0 s
 IsOfDevice role (Refused e) s = (number_of e ≡ 21 → IsAt role 21 0 s) × (number_of e ≢ 21 → s ≡ Refused e)
 IsOfDevice role BadArgument s = s ≡ BadArgument
@@ -34,7 +34,7 @@ IsOfDevice role (At r n p word) s = s ≡ At r n p word
 IsOfDevice role (NoProperty property p has) s = s ≡ NoProperty property p has
 
 -- the same refusal, but one of what a file has as that of the file with this role
-abbrev pub IsOfFile : Role → Stop → Stop → Type 0
+abbrev pub IsOfFile : Role → ExitError → ExitError → Type 0
 IsOfFile role (Refused e) s = (IsOfText (number_of e) → IsAt role (number_of e) (place_of e) s) × ((IsOfText (number_of e) → ⊥) → s ≡ Refused e)
 IsOfFile role (Fault n p) s = (IsOfText n → IsAt role n p s) × ((IsOfText n → ⊥) → s ≡ Fault n p)
 IsOfFile role BadArgument s = s ≡ BadArgument

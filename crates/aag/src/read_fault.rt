@@ -9,7 +9,7 @@ use scan::{Fault, Kinds, place};
 /// What is wrong in a text, before its place is known as a byte of the whole. `L` is what only the
 /// text's layout refuses.
 #[derive(Clone, Copy, PartialEq, Eq)]
-pub enum Refusal<L> {
+pub enum ReadFault<L> {
     /// Not the word that begins a text, or a byte that may not end a count.
     Header,
     /// No digit, or a 0 before another digit.
@@ -32,50 +32,50 @@ pub enum Refusal<L> {
     Layout(L),
 }
 
-impl<L> Refusal<L> {
+impl<L> ReadFault<L> {
     /// The faults in a header.
-    pub const IN_HEADER: Kinds<Refusal<L>> = Kinds {
-        truncated: Refusal::Truncated,
-        number: Refusal::Number,
-        over: Refusal::Limit,
-        byte: Refusal::Header,
+    pub const IN_HEADER: Kinds<ReadFault<L>> = Kinds {
+        truncated: ReadFault::Truncated,
+        number: ReadFault::Number,
+        over: ReadFault::Limit,
+        byte: ReadFault::Header,
     };
 
     /// The faults of a literal.
-    pub const IN_LITERAL: Kinds<Refusal<L>> = Kinds {
-        truncated: Refusal::Truncated,
-        number: Refusal::Number,
-        over: Refusal::LiteralRange,
-        byte: Refusal::Byte,
+    pub const IN_LITERAL: Kinds<ReadFault<L>> = Kinds {
+        truncated: ReadFault::Truncated,
+        number: ReadFault::Number,
+        over: ReadFault::LiteralRange,
+        byte: ReadFault::Byte,
     };
 
     /// The faults of a reset.
-    pub const IN_RESET: Kinds<Refusal<L>> = Kinds {
-        truncated: Refusal::Truncated,
-        number: Refusal::Number,
-        over: Refusal::Reset,
-        byte: Refusal::Byte,
+    pub const IN_RESET: Kinds<ReadFault<L>> = Kinds {
+        truncated: ReadFault::Truncated,
+        number: ReadFault::Number,
+        over: ReadFault::Reset,
+        byte: ReadFault::Byte,
     };
 
     /// The faults of a justice property's size.
-    pub const IN_SIZE: Kinds<Refusal<L>> = Kinds {
-        truncated: Refusal::Truncated,
-        number: Refusal::Number,
-        over: Refusal::Limit,
-        byte: Refusal::Byte,
+    pub const IN_SIZE: Kinds<ReadFault<L>> = Kinds {
+        truncated: ReadFault::Truncated,
+        number: ReadFault::Number,
+        over: ReadFault::Limit,
+        byte: ReadFault::Byte,
     };
 
     /// The faults of a symbol's position and the space behind it.
-    pub const IN_SYMBOL: Kinds<Refusal<L>> = Kinds {
-        truncated: Refusal::Truncated,
-        number: Refusal::Symbol,
-        over: Refusal::Symbol,
-        byte: Refusal::Symbol,
+    pub const IN_SYMBOL: Kinds<ReadFault<L>> = Kinds {
+        truncated: ReadFault::Truncated,
+        number: ReadFault::Symbol,
+        over: ReadFault::Symbol,
+        byte: ReadFault::Symbol,
     };
 }
 
 /// What only one layout refuses.
-pub trait LayoutRefusal {
+pub trait LayoutFault {
     ghost use Rattle.std.specs.Prelude.{ℕ};
     ghost use Rattle.graph.specs.declared.error.ReadError.{ReadError};
 
@@ -88,7 +88,7 @@ pub trait LayoutRefusal {
 }
 
 /// The error that a fault is in a text of this length.
-pub fn told<L: LayoutRefusal>(fault: Fault<Refusal<L>>, length: usize) -> ReadError
+pub fn told<L: LayoutFault>(fault: Fault<ReadFault<L>>, length: usize) -> ReadError
     ensures { result ≡ error_of L.at_byte length fault }
 {
     let (kind, place) = match fault {
@@ -96,15 +96,15 @@ pub fn told<L: LayoutRefusal>(fault: Fault<Refusal<L>>, length: usize) -> ReadEr
         Fault::Text { kind, left } => (kind, place(length, left)),
     };
     match kind {
-        Refusal::Header => ReadError::Header(place),
-        Refusal::Number => ReadError::Number(place),
-        Refusal::Limit => ReadError::Limit(place),
-        Refusal::Byte => ReadError::Byte(place),
-        Refusal::Truncated => ReadError::Truncated(place),
-        Refusal::LiteralRange => ReadError::LiteralRange(place),
-        Refusal::Reset => ReadError::Reset(place),
-        Refusal::Counts => ReadError::Counts(place),
-        Refusal::Symbol => ReadError::Symbol(place),
-        Refusal::Layout(refusal) => refusal.at(place),
+        ReadFault::Header => ReadError::Header(place),
+        ReadFault::Number => ReadError::Number(place),
+        ReadFault::Limit => ReadError::Limit(place),
+        ReadFault::Byte => ReadError::Byte(place),
+        ReadFault::Truncated => ReadError::Truncated(place),
+        ReadFault::LiteralRange => ReadError::LiteralRange(place),
+        ReadFault::Reset => ReadError::Reset(place),
+        ReadFault::Counts => ReadError::Counts(place),
+        ReadFault::Symbol => ReadError::Symbol(place),
+        ReadFault::Layout(refusal) => refusal.at(place),
     }
 }

@@ -9,9 +9,9 @@ ghost use Rattle.certify.specs.Numbers.{number_of as certify_number, place_of as
 ghost use Rattle.certify3.specs.Numbers.{number_of as third_number, place_of as third_place};
 ghost use Rattle.live_safe.specs.Causes.{number_of as live_number, place_of as live_place};
 ghost use Rattle.transforms.specs.Causes.{number_of as transform_number, place_of as transform_place};
-ghost use Rattle.aigmc_files.specs.Stops.{IsAt, IsOfDevice, IsOfFile, IsOfText};
+ghost use Rattle.aigmc_files.specs.ExitErrors.{IsAt, IsOfDevice, IsOfFile, IsOfText};
 ghost use Rattle.aigmc_files.specs.declared.command_error.CommandError.TheVariants.{OutOfMemory};
-ghost use Rattle.aigmc_files.specs.declared.stop.Stop.TheVariants.{Fault, Refused as IsRefused};
+ghost use Rattle.aigmc_files.specs.declared.exit_error.ExitError.TheVariants.{Fault, Refused as IsRefused};
 
 use crate::command_error::CommandError;
 use base::Refused;
@@ -68,7 +68,7 @@ pub struct Has {
 
 /// Why a command was not done.
 #[derive(Clone, Copy)]
-pub enum Stop {
+pub enum ExitError {
     /// A word asks for nothing that there is.
     BadArgument,
     /// The file to make is one that is read, or the one that standard output goes to.
@@ -110,111 +110,111 @@ pub enum Stop {
     },
 }
 
-impl From<CommandError> for Stop {
+impl From<CommandError> for ExitError {
     ghost from_gives = { λ e s. s ≡ IsRefused e };
 
-    fn from(e: CommandError) -> Stop {
-        Stop::Refused(e)
+    fn from(e: CommandError) -> ExitError {
+        ExitError::Refused(e)
     }
 }
 
-impl From<Refused> for Stop {
+impl From<Refused> for ExitError {
     ghost from_gives = { λ _ s. s ≡ IsRefused (OutOfMemory witness) };
 
-    fn from(refused: Refused) -> Stop {
-        Stop::Refused(CommandError::from(refused))
+    fn from(refused: Refused) -> ExitError {
+        ExitError::Refused(CommandError::from(refused))
     }
 }
 
-impl From<InvariantError> for Stop {
+impl From<InvariantError> for ExitError {
     ghost from_gives = { λ e s. s ≡ Fault (invariant_number e) (invariant_place e) };
 
-    fn from(e: InvariantError) -> Stop {
-        Stop::Fault {
+    fn from(e: InvariantError) -> ExitError {
+        ExitError::Fault {
             number: e.number(),
             place: e.place(),
         }
     }
 }
 
-impl From<WitnessError> for Stop {
+impl From<WitnessError> for ExitError {
     ghost from_gives = { λ e s. s ≡ Fault (witness_number e) (witness_place e) };
 
-    fn from(e: WitnessError) -> Stop {
-        Stop::Fault {
+    fn from(e: WitnessError) -> ExitError {
+        ExitError::Fault {
             number: e.number(),
             place: e.place(),
         }
     }
 }
 
-impl From<CertifyError> for Stop {
+impl From<CertifyError> for ExitError {
     ghost from_gives = { λ e s. s ≡ Fault (certify_number e) (certify_place e) };
 
-    fn from(e: CertifyError) -> Stop {
-        Stop::Fault {
+    fn from(e: CertifyError) -> ExitError {
+        ExitError::Fault {
             number: e.number(),
             place: e.place(),
         }
     }
 }
 
-impl From<ThirdError> for Stop {
+impl From<ThirdError> for ExitError {
     ghost from_gives = { λ e s. s ≡ Fault (third_number e) (third_place e) };
 
-    fn from(e: ThirdError) -> Stop {
-        Stop::Fault {
+    fn from(e: ThirdError) -> ExitError {
+        ExitError::Fault {
             number: e.number(),
             place: e.place(),
         }
     }
 }
 
-impl From<LiveError> for Stop {
+impl From<LiveError> for ExitError {
     ghost from_gives = { λ e s. s ≡ Fault (live_number e) (live_place e) };
 
-    fn from(e: LiveError) -> Stop {
-        Stop::Fault {
+    fn from(e: LiveError) -> ExitError {
+        ExitError::Fault {
             number: e.number(),
             place: e.place(),
         }
     }
 }
 
-impl From<TransformError> for Stop {
+impl From<TransformError> for ExitError {
     ghost from_gives = { λ e s. s ≡ Fault (transform_number e) (transform_place e) };
 
-    fn from(e: TransformError) -> Stop {
-        Stop::Fault {
+    fn from(e: TransformError) -> ExitError {
+        ExitError::Fault {
             number: e.number(),
             place: e.place(),
         }
     }
 }
 
-impl From<MakeError> for Stop {
-    fn from(e: MakeError) -> Stop {
-        Stop::Fault {
+impl From<MakeError> for ExitError {
+    fn from(e: MakeError) -> ExitError {
+        ExitError::Fault {
             number: e.number(),
             place: e.place(),
         }
     }
 }
 
-impl From<PairError> for Stop {
-    fn from(e: PairError) -> Stop {
-        Stop::Fault {
+impl From<PairError> for ExitError {
+    fn from(e: PairError) -> ExitError {
+        ExitError::Fault {
             number: e.number(),
             place: e.place(),
         }
     }
 }
 
-impl From<ReadError> for Stop {
+impl From<ReadError> for ExitError {
     ghost from_gives = { λ e s. s ≡ Fault (read_number e) (read_place e) };
 
-    fn from(e: ReadError) -> Stop {
-        Stop::Fault {
+    fn from(e: ReadError) -> ExitError {
+        ExitError::Fault {
             number: e.number(),
             place: e.place(),
         }
@@ -222,21 +222,21 @@ impl From<ReadError> for Stop {
 }
 
 /// What a file's call gave, or the fault of a file that was not opened, made or finished.
-pub fn finished<T>(given: io::Result<T>) -> Result<T, Stop> {
+pub fn finished<T>(given: io::Result<T>) -> Result<T, ExitError> {
     match given {
         Ok(value) => Ok(value),
         Err(error) => Err(match error.kind() {
-            io::ErrorKind::OutOfMemory => Stop::Memory,
-            kind => Stop::System(word_of(kind)),
+            io::ErrorKind::OutOfMemory => ExitError::Memory,
+            kind => ExitError::System(word_of(kind)),
         }),
     }
 }
 
 /// A refusal of the file with this role.
-fn refused_at(role: Role, number: u8, place: u64) -> Stop
+fn refused_at(role: Role, number: u8, place: u64) -> ExitError
     ensures { IsAt role number place result }
 {
-    Stop::At {
+    ExitError::At {
         role,
         number,
         place,
@@ -251,39 +251,39 @@ fn is_of_text(number: u8) -> bool
     number != OUT_OF_MEMORY && number != DEVICE
 }
 
-impl Stop {
+impl ExitError {
     /// The same, where it is the system's, as that of the file with this role.
-    fn of_device(self, role: Role) -> Stop
+    fn of_device(self, role: Role) -> ExitError
         ensures { IsOfDevice role self result }
     {
         match self {
-            Stop::System(word) => Stop::At {
+            ExitError::System(word) => ExitError::At {
                 role,
                 number: DEVICE,
                 place: 0,
                 word,
             },
-            Stop::Refused(error) if error.number() == DEVICE => refused_at(role, DEVICE, 0),
+            ExitError::Refused(error) if error.number() == DEVICE => refused_at(role, DEVICE, 0),
             stop => stop,
         }
     }
 
     /// The same, where it is a refusal of what a file has, as that of the file with this role.
-    fn of_text(self, role: Role) -> Stop
+    fn of_text(self, role: Role) -> ExitError
         ensures { IsOfFile role self result }
     {
         match self {
-            Stop::Refused(error) if is_of_text(error.number()) => {
+            ExitError::Refused(error) if is_of_text(error.number()) => {
                 refused_at(role, error.number(), error.place())
             }
-            Stop::Fault { number, place } if is_of_text(number) => refused_at(role, number, place),
+            ExitError::Fault { number, place } if is_of_text(number) => refused_at(role, number, place),
             stop => stop,
         }
     }
 }
 
 /// What was given, or a fault of the system at the file with this role.
-pub fn at<T>(role: Role, given: Result<T, Stop>) -> Result<T, Stop>
+pub fn at<T>(role: Role, given: Result<T, ExitError>) -> Result<T, ExitError>
     ensures ok { IfOk given (λ x. result ≡ Ok x) }
     ensures refused { IfErr given (λ s. IsErr result × IfErr result (IsOfDevice role s)) }
 {
@@ -294,7 +294,7 @@ pub fn at<T>(role: Role, given: Result<T, Stop>) -> Result<T, Stop>
 }
 
 /// What was given, or a refusal of what the file with this role has.
-pub fn about<T>(role: Role, given: Result<T, Stop>) -> Result<T, Stop>
+pub fn about<T>(role: Role, given: Result<T, ExitError>) -> Result<T, ExitError>
     ensures ok { IfOk given (λ x. result ≡ Ok x) }
     ensures refused { IfErr given (λ s. IsErr result × IfErr result (IsOfFile role s)) }
 {
@@ -305,7 +305,7 @@ pub fn about<T>(role: Role, given: Result<T, Stop>) -> Result<T, Stop>
 }
 
 /// What was read of the file with this role, or its fault.
-pub fn read_of<T>(role: Role, given: Result<T, Stop>) -> Result<T, Stop> {
+pub fn read_of<T>(role: Role, given: Result<T, ExitError>) -> Result<T, ExitError> {
     about(role, at(role, given))
 }
 
@@ -319,16 +319,16 @@ fn tell_fault(rt: &HostRuntime, number: u8, place: u64) -> io::Result<()> {
 }
 
 /// Tells why a command was not done.
-pub fn tell(rt: &HostRuntime, stop: Stop) -> ExitCode {
+pub fn tell(rt: &HostRuntime, stop: ExitError) -> ExitCode {
     let _ = match stop {
-        Stop::BadArgument | Stop::Taken => eprintln!(rt; "aigmc: bad argument"),
-        Stop::Told => Ok(()),
-        Stop::Memory => eprintln!(rt; "aigmc: out of memory"),
-        Stop::Refused(error) => tell_fault(rt, error.number(), error.place()),
-        Stop::Fault { number, place } => tell_fault(rt, number, place),
-        Stop::System(_) => tell_fault(rt, DEVICE, 0),
-        Stop::At { number, place, .. } => tell_fault(rt, number, place),
-        Stop::NoProperty { place, .. } => tell_fault(rt, NO_PROPERTY, place),
+        ExitError::BadArgument | ExitError::Taken => eprintln!(rt; "aigmc: bad argument"),
+        ExitError::Told => Ok(()),
+        ExitError::Memory => eprintln!(rt; "aigmc: out of memory"),
+        ExitError::Refused(error) => tell_fault(rt, error.number(), error.place()),
+        ExitError::Fault { number, place } => tell_fault(rt, number, place),
+        ExitError::System(_) => tell_fault(rt, DEVICE, 0),
+        ExitError::At { number, place, .. } => tell_fault(rt, number, place),
+        ExitError::NoProperty { place, .. } => tell_fault(rt, NO_PROPERTY, place),
     };
     ExitCode::from(FAULT)
 }

@@ -8,7 +8,7 @@ use scan::{Fault, Kinds, place};
 
 /// What is wrong in a text, before its place is known as a byte of the whole.
 #[derive(Clone, Copy, PartialEq, Eq)]
-pub enum Refusal {
+pub enum CertFault {
     /// Not the first line of a certificate.
     Version,
     /// No property on the second line.
@@ -24,39 +24,39 @@ pub enum Refusal {
 }
 
 /// The faults of the first line.
-pub const IN_VERSION: Kinds<Refusal> = Kinds {
-    truncated: Refusal::Truncated,
-    number: Refusal::Version,
-    over: Refusal::Version,
-    byte: Refusal::Version,
+pub const IN_VERSION: Kinds<CertFault> = Kinds {
+    truncated: CertFault::Truncated,
+    number: CertFault::Version,
+    over: CertFault::Version,
+    byte: CertFault::Version,
 };
 
 /// The faults of the second line.
-pub const IN_PROPERTY: Kinds<Refusal> = Kinds {
-    truncated: Refusal::Truncated,
-    number: Refusal::PropertyLine,
-    over: Refusal::PropertyLine,
-    byte: Refusal::PropertyLine,
+pub const IN_PROPERTY: Kinds<CertFault> = Kinds {
+    truncated: CertFault::Truncated,
+    number: CertFault::PropertyLine,
+    over: CertFault::PropertyLine,
+    byte: CertFault::PropertyLine,
 };
 
 /// The faults of counts, literals and lines of proofs.
-pub const IN_LINE: Kinds<Refusal> = Kinds {
-    truncated: Refusal::Truncated,
-    number: Refusal::Number,
-    over: Refusal::Number,
-    byte: Refusal::Byte,
+pub const IN_LINE: Kinds<CertFault> = Kinds {
+    truncated: CertFault::Truncated,
+    number: CertFault::Number,
+    over: CertFault::Number,
+    byte: CertFault::Byte,
 };
 
 /// The faults of a section's letter.
-pub const IN_LETTER: Kinds<Refusal> = Kinds {
-    truncated: Refusal::Truncated,
-    number: Refusal::Section,
-    over: Refusal::Section,
-    byte: Refusal::Section,
+pub const IN_LETTER: Kinds<CertFault> = Kinds {
+    truncated: CertFault::Truncated,
+    number: CertFault::Section,
+    over: CertFault::Section,
+    byte: CertFault::Section,
 };
 
 /// The error that a fault is in a text of `length` bytes.
-pub fn error(length: usize, fault: Fault<Refusal>) -> CertError
+pub fn error(length: usize, fault: Fault<CertFault>) -> CertError
     ensures { result ≡ error_of length fault }
 {
     let (kind, place) = match fault {
@@ -64,11 +64,11 @@ pub fn error(length: usize, fault: Fault<Refusal>) -> CertError
         Fault::Text { kind, left } => (kind, place(length, left)),
     };
     match kind {
-        Refusal::Version => CertError::Version { place },
-        Refusal::PropertyLine => CertError::PropertyLine { place },
-        Refusal::Number => CertError::Number { place },
-        Refusal::Section => CertError::Section { place },
-        Refusal::Byte => CertError::Byte { place },
-        Refusal::Truncated => CertError::Truncated { place },
+        CertFault::Version => CertError::Version { place },
+        CertFault::PropertyLine => CertError::PropertyLine { place },
+        CertFault::Number => CertError::Number { place },
+        CertFault::Section => CertError::Section { place },
+        CertFault::Byte => CertError::Byte { place },
+        CertFault::Truncated => CertError::Truncated { place },
     }
 }

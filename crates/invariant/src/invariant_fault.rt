@@ -8,7 +8,7 @@ use scan::{Fault, Kinds, place};
 
 /// What is wrong in a text, before its place is known as a byte of the whole.
 #[derive(Clone, Copy, PartialEq, Eq)]
-pub enum Refusal {
+pub enum InvariantFault {
     /// No number, or one over its limit.
     Number,
     /// Another byte than the line needs.
@@ -20,15 +20,15 @@ pub enum Refusal {
 }
 
 /// The faults of a line.
-pub const IN_LINE: Kinds<Refusal> = Kinds {
-    truncated: Refusal::Truncated,
-    number: Refusal::Number,
-    over: Refusal::Number,
-    byte: Refusal::Byte,
+pub const IN_LINE: Kinds<InvariantFault> = Kinds {
+    truncated: InvariantFault::Truncated,
+    number: InvariantFault::Number,
+    over: InvariantFault::Number,
+    byte: InvariantFault::Byte,
 };
 
 /// The error that a fault is in a text of `length` bytes.
-pub fn error(length: usize, fault: Fault<Refusal>) -> InvariantError
+pub fn error(length: usize, fault: Fault<InvariantFault>) -> InvariantError
     ensures { result ≡ error_of length fault }
 {
     let (kind, place) = match fault {
@@ -36,9 +36,9 @@ pub fn error(length: usize, fault: Fault<Refusal>) -> InvariantError
         Fault::Text { kind, left } => (kind, place(length, left)),
     };
     match kind {
-        Refusal::Number => InvariantError::Number { place },
-        Refusal::Byte => InvariantError::Byte { place },
-        Refusal::Truncated => InvariantError::Truncated { place },
-        Refusal::Latch => InvariantError::Latch { place },
+        InvariantFault::Number => InvariantError::Number { place },
+        InvariantFault::Byte => InvariantError::Byte { place },
+        InvariantFault::Truncated => InvariantError::Truncated { place },
+        InvariantFault::Latch => InvariantError::Latch { place },
     }
 }

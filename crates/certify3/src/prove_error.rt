@@ -2,8 +2,8 @@
 
 ghost use Rattle.std.specs.Prelude.{◌≡◌};
 ghost use Rattle.base.specs.Witness.{witness};
-ghost use Rattle.certify3.specs.Halts.{of_solver};
-ghost use Rattle.certify3.specs.declared.halt.Halt.TheVariants.{OutOfMemory};
+ghost use Rattle.certify3.specs.ProveErrors.{of_solver};
+ghost use Rattle.certify3.specs.declared.prove_error.ProveError.TheVariants.{OutOfMemory};
 
 use crate::counterexample::Counterexample;
 use base::Refused;
@@ -11,7 +11,7 @@ use solver::{Full, SatError};
 
 /// Why no further case is proved.
 #[derive(Drop)]
-pub enum Halt {
+pub enum ProveError {
     /// What satisfies a case.
     NotInvariant(Counterexample),
     /// The budget is exhausted.
@@ -22,21 +22,21 @@ pub enum Halt {
     OutOfMemory(Refused),
 }
 
-impl From<SatError> for Halt {
+impl From<SatError> for ProveError {
     ghost from_gives = { λ e h. h ≡ of_solver e };
 
-    fn from(e: SatError) -> Halt {
+    fn from(e: SatError) -> ProveError {
         match e {
-            SatError::Limit(full) => Halt::IdsTaken(full),
-            SatError::OutOfMemory(refused) => Halt::OutOfMemory(refused),
+            SatError::Limit(full) => ProveError::IdsTaken(full),
+            SatError::OutOfMemory(refused) => ProveError::OutOfMemory(refused),
         }
     }
 }
 
-impl From<Refused> for Halt {
+impl From<Refused> for ProveError {
     ghost from_gives = { λ _ h. h ≡ OutOfMemory witness };
 
-    fn from(refused: Refused) -> Halt {
-        Halt::OutOfMemory(refused)
+    fn from(refused: Refused) -> ProveError {
+        ProveError::OutOfMemory(refused)
     }
 }
