@@ -14,8 +14,8 @@ use Rattle.graph.proofs.Tabled.{holds_of_used}
 use Rattle.cnf.specs.Clauses.{bad_clauses, step_clauses}
 use Rattle.cnf.specs.Formulas.{IsOverLatches, bad_literal}
 use Rattle.cnf.specs.Formulas as formulas
-use Rattle.cnf.specs.Invariants.{AreContradictory}
-use Rattle.engine.specs.Findings.{IsForBad, IsInvariant}
+use Rattle.cnf.specs.Invariants.{AreContradictory, IsInvariant}
+use Rattle.engine.specs.Findings.{IsForBad}
 use Rattle.merged.specs.Laws.{AreInductive}
 use Rattle.correspondence.specs.Equal.{high_of, low_of, IsEquality}
 use Rattle.correspondence.proofs.First.{first_holds}

@@ -6,7 +6,7 @@ use Rattle.graph.specs.declared.parts.Parts.{Parts}
 use Rattle.engine.specs.declared.engine_error.EngineError.{EngineError}
 use Rattle.engine.specs.declared.finding.Finding.{Finding}
 use Rattle.engine.specs.declared.finding.Finding.TheVariants.{Invariant, Run, Unknown}
-use Rattle.engine.specs.Findings.{IsInvariant}
+use Rattle.cnf.specs.Invariants.{IsInvariant}
 use Rattle.merged.specs.Laws.{AreInductive}
 use Rattle.merged.specs.Merged.{IsMerged}
 

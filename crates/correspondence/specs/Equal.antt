@@ -4,8 +4,7 @@ use Rattle.graph.specs.declared.circuit.Lit.{Lit}
 use Rattle.graph.specs.declared.circuit.Latch.{Latch}
 use Rattle.graph.specs.declared.parts.Parts.{Parts}
 use Rattle.cnf.specs.Clauses.{init_clauses}
-use Rattle.cnf.specs.Invariants.{AreContradictory}
-use Rattle.engine.specs.Findings.{IsProper}
+use Rattle.cnf.specs.Invariants.{AreContradictory, IsProper}
 
 -- the literal of a latch that has a reset which is true at first
 abbrev pub high_of : Latch → Lit

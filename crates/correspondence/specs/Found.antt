@@ -1,6 +1,6 @@
 -- What is found of equal latches.
 use Rattle.graph.specs.declared.parts.Parts.{Parts}
-use Rattle.engine.specs.Findings.{IsInvariant}
+use Rattle.cnf.specs.Invariants.{IsInvariant}
 use Rattle.merged.specs.Laws.{AreInductive}
 use Rattle.correspondence.specs.declared.equal_latches.Correspondence.{Correspondence}
 use Rattle.correspondence.specs.declared.equal_latches.Correspondence.TheVariants.{Invariant, Inductive}

@@ -1,14 +1,12 @@
 -- What an honest engine's finding says.
-use Rattle.std.specs.Prelude.{◌≡◌, ◌≢◌, List, [], ◌∷◌, map, All, AllPairs}
+use Rattle.std.specs.Prelude.{◌≡◌, [], ◌∷◌}
 use Rattle.base.specs.Budget.{Steps}
 use Rattle.graph.specs.declared.circuit.Lit.{Lit}
 use Rattle.graph.specs.declared.circuit.Property.TheVariants.{Bad}
 use Rattle.graph.specs.declared.parts.Parts.{Parts}
-use Rattle.graph.specs.Circuits.{variable}
 use Rattle.stimulus.specs.declared.value.Stimulus.TheVariants.{Violated}
 use Rattle.stimulus.specs.Shown.{ShowsBad}
-use Rattle.cnf.specs.Formulas.{IsOverLatches, bad_literal}
-use Rattle.cnf.specs.Invariants.{IsInductive}
+use Rattle.cnf.specs.Invariants.{IsInvariant}
 use Rattle.engine.specs.Bounds.{IsClear}
 use Rattle.engine.specs.declared.finding.Finding.{Finding}
 use Rattle.engine.specs.declared.finding.Finding.TheVariants.{Invariant, Run, Unknown}
@@ -20,16 +18,6 @@ pub record IsForBad (m : Parts) : Type 0 where
   pub bad : Lit
   pub one : m.bad ≡ bad ∷ []
   pub no_justice : m.justice ≡ []
-
--- the clause is over the latches, and none of its literals is repeated or opposed
-pub record IsProper (m : Parts) (c : List Lit) : Type 0 where
-  pub over : IsOverLatches m c
-  pub apart : AllPairs (λ u v. u ≢ v) (map variable c)
-
--- such clauses, of which nothing satisfies any case
-pub record IsInvariant (m : Parts) (inv : List (List Lit)) : Type 0 where
-  pub clauses : All (IsProper m) inv
-  pub inductive : IsInductive m inv (bad_literal m 0)
 
 -- nothing is known: because the budget is exhausted, or beyond this number of steps
 abbrev pub IsHonest : Parts → Steps → Reason → Type 0

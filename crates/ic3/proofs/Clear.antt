@@ -8,7 +8,7 @@ use Rattle.graph.specs.declared.parts.Parts.{Parts}
 use Rattle.graph.specs.Circuits.{Valuation, value_of, state_of, Agrees, IsRun, KeepsConstraints, Steps, next_state}
 use Rattle.cnf.specs.Formulas.{bad_literal}
 use Rattle.cnf.specs.Meaning.{KeepsNow}
-use Rattle.ic3_step.specs.States.{IsTime}
+use Rattle.states.specs.States.{IsTime}
 use Rattle.ic3_frames.specs.Frames.{InFrame, AreFrames, Levels, Excludes}
 use Rattle.ic3_frames.proofs.Laws.{onward_from}
 use Rattle.ic3.specs.Answers.{IsDeep}

@@ -4,10 +4,11 @@ use Rattle.std.proofs.lemmas.List.Elements.{All-contains, All-push, All-cons, Al
 use Rattle.base.specs.Budget.{Steps}
 use Rattle.graph.specs.declared.parts.Parts.{Parts}
 use Rattle.graph.specs.Circuits.{state_of, next_state}
-use Rattle.ic3_step.specs.declared.state.StateLit.{StateLit}
+use Rattle.states.specs.declared.state_lit.StateLit.{StateLit}
 use Rattle.ic3_step.specs.declared.step.Consecution.{Consecution}
 use Rattle.ic3_step.specs.declared.step.Consecution.TheVariants.{Held, Broken, Spent}
-use Rattle.ic3_step.specs.States.{Guarded, HoldsGuarded, Holds, IsPartOf}
+use Rattle.states.specs.States.{Holds, IsPartOf}
+use Rattle.ic3_step.specs.States.{Guarded, HoldsGuarded}
 use Rattle.ic3_step.specs.Contents.{Contents, IsLoaded, HasGuards}
 use Rattle.ic3_step.specs.Steps.{IsConsecution}
 use Rattle.ic3_frames.specs.declared.frames.Entry.{Entry}

@@ -7,10 +7,10 @@ use Rattle.base.specs.Budget.{Steps}
 use Rattle.graph.specs.declared.circuit.Latch.{Latch}
 use Rattle.graph.specs.declared.parts.Parts.{Parts}
 use Rattle.graph.specs.Circuits.{Valuation, value_of, state_of, IsReset}
-use Rattle.ic3_step.specs.declared.state.StateLit.{StateLit}
+use Rattle.states.specs.declared.state_lit.StateLit.{StateLit}
 use Rattle.ic3_step.specs.declared.step.Consecution.TheVariants.{Held}
-use Rattle.ic3_step.specs.States.{IsPartOf, latch_at}
-use Rattle.ic3_step.proofs.Latched.{no_latch}
+use Rattle.states.specs.States.{IsPartOf, latch_at}
+use Rattle.states.proofs.Defaults.{no_latch}
 use Rattle.ic3_frames.specs.declared.frames.Entry.{Entry}
 use Rattle.ic3_frames.specs.Clauses.{IsResetLit}
 use Rattle.ic3_frames.specs.Frames.{IsStateClause, HoldsInitially, HoldsToward, HoldsOnward}

@@ -10,10 +10,11 @@ use Rattle.graph.specs.WellFormed.{IsWellFormed}
 use Rattle.cnf.specs.Formulas.{bad_literal}
 use Rattle.cnf.proofs.Formed.{bad_known}
 use Rattle.engine.specs.Findings.{IsForBad}
-use Rattle.ic3_step.specs.declared.state.StateLit.{StateLit}
-use Rattle.ic3_step.specs.declared.state.Assignment.{Assignment}
+use Rattle.states.specs.declared.state_lit.StateLit.{StateLit}
+use Rattle.ic3_step.specs.declared.assignment.Assignment.{Assignment}
 use Rattle.ic3_step.specs.declared.reply.Reply.TheVariants.{Found, Core}
-use Rattle.ic3_step.specs.States.{Guarded, Holds, IsAt, AllSet, IsPartOf}
+use Rattle.states.specs.States.{Holds, IsPartOf}
+use Rattle.ic3_step.specs.States.{Guarded, IsAt, AllSet}
 use Rattle.ic3_step.specs.Replies.{IsReply, IsUsable}
 use Rattle.ic3_frames.specs.declared.frames.Entry.{Entry}
 use Rattle.ic3_frames.specs.Frames.{InFrame, AreFrames, Levels, Excludes}

@@ -18,9 +18,10 @@ use Rattle.cones.specs.Marks.{IsMarked, IsKnown, AreSameAt, AgreesOn}
 use Rattle.cones.specs.Reach.{IsExtended, IsInside, IsDomain}
 use Rattle.cones.proofs.Lifted.{agrees_on, lifted_law}
 use Rattle.cones.proofs.Assigned.{input_defined, latch_defined}
-use Rattle.ic3_step.specs.declared.state.StateLit.{StateLit}
-use Rattle.ic3_step.specs.declared.state.Assignment.{Assignment}
-use Rattle.ic3_step.specs.States.{IsSet, AreValues, IsAt, AllSet, Denies, latch_at}
+use Rattle.states.specs.declared.state_lit.StateLit.{StateLit}
+use Rattle.ic3_step.specs.declared.assignment.Assignment.{Assignment}
+use Rattle.states.specs.States.{IsSet, Denies, latch_at}
+use Rattle.ic3_step.specs.States.{AreValues, IsAt, AllSet}
 use Rattle.ic3_step.specs.Steps.{denial}
 use Rattle.ic3_step.proofs.Denied.{denial_set, unset_by_denial}
 use Rattle.ic3.specs.Cubes.{Justifies, ArePredecessors, HasMarked}

@@ -5,8 +5,8 @@ use Rattle.std.proofs.lemmas.List.{take_more, append-nil}
 use Rattle.std.proofs.lemmas.List.Elements.{filter-append, All-filter, Contains-get_or, Contains-append_right}
 use Rattle.std.proofs.lemmas.List.Kept.{AllPairs-filter}
 use Rattle.graph.specs.declared.parts.Parts.{Parts}
-use Rattle.ic3_step.specs.declared.state.StateLit.{StateLit}
-use Rattle.ic3_step.specs.States.{IsPartOf}
+use Rattle.states.specs.declared.state_lit.StateLit.{StateLit}
+use Rattle.states.specs.States.{IsPartOf}
 use Rattle.ic3_frames.specs.Frames.{IsStateClause}
 use Rattle.ic3.specs.Answers.{IsPicked}
 

@@ -6,8 +6,8 @@ use Rattle.graph.specs.declared.parts.Parts.{Parts}
 use Rattle.graph.specs.WellFormed.{used}
 use Rattle.graph.proofs.Tabled.{holds_of_used}
 use Rattle.cnf.specs.Formulas.{IsOverLatches, bad_literal}
-use Rattle.cnf.specs.Invariants.{IsInductive}
-use Rattle.engine.specs.Findings.{IsForBad, IsProper, IsInvariant}
+use Rattle.cnf.specs.Invariants.{IsInductive, IsProper, IsInvariant}
+use Rattle.engine.specs.Findings.{IsForBad}
 
 -- the bad literal is one of those that the circuit uses
 pub bad_used : (m : Parts) (bads : List Lit) → IsForBad m → bads ≡ m.bad → Contains (used m) (get_or bads 0 (record { 0 = 0 }))

@@ -4,7 +4,7 @@ use Rattle.std.proofs.lemmas.Bool.{false≢true}
 use Rattle.std.proofs.lemmas.List.{take_more, take_all, get_or_default}
 use Rattle.std.proofs.lemmas.List.Elements.{All-push}
 use Rattle.std.proofs.lemmas.List.Quantifiers.{all_pairs_push}
-use Rattle.ic3_step.specs.declared.state.StateLit.{StateLit}
+use Rattle.states.specs.declared.state_lit.StateLit.{StateLit}
 use Rattle.ic3_frames.specs.Frames.{IsRising}
 
 -- the first literals are in rising order, each below a latch, which is behind that of the last of them

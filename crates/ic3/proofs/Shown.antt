@@ -14,7 +14,7 @@ use Rattle.cones.proofs.Existing.{existence_law}
 use Rattle.stimulus.specs.Shown.{Begins, last_of}
 use Rattle.engine.specs.declared.finding.Finding.TheVariants.{Run}
 use Rattle.engine.specs.Findings.{IsForBad}
-use Rattle.ic3_step.specs.States.{Denies, latch_at}
+use Rattle.states.specs.States.{Denies, latch_at}
 use Rattle.ic3_frames.specs.Frames.{Levels}
 use Rattle.ic3_frames.specs.Resets.{HasResets}
 use Rattle.ic3.specs.declared.obligation.Obligation.{Obligation}

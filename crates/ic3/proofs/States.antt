@@ -7,9 +7,10 @@ use Rattle.graph.specs.declared.circuit.Lit.{Lit}
 use Rattle.graph.specs.declared.circuit.Latch.{Latch}
 use Rattle.graph.specs.declared.parts.Parts.{Parts}
 use Rattle.graph.specs.Circuits.{Valuation, value_of}
-use Rattle.ic3_step.specs.declared.state.StateLit.{StateLit}
-use Rattle.ic3_step.specs.declared.state.Assignment.{Assignment}
-use Rattle.ic3_step.specs.States.{IsSet, IsAt, latch_at}
+use Rattle.states.specs.declared.state_lit.StateLit.{StateLit}
+use Rattle.ic3_step.specs.declared.assignment.Assignment.{Assignment}
+use Rattle.states.specs.States.{IsSet, latch_at}
+use Rattle.ic3_step.specs.States.{IsAt}
 use Rattle.ic3_frames.specs.Frames.{IsStateClause}
 
 not_itself : (b : Bool) → b ≡ not b → ⊥

@@ -6,9 +6,10 @@ use Rattle.std.proofs.lemmas.List.Elements.{All-contains, All-push, Contains-app
 use Rattle.base.specs.Budget.{Steps}
 use Rattle.graph.specs.declared.parts.Parts.{Parts}
 use Rattle.graph.specs.Circuits.{Valuation, next_state}
-use Rattle.ic3_step.specs.declared.state.StateLit.{StateLit}
-use Rattle.ic3_step.specs.declared.state.Assignment.{Assignment}
-use Rattle.ic3_step.specs.States.{Denies, IsAt, IsPartOf, IsSet}
+use Rattle.states.specs.declared.state_lit.StateLit.{StateLit}
+use Rattle.ic3_step.specs.declared.assignment.Assignment.{Assignment}
+use Rattle.states.specs.States.{Denies, IsPartOf, IsSet}
+use Rattle.ic3_step.specs.States.{IsAt}
 use Rattle.ic3_step.specs.Steps.{denials_of}
 use Rattle.ic3_frames.specs.Clauses.{IsResetLit}
 use Rattle.ic3_frames.specs.Frames.{IsFalseAfter}

@@ -1,6 +1,6 @@
 -- Clauses of a circuit's literals as clauses over its latches.
 use Rattle.std.specs.Prelude.{ℕ, ◌<◌, List, Option, All, IfSome}
-use Rattle.ic3_step.specs.declared.state.StateLit.{StateLit}
+use Rattle.states.specs.declared.state_lit.StateLit.{StateLit}
 
 -- each position is below the number of latches
 abbrev pub HasPositions : ℕ → List (Option ℕ) → Type 0

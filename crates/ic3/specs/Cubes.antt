@@ -10,8 +10,9 @@ use Rattle.cnf.specs.Formulas.{bad_literal}
 use Rattle.cnf.specs.Meaning.{KeepsNow}
 use Rattle.cones.specs.Marks.{IsMarked}
 use Rattle.cones.specs.Reach.{IsGateTable}
-use Rattle.ic3_step.specs.declared.state.StateLit.{StateLit}
-use Rattle.ic3_step.specs.States.{latch_at, Denies, AllSet}
+use Rattle.states.specs.declared.state_lit.StateLit.{StateLit}
+use Rattle.states.specs.States.{latch_at, Denies}
+use Rattle.ic3_step.specs.States.{AllSet}
 use Rattle.ic3.specs.declared.lift.Lifting.{Lifting}
 use Rattle.ic3.specs.declared.obligation.Obligation.{Obligation}
 

@@ -2,7 +2,8 @@
 use Rattle.std.specs.Prelude.{ℕ, ◌<◌, ◌≤◌, Bool, List, All}
 use Rattle.graph.specs.declared.parts.Parts.{Parts}
 use Rattle.cnf.specs.Formulas.{bad_literal}
-use Rattle.ic3_step.specs.States.{Guarded, Holds}
+use Rattle.states.specs.States.{Holds}
+use Rattle.ic3_step.specs.States.{Guarded}
 use Rattle.ic3_step.specs.Contents.{IsLoaded}
 use Rattle.ic3_frames.specs.declared.frames.Entry.{Entry}
 use Rattle.ic3_frames.specs.Frames.{InFrame, AreFrames, Levels}

@@ -1,7 +1,7 @@
 //! Clauses that join the frames.
 
 ghost use Rattle.std.specs.Prelude.{◌≡◌, ◌+◌, ◌<◌, Bool, List, Contains, OnOk};
-ghost use Rattle.ic3_step.specs.States.{Holds};
+ghost use Rattle.states.specs.States.{Holds};
 ghost use Rattle.ic3_frames.specs.Frames.{InFrame};
 ghost use Rattle.ic3.specs.Sound.{IsSound};
 ghost use Rattle.ic3.specs.Answers.{IsInductiveFrom};
@@ -11,8 +11,9 @@ use base::Seq;
 use engine::EngineError;
 use graph::Model;
 use ic3_frames::Frames;
-use ic3_step::{Counted, StateLit};
+use ic3_step::Counted;
 use solver::PartSat;
+use states::StateLit;
 
 impl<S: PartSat> FrameSolver<S> {
     /// Adds a clause that is inductive from a frame to the frames up to the next one.

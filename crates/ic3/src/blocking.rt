@@ -2,7 +2,7 @@
 
 ghost use Rattle.std.specs.Prelude.{◌≡◌, ◌+◌, ◌<◌, ◌≤◌, Bool, List, IfOk, OnOk};
 ghost use Rattle.base.specs.Budget.{Spends};
-ghost use Rattle.ic3_step.specs.States.{Holds, IsPartOf};
+ghost use Rattle.states.specs.States.{Holds, IsPartOf};
 ghost use Rattle.ic3_frames.specs.Frames.{InFrame, IsStateClause};
 ghost use Rattle.ic3.specs.Sound.{IsSound};
 ghost use Rattle.ic3.specs.Answers.{IsBefore, IsBlocking, IsInductiveFrom, IsLearned};
@@ -14,8 +14,9 @@ use base::{Budget, Refused, Seq};
 use engine::EngineError;
 use graph::Model;
 use ic3_frames::Frames;
-use ic3_step::{Assignment, Consecution, Counted, StateLit};
+use ic3_step::{Assignment, Consecution, Counted};
 use solver::PartSat;
+use states::StateLit;
 
 /// What became of states that were to be blocked.
 #[derive(Drop)]

@@ -13,8 +13,8 @@ use base::{Budget, Refused, Seq, filled, push};
 use engine::EngineError;
 use graph::{Lit, Model};
 use ic3_frames::Frames;
-use ic3_step::StateLit;
 use solver::PartSat;
+use states::StateLit;
 use std::alloc::Global;
 
 /// The position of each latch, by its variable. It costs the circuit's variables.

@@ -4,7 +4,7 @@ ghost use Rattle.std.specs.Prelude.{◌≡◌, ◌<◌, ◌≤◌, Bool, List, A
 ghost use Rattle.base.specs.Budget.{Spends};
 ghost use Rattle.graph.specs.declared.parts.Parts.{Parts};
 ghost use Rattle.cnf.specs.Formulas.{bad_literal};
-ghost use Rattle.ic3_step.specs.States.{Holds};
+ghost use Rattle.states.specs.States.{Holds};
 ghost use Rattle.ic3_frames.specs.declared.frames.Entry.{Entry as Item};
 ghost use Rattle.ic3_frames.specs.Frames.{InFrame, AreFrames, IsStateClause};
 ghost use Rattle.ic3.specs.Sound.{HasFrames, IsSound};
@@ -14,8 +14,9 @@ use base::{Budget, Refused, Seq};
 use engine::EngineError;
 use graph::Model;
 use ic3_frames::{Entry, Frames};
-use ic3_step::{Consecution, StateLit, Transition, holds_after};
+use ic3_step::{Consecution, Transition, holds_after};
 use solver::PartSat;
+use states::StateLit;
 use std::alloc::Global;
 
 /// The fewest queries with a clause of their own, and propagated clauses, for which a circuit is

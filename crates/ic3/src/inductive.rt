@@ -2,7 +2,7 @@
 
 ghost use Rattle.std.specs.Prelude.{◌≡◌, ◌<◌, ◌≤◌, true, None, Contains, IfOk, IfSome, OnOk};
 ghost use Rattle.base.specs.Budget.{Spends};
-ghost use Rattle.ic3_step.specs.States.{IsPartOf};
+ghost use Rattle.states.specs.States.{IsPartOf};
 ghost use Rattle.ic3_frames.specs.Clauses.{IsResetLit};
 ghost use Rattle.ic3_frames.specs.Frames.{IsStateClause, HoldsOnward};
 ghost use Rattle.ic3.specs.Sound.{IsSound};
@@ -16,8 +16,9 @@ use base::{Budget, Seq};
 use engine::EngineError;
 use graph::Model;
 use ic3_frames::Frames;
-use ic3_step::{Consecution, Counted, StateLit};
+use ic3_step::{Consecution, Counted};
 use solver::PartSat;
+use states::StateLit;
 
 impl<S: PartSat> FrameSolver<S> {
     /// Asks whether the clause, which has a literal that every initial state sets, holds after each

@@ -4,7 +4,8 @@
 ghost use Rattle.std.specs.Prelude.{◌≡◌, ◌+◌, ◌<◌, ◌++◌, ◌^◌, ◌↔◌, IsTrue, ℕ, false, length, All, IfOk, OnOk};
 ghost use Rattle.graph.specs.declared.parts.Parts.{Parts};
 ghost use Rattle.graph.specs.Circuits.{Valuation, variable, place};
-ghost use Rattle.ic3_step.specs.States.{Denies, IsAt, AllSet};
+ghost use Rattle.states.specs.States.{Denies};
+ghost use Rattle.ic3_step.specs.States.{IsAt, AllSet};
 ghost use Rattle.ic3_step.specs.Replies.{IsUsable};
 ghost use Rattle.cones.specs.Marks.{IsMarked};
 ghost use Rattle.cones.specs.Reach.{IsGateTable};
@@ -14,7 +15,8 @@ ghost use Rattle.ic3.specs.Cubes.{Justifies, HasMarked, IsReady};
 use base::{Refused, Seq, copied, extend, filled};
 use cones::{GateTable, Reach, unmark};
 use graph::{Latch, Lit, Model};
-use ic3_step::{Assignment, StateLit};
+use ic3_step::Assignment;
+use states::StateLit;
 use std::alloc::Global;
 
 /// What lifting keeps of a circuit from one call to the next: the gate of each variable, and a mark

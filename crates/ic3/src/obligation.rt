@@ -4,7 +4,8 @@ ghost use Rattle.std.specs.Prelude.{◌≡◌, ◌∷◌, [], true, None, Some, 
 ghost use Rattle.engine.specs.Findings.{IsForBad};
 ghost use Rattle.graph.specs.Circuits.{Valuation, value_of, next_state};
 ghost use Rattle.cnf.specs.Formulas.{bad_literal};
-ghost use Rattle.ic3_step.specs.States.{IsAt, Denies};
+ghost use Rattle.states.specs.States.{Denies};
+ghost use Rattle.ic3_step.specs.States.{IsAt};
 ghost use Rattle.ic3_step.specs.Steps.{denials_of};
 ghost use Rattle.ic3_frames.specs.Frames.{IsStateClause};
 ghost use Rattle.ic3.specs.Cubes.{IsReady, ArePredecessors, AreBad};
@@ -13,7 +14,8 @@ ghost use Rattle.ic3.specs.Answers.{IsObligation};
 use crate::lift::Lifting;
 use base::{Refused, Seq};
 use graph::Model;
-use ic3_step::{Assignment, StateLit, denials};
+use ic3_step::{Assignment, denials};
+use states::StateLit;
 use std::alloc::Global;
 
 /// A cube of states that lead to the bad literal.

@@ -8,7 +8,7 @@ ghost use Rattle.std.specs.Prelude.{◌≡◌, ◌↔◌, ◌⊎◌, IsTrue, ℕ
 ghost use Rattle.ic3.specs.Answers.{HasLatch};
 
 use base::{Refused, push};
-use ic3_step::StateLit;
+use states::StateLit;
 use std::alloc::Global;
 
 /// Whether a literal of the clause is this latch's.

@@ -2,12 +2,12 @@
 
 ghost use Rattle.std.specs.Prelude.{◌≡◌, ◌==◌, ◌↔◌, IsTrue, ℕ, not, filter, length, Contains, IfOk};
 ghost use Rattle.std.specs.List.Sorted.{IsNonDecreasing};
-ghost use Rattle.ic3_step.specs.declared.state.StateLit.{StateLit as Literal};
-ghost use Rattle.ic3_step.specs.States.{IsPartOf};
+ghost use Rattle.states.specs.declared.state_lit.StateLit.{StateLit as Literal};
+ghost use Rattle.states.specs.States.{IsPartOf};
 ghost use Rattle.ic3.specs.Answers.{IsPicked};
 
 use base::{Refused, Seq, push};
-use ic3_step::StateLit;
+use states::StateLit;
 use std::alloc::Global;
 
 /// The latches of the literals, and of one more.

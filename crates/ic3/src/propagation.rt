@@ -3,7 +3,7 @@
 ghost use Rattle.std.specs.Prelude.{◌≡◌, ◌⊎◌, ◌<◌, length, take, None, All, Contains, IfOk, IfSome, OnOk};
 ghost use Rattle.base.specs.Budget.{Spends};
 ghost use Rattle.cnf.specs.Formulas.{bad_literal};
-ghost use Rattle.engine.specs.Findings.{IsInvariant};
+ghost use Rattle.cnf.specs.Invariants.{IsInvariant};
 ghost use Rattle.ic3_frames.specs.Frames.{AreFrames};
 ghost use Rattle.ic3.specs.Answers.{AreApart, CannotPropagate};
 ghost use Rattle.ic3.specs.Sound.{IsSound};

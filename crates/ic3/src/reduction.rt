@@ -2,7 +2,8 @@
 
 ghost use Rattle.std.specs.Prelude.{IfOk};
 ghost use Rattle.base.specs.Budget.{Spends};
-ghost use Rattle.engine.specs.Findings.{IsForBad, IsInvariant};
+ghost use Rattle.cnf.specs.Invariants.{IsInvariant};
+ghost use Rattle.engine.specs.Findings.{IsForBad};
 
 use crate::frame_solver::FrameSolver;
 use base::{Budget, Seq};

@@ -4,7 +4,7 @@ ghost use Rattle.std.specs.Prelude.{◌≡◌, ◌↔◌, IsTrue, None, All, Con
 ghost use Rattle.ic3_frames.specs.Clauses.{IsResetLit};
 
 use graph::Latch;
-use ic3_step::StateLit;
+use states::StateLit;
 
 /// Whether the literal's latch is reset to its value.
 fn is_reset(latches: &[Latch], lit: StateLit) -> bool

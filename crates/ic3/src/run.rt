@@ -3,8 +3,8 @@
 ghost use Rattle.std.specs.Prelude.{◌≡◌, ◌≢◌, ◌<◌, List, true, false, length, slice_index_or, All, IfOk};
 ghost use Rattle.base.specs.Budget.{Steps};
 ghost use Rattle.engine.specs.Findings.{IsForBad};
-ghost use Rattle.ic3_step.specs.declared.state.StateLit.{StateLit as Literal};
-ghost use Rattle.ic3_step.specs.States.{Denies};
+ghost use Rattle.states.specs.declared.state_lit.StateLit.{StateLit as Literal};
+ghost use Rattle.states.specs.States.{Denies};
 ghost use Rattle.ic3_frames.specs.Clauses.{IsResetLit};
 ghost use Rattle.ic3_frames.specs.Frames.{Levels};
 ghost use Rattle.ic3_frames.specs.Resets.{HasResets};

@@ -3,7 +3,8 @@
 ghost use Rattle.std.specs.Prelude.{◌≡◌, ◌⊎◌, ◌+◌, false, true, None, IfOk, IfSome, OnOk};
 ghost use Rattle.base.specs.Budget.{Spends, Steps};
 ghost use Rattle.cnf.specs.Formulas.{bad_literal};
-ghost use Rattle.engine.specs.Findings.{IsForBad, IsInvariant, IsSo};
+ghost use Rattle.cnf.specs.Invariants.{IsInvariant};
+ghost use Rattle.engine.specs.Findings.{IsForBad, IsSo};
 ghost use Rattle.ic3_frames.specs.Frames.{AreFrames, Excludes};
 ghost use Rattle.ic3.specs.Sound.{IsSound};
 ghost use Rattle.ic3.specs.Cubes.{IsReady};

@@ -8,9 +8,9 @@ use Rattle.graph.specs.declared.circuit.Lit.{Lit}
 use Rattle.graph.specs.declared.circuit.Latch.{Latch}
 use Rattle.graph.specs.declared.parts.Parts.{Parts}
 use Rattle.graph.specs.Circuits.{value_of, state_of, IsInitial}
-use Rattle.ic3_step.specs.declared.state.StateLit.{StateLit}
-use Rattle.ic3_step.specs.States.{latch_at, IsSet, Holds}
-use Rattle.ic3_step.proofs.Latched.{no_latch}
+use Rattle.states.specs.declared.state_lit.StateLit.{StateLit}
+use Rattle.states.specs.States.{latch_at, IsSet, Holds}
+use Rattle.states.proofs.Defaults.{no_latch}
 use Rattle.ic3_frames.specs.declared.frames.Entry.{Entry}
 use Rattle.ic3_frames.specs.Frames.{IsStateClause, InFrame, HoldsInitially, IsFalseAfter, AreFrames}
 use Rattle.ic3_frames.specs.Resets.{IsInitialState}

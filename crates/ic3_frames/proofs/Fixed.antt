@@ -11,14 +11,13 @@ use Rattle.lrat.specs.Literals.{is_true, IsSatisfied}
 use Rattle.cnf.specs.Clauses.{truth_clause, init_clauses, step_clauses, bad_clauses}
 use Rattle.cnf.specs.Formulas.{IsOverLatches, IsClause, IsOfTimes, IsOver, IsInRange, bad_literal}
 use Rattle.cnf.specs.Meaning.{extension_of, AreSatisfied, HoldsClause, IsKept}
-use Rattle.cnf.specs.Invariants.{AreContradictory}
+use Rattle.cnf.specs.Invariants.{AreContradictory, IsProper, IsInvariant}
 use Rattle.cnf.proofs.CaseLaws.{init_law, step_law, bad_law, bad_in_range}
 use Rattle.cnf.proofs.Formed.{IsKnown, bad_known, init_over, step_over, bad_over}
 use Rattle.cnf.proofs.Listed.{satisfied-unit}
-use Rattle.engine.specs.Findings.{IsProper, IsInvariant}
-use Rattle.ic3_step.specs.declared.state.StateLit.{StateLit}
-use Rattle.ic3_step.specs.States.{Holds, IsTime}
-use Rattle.ic3_step.proofs.Valued.{valuation_of, valuation_is, same_seen, pos_true}
+use Rattle.states.specs.declared.state_lit.StateLit.{StateLit}
+use Rattle.states.specs.States.{Holds, IsTime}
+use Rattle.states.proofs.Valued.{valuation_of, valuation_is, same_seen, pos_true}
 use Rattle.ic3_frames.specs.declared.frames.Entry.{Entry}
 use Rattle.ic3_frames.specs.Frames.{IsStateClause, InFrame, HoldsInitially, AreFrames, Levels}
 use Rattle.ic3_frames.specs.Clauses.{clauses_above, invariant_above}

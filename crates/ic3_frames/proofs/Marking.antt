@@ -5,9 +5,9 @@ use Rattle.std.specs.Option.{is_some}
 use Rattle.std.proofs.lemmas.Bool.{cases_eq, cases_lt, false≢true}
 use Rattle.std.proofs.lemmas.List.{get_or-set_same, get_or-set_other, get_or-replicate, get_or_past, get_or_default, length-replicate}
 use Rattle.std.proofs.lemmas.Nat.Bits.{bit_at_set_same, bit_at_set_other, bit_at-zero}
-use Rattle.ic3_step.specs.declared.state.StateLit.{StateLit}
+use Rattle.states.specs.declared.state_lit.StateLit.{StateLit}
 use Rattle.std.proofs.lemmas.List.Elements.{All-contains, Contains-get_or}
-use Rattle.ic3_step.specs.States.{Holds, IsPartOf}
+use Rattle.states.specs.States.{Holds, IsPartOf}
 use Rattle.ic3_frames.specs.declared.frames.Entry.{Entry}
 use Rattle.ic3_frames.specs.Frames.{InFrame}
 use Rattle.ic3_frames.specs.Marks.{mark_of, mark_at, IsMarked, AreMarks}

@@ -14,10 +14,10 @@ use Rattle.cnf.specs.Clauses.{is_negated, along, next_of}
 use Rattle.cnf.specs.Formulas.{IsOverLatches, IsClause}
 use Rattle.cnf.specs.Meaning.{HoldsClause, Denies, DeniesNext}
 use Rattle.cnf.proofs.Values.{turned}
-use Rattle.engine.specs.Findings.{IsProper}
-use Rattle.ic3_step.specs.declared.state.StateLit.{StateLit}
-use Rattle.ic3_step.specs.States.{latch_at, Holds}
-use Rattle.ic3_step.proofs.Latched.{no_latch, no_state_lit}
+use Rattle.cnf.specs.Invariants.{IsProper}
+use Rattle.states.specs.declared.state_lit.StateLit.{StateLit}
+use Rattle.states.specs.States.{latch_at, Holds}
+use Rattle.states.proofs.Defaults.{no_latch, no_state_lit}
 use Rattle.ic3_frames.specs.Frames.{IsStateClause, IsRising}
 use Rattle.ic3_frames.specs.Clauses.{latch_lit, circuit_lit}
 

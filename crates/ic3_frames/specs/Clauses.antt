@@ -2,7 +2,7 @@
 use Rattle.std.specs.Prelude.{◌≡◌, ℕ, ◌+◌, ◌<◌, true, false, if◌then◌else◌, nat_lt, List, [], ◌∷◌, map, filter, length, slice_index_or}
 use Rattle.graph.specs.declared.circuit.Lit.{Lit}
 use Rattle.graph.specs.declared.circuit.Latch.{Latch}
-use Rattle.ic3_step.specs.declared.state.StateLit.{StateLit}
+use Rattle.states.specs.declared.state_lit.StateLit.{StateLit}
 use Rattle.ic3_frames.specs.declared.frames.Entry.{Entry}
 
 -- the literal of a latch, by its position

@@ -1,6 +1,6 @@
 -- Clauses that could not be pushed.
 use Rattle.std.specs.Prelude.{List, map}
-use Rattle.ic3_step.specs.declared.state.StateLit.{StateLit}
+use Rattle.states.specs.declared.state_lit.StateLit.{StateLit}
 use Rattle.ic3_frames.specs.declared.failed_pushes.FailedPush.{FailedPush}
 
 -- the clauses of failed pushes

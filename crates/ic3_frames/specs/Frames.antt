@@ -4,8 +4,8 @@ use Rattle.std.specs.Prelude.{◌≡◌, ◌+◌, ◌<◌, ◌≤◌, ◌⊎◌,
 use Rattle.graph.specs.declared.circuit.Lit.{Lit}
 use Rattle.graph.specs.declared.parts.Parts.{Parts}
 use Rattle.graph.specs.Circuits.{Valuation, value_of, state_of, IsInitial, next_state}
-use Rattle.ic3_step.specs.declared.state.StateLit.{StateLit}
-use Rattle.ic3_step.specs.States.{Denies, Holds, IsTime, IsPartOf}
+use Rattle.states.specs.declared.state_lit.StateLit.{StateLit}
+use Rattle.states.specs.States.{Denies, Holds, IsTime, IsPartOf}
 use Rattle.ic3_frames.specs.declared.frames.Entry.{Entry}
 
 -- the clause's latches are in rising order

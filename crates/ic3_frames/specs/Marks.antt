@@ -1,7 +1,7 @@
 -- Literals of a clause, marked by the bits of a list of words: two for each latch.
 use Rattle.std.specs.Prelude.{◌≡◌, ℕ, ◌+◌, ◌*◌, ◌/◌, ◌%◌, if◌then◌else◌, List, slice_index_or, All, Contains}
 use Rattle.std.specs.Int.{bit_at}
-use Rattle.ic3_step.specs.declared.state.StateLit.{StateLit}
+use Rattle.states.specs.declared.state_lit.StateLit.{StateLit}
 
 -- the place of a literal's mark
 abbrev pub mark_of : StateLit → ℕ

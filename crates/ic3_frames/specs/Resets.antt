@@ -2,7 +2,7 @@
 use Rattle.std.specs.Prelude.{◌≡◌, ℕ, ◌<◌, Bool, true, false, List, length, slice_index_or}
 use Rattle.graph.specs.declared.circuit.Latch.{Latch}
 use Rattle.graph.specs.declared.parts.Parts.{Parts}
-use Rattle.ic3_step.specs.States.{latch_at}
+use Rattle.states.specs.States.{latch_at}
 
 -- each latch that is reset to 0 or to 1 has that value
 abbrev pub HasResets : List Latch → List Bool → Type 0

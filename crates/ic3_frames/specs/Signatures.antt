@@ -1,7 +1,7 @@
 -- Signatures of clauses: words of 64 bits, of which each literal of a clause sets one.
 use Rattle.std.specs.Prelude.{◌≡◌, ◌≢◌, ℕ, ◌<◌, ◌%◌, List, length, slice_index_or, All}
 use Rattle.std.specs.Int.{bit_at}
-use Rattle.ic3_step.specs.declared.state.StateLit.{StateLit}
+use Rattle.states.specs.declared.state_lit.StateLit.{StateLit}
 use Rattle.ic3_frames.specs.declared.frames.Entry.{Entry}
 use Rattle.ic3_frames.specs.Marks.{mark_of}
 

@@ -2,7 +2,7 @@
 
 use base::{Refused, filled_like};
 use graph::Latch;
-use ic3_step::StateLit;
+use states::StateLit;
 use std::alloc::Global;
 
 /// What the first clause adds.

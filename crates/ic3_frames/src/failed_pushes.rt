@@ -8,7 +8,7 @@ ghost use Rattle.ic3_frames.specs.FailedPushes.{clauses_of};
 
 use crate::frames::Entry;
 use base::{Refused, Seq, push};
-use ic3_step::StateLit;
+use states::StateLit;
 use std::alloc::Global;
 
 /// A clause that could not be pushed from the frame at a level, by this state.

@@ -4,8 +4,8 @@ ghost use Rattle.std.specs.Prelude.{◌≡◌, ◌≢◌, ◌+◌, ◌<◌, ◌�
 ghost use Rattle.graph.specs.declared.circuit.Lit.{Lit};
 ghost use Rattle.graph.specs.declared.parts.Parts.{Parts};
 ghost use Rattle.cnf.specs.Formulas.{bad_literal};
-ghost use Rattle.engine.specs.Findings.{IsInvariant};
-ghost use Rattle.ic3_step.specs.States.{Holds, IsPartOf};
+ghost use Rattle.cnf.specs.Invariants.{IsInvariant};
+ghost use Rattle.states.specs.States.{Holds, IsPartOf};
 ghost use Rattle.ic3_frames.specs.declared.frames.Entry.{Entry};
 ghost use Rattle.ic3_frames.specs.Frames.{InFrame, AreFrames, AreWithin, Excludes, IsStateClause, HoldsInitially, HoldsAfter, HoldsOnward, IsFalseAfter, IsNotSubsumed};
 ghost use Rattle.ic3_frames.specs.Resets.{IsInitialState};
@@ -20,7 +20,7 @@ use crate::subsumption::{insert, remove_subsumed};
 use crate::uses::Uses;
 use base::{Refused, Seq};
 use graph::{Lit, Model};
-use ic3_step::StateLit;
+use states::StateLit;
 use std::alloc::Global;
 
 /// A clause that holds in each frame up to its level.

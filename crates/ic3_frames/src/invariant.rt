@@ -6,7 +6,7 @@ ghost use Rattle.ic3_frames.specs.Clauses.{circuit_lit as circuit_lit_of, invari
 use crate::frames::Entry;
 use base::{Refused, Seq};
 use graph::{Latch, Lit};
-use ic3_step::StateLit;
+use states::StateLit;
 use std::alloc::Global;
 
 /// Whether no clause ends at the level.

@@ -2,7 +2,7 @@
 //! them: where another clause's signature has a bit more, that clause is no part of this one, and its literals are not read.
 
 ghost use Rattle.std.specs.Prelude.{◌≡◌, ◌≢◌, ◌↔◌, ◌<◌, ◌≤◌, ◌/◌, ℕ, None, length, slice_index_or, List, All, Any, IsTrue, IfOk, IfSome};
-ghost use Rattle.ic3_step.specs.declared.state.StateLit.{StateLit as Lit};
+ghost use Rattle.states.specs.declared.state_lit.StateLit.{StateLit as Lit};
 ghost use Rattle.ic3_frames.specs.declared.frames.Entry.{Entry as Kept};
 ghost use Rattle.ic3_frames.specs.Marks.{mark_of as place_of_mark, mark_at, IsMarked, AreMarks};
 ghost use Rattle.ic3_frames.specs.Signatures.{IsSignature, AreSignatures};
@@ -10,7 +10,7 @@ ghost use Rattle.ic3_frames.specs.Signatures.{IsSignature, AreSignatures};
 use crate::frames::Entry;
 use crate::signature::{covers, signature_of};
 use base::{Refused, filled};
-use ic3_step::StateLit;
+use states::StateLit;
 use std::alloc::Global;
 
 /// The place of a literal's mark.

@@ -1,13 +1,13 @@
 //! The clauses of the first frame.
 
 ghost use Rattle.std.specs.Prelude.{◌≡◌, ◌<◌, ◌^◌, None, length, All, Contains, IfOk, IfSome};
-ghost use Rattle.ic3_step.specs.declared.state.StateLit.{StateLit as Lit};
+ghost use Rattle.states.specs.declared.state_lit.StateLit.{StateLit as Lit};
 ghost use Rattle.ic3_frames.specs.Clauses.{IsResetLit, IsResetEntry, reset_entry};
 
 use crate::frames::Entry;
 use base::{Refused, Seq, push};
 use graph::Latch;
-use ic3_step::StateLit;
+use states::StateLit;
 use std::alloc::Global;
 
 /// The value to which the latch at a position is reset, if it is reset to one.

@@ -2,14 +2,14 @@
 
 ghost use Rattle.std.specs.Prelude.{◌≡◌, ◌≢◌, ◌↔◌, ◌<◌, ℕ, List, IsTrue, IfOk};
 ghost use Rattle.std.specs.Int.{bit_at};
-ghost use Rattle.ic3_step.specs.declared.state.StateLit.{StateLit as Lit};
-ghost use Rattle.ic3_step.specs.States.{IsPartOf};
+ghost use Rattle.states.specs.declared.state_lit.StateLit.{StateLit as Lit};
+ghost use Rattle.states.specs.States.{IsPartOf};
 ghost use Rattle.ic3_frames.specs.Signatures.{signature_bit, IsSignature, AreSignatures};
 
 use crate::frames::Entry;
 use crate::marks::mark_of;
 use base::{Refused, push};
-use ic3_step::StateLit;
+use states::StateLit;
 use std::alloc::Global;
 
 /// The literal's bit in a signature.

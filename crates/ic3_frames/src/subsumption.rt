@@ -3,7 +3,7 @@
 ghost use Rattle.std.specs.Prelude.{◌≡◌, ◌⊎◌, ◌<◌, ◌≤◌, ℕ, Some, length, slice_index_or, take, IsTrue, All, Contains, OnOk, OnErr};
 ghost use Rattle.std.specs.Vec.{vec_len, vec_capacity};
 ghost use Rattle.std.specs.List.{SwappedAt};
-ghost use Rattle.ic3_step.specs.States.{IsPartOf};
+ghost use Rattle.states.specs.States.{IsPartOf};
 ghost use Rattle.ic3_frames.specs.declared.frames.Entry.{Entry as Kept};
 ghost use Rattle.ic3_frames.specs.Frames.{IsRising, IsSubsumed, IsNotSubsumed, IsExcepted, IsAdded};
 ghost use Rattle.ic3_frames.specs.Signatures.{IsSignature, AreSignatures};
@@ -12,7 +12,7 @@ use crate::frames::Entry;
 use crate::signature::{covers, signature_of};
 use crate::uses::Uses;
 use base::{Refused, Seq, push, reserve_one};
-use ic3_step::StateLit;
+use states::StateLit;
 
 /// Whether the literal is one of the clause, which is in rising order. It costs the logarithm of the clause's length.
 fn has(clause: &[StateLit], lit: StateLit) -> bool

@@ -3,7 +3,7 @@
 use crate::frames::Entry;
 use base::{Refused, filled_like};
 use graph::Latch;
-use ic3_step::StateLit;
+use states::StateLit;
 use std::alloc::Global;
 
 /// In how many clauses of the frames each latch is, as they join and leave the frames.

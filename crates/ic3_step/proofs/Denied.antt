@@ -17,15 +17,17 @@ use Rattle.cones.specs.Marks.{IsMarked}
 use Rattle.cnf.specs.Clauses.{along}
 use Rattle.cnf.proofs.Formed.{IsKnown}
 use Rattle.cnf.proofs.Values.{turned}
-use Rattle.ic3_step.specs.declared.state.StateLit.{StateLit}
-use Rattle.ic3_step.specs.declared.state.Assignment.{Assignment}
+use Rattle.states.specs.declared.state_lit.StateLit.{StateLit}
+use Rattle.ic3_step.specs.declared.assignment.Assignment.{Assignment}
 use Rattle.ic3_step.specs.declared.reply.Reply.TheVariants.{Found, Core}
 use Rattle.ic3_step.specs.declared.step.Consecution.{Consecution}
 use Rattle.ic3_step.specs.declared.step.Consecution.TheVariants.{Held, Broken, Spent}
-use Rattle.ic3_step.specs.States.{latch_at, IsSet, Holds, Denies, IsPartOf, Guarded, AllSet, IsAt}
+use Rattle.states.specs.States.{latch_at, IsSet, Holds, Denies, IsPartOf}
+use Rattle.ic3_step.specs.States.{Guarded, AllSet, IsAt}
 use Rattle.ic3_step.specs.Replies.{IsReply}
 use Rattle.ic3_step.specs.Steps.{IsConsecution, HasNeeded, denial, next_literal}
-use Rattle.ic3_step.proofs.Latched.{from_map, no_latch, no_state_lit}
+use Rattle.states.proofs.Defaults.{no_latch, no_state_lit}
+use Rattle.ic3_step.proofs.Latched.{from_map}
 
 same_bool : (x y : Bool) → (x ≡ y) ⊎ (x ≡ y → ⊥)
 same_bool true true = inl refl

@@ -27,7 +27,7 @@ use Rattle.ic3_step.proofs.Parted.{part_clauses, part_satisfied, part_gates, par
 use Rattle.ic3_step.specs.Replies.{IsReply}
 use Rattle.ic3_step.specs.Contents.{guard_literal, latch_literal}
 use Rattle.ic3_step.specs.Readings.{assumptions_of, value_at, time_at}
-use Rattle.ic3_step.proofs.Valued.{valuation_of, valuation_is, place_defined, literal_valued, denial_valued}
+use Rattle.states.proofs.Valued.{valuation_of, valuation_is, place_defined, literal_valued, denial_valued}
 use Rattle.ic3_step.proofs.Latched.{latch_literal_known, value_latch, HasState}
 
 -- the literals that are read off

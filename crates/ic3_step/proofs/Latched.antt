@@ -10,16 +10,12 @@ use Rattle.graph.specs.Circuits.{place, value_of, state_of}
 use Rattle.lrat.specs.Literals.{is_true, IsSatisfied}
 use Rattle.cnf.specs.Clauses.{literal, denial}
 use Rattle.cnf.proofs.Formed.{IsKnown, latches_known}
-use Rattle.ic3_step.specs.declared.state.StateLit.{StateLit}
-use Rattle.ic3_step.specs.States.{latch_at, IsSet, Holds, Guarded}
+use Rattle.states.specs.declared.state_lit.StateLit.{StateLit}
+use Rattle.states.specs.States.{latch_at, IsSet, Holds}
+use Rattle.ic3_step.specs.States.{Guarded}
 use Rattle.ic3_step.specs.Contents.{guard_literal, latch_literal, state_literal, guarded_clause}
-use Rattle.ic3_step.proofs.Valued.{pos_true}
-
-abbrev pub no_latch : Latch
-no_latch = record { lit = record { 0 = 0 }; next = record { 0 = 0 }; reset = record { 0 = 0 } }
-
-abbrev no_lit : Lit
-no_lit = record { 0 = 0 }
+use Rattle.states.proofs.Valued.{pos_true}
+use Rattle.states.proofs.Defaults.{no_latch, no_lit, no_state_lit}
 
 -- a latch's literal, at any position
 pub latch_literal_known : (m : Parts) (i : ℕ) → IsKnown m (latch_literal m i)
@@ -69,9 +65,6 @@ from_map f xs d y h =
 
 pub to_map : {X Y : Type 0} (f : X → Y) (xs : List X) (x : X) → Contains xs x → Contains (map f xs) (f x)
 to_map f xs x h = (h.0, omega (arith, h.1, length-map xs f), get_or-map f xs h.0 x (f x) h.1 ∙ ap f h.2)
-
-abbrev pub no_state_lit : StateLit
-no_state_lit = record { latch = 0; value = false }
 
 -- a guard's literal and its negation
 pub guard_true : (m : Parts) (v : ℕ → Bool) (g : ℕ) → is_true v (guard_literal m g) ≡ v (m.max_var + 2 + g)

@@ -1,4 +1,3 @@
-pub mod Valued
 pub mod Latched
 pub mod Cores
 pub mod Loaded

@@ -21,13 +21,13 @@ use Rattle.cones.specs.Marks.{IsMarked}
 use Rattle.cones.specs.Partial.{HasGates, HasConstraints}
 use Rattle.cones.specs.Reach.{IsGateTable}
 use Rattle.cones.proofs.Assigned.{contains_flat}
-use Rattle.ic3_step.specs.declared.state.StateLit.{StateLit}
+use Rattle.states.specs.declared.state_lit.StateLit.{StateLit}
 use Rattle.ic3_step.specs.declared.cone.Cone.{Cone}
 use Rattle.ic3_step.specs.States.{Guarded}
 use Rattle.ic3_step.specs.Queries.{IsUnasked, ArePartGates}
 use Rattle.ic3_step.specs.Contents.{Contents, guard_literal, latch_literal, state_literal, guarded_clause, IsGrown, IsMoreOf, IsLoaded, HasGuards}
 use Rattle.ic3_step.specs.Readings.{assumptions_of}
-use Rattle.ic3_step.proofs.Valued.{known_in_range}
+use Rattle.states.proofs.Valued.{known_in_range}
 use Rattle.ic3_step.proofs.Latched.{latch_literal_known, to_map}
 
 guard_is : (n k : ℕ) → k ≢ 0 → k ≤ n → IsLiteral n (pos k)

@@ -18,11 +18,12 @@ use Rattle.cnf.proofs.Values.{IsLaid, literal_true, denial_true}
 use Rattle.cones.proofs.Assigned.{part_law}
 use Rattle.solver.specs.Answers.{IsCore}
 use Rattle.ic3_step.specs.declared.reply.Reply.TheVariants.{Core}
-use Rattle.ic3_step.specs.States.{Guarded, HoldsGuarded, IsTime}
+use Rattle.states.specs.States.{IsTime}
+use Rattle.ic3_step.specs.States.{Guarded, HoldsGuarded}
 use Rattle.ic3_step.specs.Replies.{IsReply}
 use Rattle.ic3_step.specs.Contents.{Contents, latch_literal, guarded_clause, IsLoaded}
 use Rattle.ic3_step.specs.Readings.{assumptions_of, core_lits}
-use Rattle.ic3_step.proofs.Valued.{is_among, among_contains, contains_among, known_range, known_in_range}
+use Rattle.states.proofs.Valued.{is_among, among_contains, contains_among, known_range, known_in_range}
 use Rattle.ic3_step.proofs.Latched.{latch_literal_known, value_latch, HasState, guard_true, holds_clause, unguarded_clause}
 use Rattle.ic3_step.proofs.Cores.{IsAssumed, assumed, core_among, core_true}
 

@@ -9,7 +9,7 @@ use Rattle.cones.specs.Marks.{IsMarked, IsCone}
 use Rattle.cones.specs.Reach.{IsGateTable}
 use Rattle.cones.specs.Partial.{HasGates, HasConstraints}
 use Rattle.ic3_step.specs.declared.cone.Cone.{Cone}
-use Rattle.ic3_step.specs.declared.state.StateLit.{StateLit}
+use Rattle.states.specs.declared.state_lit.StateLit.{StateLit}
 use Rattle.ic3_step.specs.Queries.{IsUnasked, ArePartGates}
 use Rattle.ic3_step.specs.States.{Guarded}
 

@@ -4,7 +4,7 @@ use Rattle.graph.specs.declared.circuit.Lit.{Lit}
 use Rattle.graph.specs.declared.parts.Parts.{Parts}
 use Rattle.graph.specs.Circuits.{variable}
 use Rattle.cnf.specs.Clauses.{literal}
-use Rattle.ic3_step.specs.declared.state.Assignment.{Assignment}
+use Rattle.ic3_step.specs.declared.assignment.Assignment.{Assignment}
 use Rattle.ic3_step.specs.Contents.{guard_literal}
 
 -- what is assumed: the guards, then the literals

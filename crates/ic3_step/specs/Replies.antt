@@ -6,7 +6,8 @@ use Rattle.graph.specs.declared.parts.Parts.{Parts}
 use Rattle.graph.specs.Circuits.{Valuation, variable, defined, state_of}
 use Rattle.ic3_step.specs.declared.reply.Reply.{Reply}
 use Rattle.ic3_step.specs.declared.reply.Reply.TheVariants.{Found, Core, Spent}
-use Rattle.ic3_step.specs.States.{Guarded, HoldsGuarded, IsTime, IsAt, AllSet}
+use Rattle.states.specs.States.{IsTime}
+use Rattle.ic3_step.specs.States.{Guarded, HoldsGuarded, IsAt, AllSet}
 
 -- the literal is a constant, or of a variable that the circuit defines
 abbrev pub IsUsable : Parts → Lit → Type 0

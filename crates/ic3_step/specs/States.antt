@@ -1,32 +1,12 @@
--- States of a circuit and clauses over them (Bradley 2011).
-use Rattle.std.specs.Prelude.{◌≡◌, ℕ, ◌<◌, ◌⊎◌, Bool, true, false, List, ◌++◌, length, slice_index_or, All, Contains}
+-- Clauses under guards, and times.
+use Rattle.std.specs.Prelude.{◌≡◌, ℕ, ◌<◌, ◌⊎◌, Bool, true, List, ◌++◌, length, All, Contains}
 use Rattle.graph.specs.declared.circuit.Lit.{Lit}
 use Rattle.graph.specs.declared.parts.Parts.{Parts}
-use Rattle.graph.specs.Circuits.{Valuation, variable, place, value_of, defined, Agrees, state_of, inputs_of}
-use Rattle.cnf.specs.Meaning.{KeepsNow}
+use Rattle.graph.specs.Circuits.{Valuation, variable, place, value_of, defined, state_of, inputs_of}
 use Rattle.cones.specs.Marks.{IsMarked, IsCone}
-use Rattle.ic3_step.specs.declared.state.StateLit.{StateLit}
-use Rattle.ic3_step.specs.declared.state.Assignment.{Assignment}
-
--- the value of a latch in a state
-abbrev pub latch_at : List Bool → ℕ → Bool
-latch_at s i = slice_index_or s i false
-
--- the latch has the literal's value
-abbrev pub IsSet : List Bool → StateLit → Type 0
-IsSet s a = latch_at s a.latch ≡ a.value
-
--- one of the clause's literals is set in the state
-abbrev pub Holds : List Bool → List StateLit → Type 0
-Holds s c = (a : StateLit) × Contains c a × IsSet s a
-
--- no literal of the clause is set in the state
-abbrev pub Denies : List Bool → List StateLit → Type 0
-Denies s c = All (λ a. IsSet s a → ⊥) c
-
--- each literal of the first clause is one of the second
-abbrev pub IsPartOf : List StateLit → List StateLit → Type 0
-IsPartOf c d = (a : StateLit) → Contains c a → Contains d a
+use Rattle.states.specs.declared.state_lit.StateLit.{StateLit}
+use Rattle.states.specs.States.{Holds, IsTime}
+use Rattle.ic3_step.specs.declared.assignment.Assignment.{Assignment}
 
 -- a clause over states, and the guard under which it holds
 pub record Guarded : Type 0 where
@@ -36,11 +16,6 @@ pub record Guarded : Type 0 where
 -- of the guarded clauses, those of these guards hold in the state
 abbrev pub HoldsGuarded : List Guarded → List ℕ → List Bool → Type 0
 HoldsGuarded gs guards s = All (λ (g : Guarded). Contains guards g.guard → Holds s g.clause) gs
-
--- the valuation agrees with the circuit and keeps the constraints
-pub record IsTime (m : Parts) (w : Valuation) : Type 0 where
-  pub agrees : Agrees m w
-  pub keeps : KeepsNow m w
 
 -- these are the valuation's values of the constant and of a cone that has the literals and the constraints, at their places
 pub record AreValues (m : Parts) (lits : List Lit) (w : Valuation) (values : List Bool) : Type 0 where

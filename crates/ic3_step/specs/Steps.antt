@@ -6,10 +6,11 @@ use Rattle.graph.specs.declared.circuit.Latch.{Latch}
 use Rattle.graph.specs.declared.parts.Parts.{Parts}
 use Rattle.graph.specs.Circuits.{Valuation, state_of, next_state}
 use Rattle.cnf.specs.Clauses.{along}
-use Rattle.ic3_step.specs.declared.state.StateLit.{StateLit}
+use Rattle.states.specs.declared.state_lit.StateLit.{StateLit}
 use Rattle.ic3_step.specs.declared.step.Consecution.{Consecution}
 use Rattle.ic3_step.specs.declared.step.Consecution.TheVariants.{Held, Broken, Spent}
-use Rattle.ic3_step.specs.States.{Guarded, HoldsGuarded, Holds, Denies, IsPartOf, IsTime, IsAt}
+use Rattle.states.specs.States.{Holds, Denies, IsPartOf, IsTime}
+use Rattle.ic3_step.specs.States.{Guarded, HoldsGuarded, IsAt}
 
 -- the next literal of a latch, by its position
 abbrev pub next_literal : List Latch → ℕ → Lit

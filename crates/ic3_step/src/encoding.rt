@@ -4,11 +4,11 @@ ghost use Rattle.std.specs.Prelude.{◌≡◌, ◌+◌, ◌<◌, ◌≤◌, ◌^
 ghost use Rattle.ic3_step.specs.Contents.{IsLoaded, guard_literal as guard_literal_of, guarded_clause, state_literal as state_literal_of};
 
 use crate::cone::{Cone, add_constraints, grow};
-use crate::state::StateLit;
 use base::{Refused, push};
 use engine::EngineError;
 use graph::Model;
 use solver::Sat;
+use states::StateLit;
 use std::alloc::Global;
 
 /// The literal of a guard.

@@ -15,6 +15,7 @@
 #![tactic(auto)]
 
 mod asking;
+mod assignment;
 mod cone;
 mod costs;
 mod counts;
@@ -25,12 +26,11 @@ mod part_gates;
 mod query;
 mod reading;
 mod reply;
-mod state;
 mod step;
 mod transition;
 
+pub use assignment::Assignment;
 pub use counts::Counted;
 pub use reply::Reply;
-pub use state::{Assignment, StateLit};
 pub use step::{Consecution, denials, holds_after};
 pub use transition::Transition;

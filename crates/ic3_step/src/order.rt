@@ -3,8 +3,8 @@
 ghost use Rattle.std.specs.Prelude.{IfOk};
 ghost use Rattle.std.specs.List.Sorted.{IsPermutation};
 
-use crate::state::StateLit;
 use base::{Refused, copied};
+use states::StateLit;
 use std::alloc::Global;
 
 /// Puts the literals of the most active latches first.

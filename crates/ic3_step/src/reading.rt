@@ -4,7 +4,7 @@ ghost use Rattle.std.specs.Prelude.{◌≡◌, ◌<◌, ◌≤◌, length, IfOk}
 ghost use Rattle.graph.specs.Circuits.{variable};
 ghost use Rattle.ic3_step.specs.Readings.{value_at, time_at, is_negation as is_negation_of, circuit_lit as circuit_lit_of, lit_for as lit_for_of, core_lits as core_lits_of};
 
-use crate::state::Assignment;
+use crate::assignment::Assignment;
 use base::{Refused, Seq};
 use graph::{Lit, Model};
 use std::alloc::Global;

@@ -1,6 +1,6 @@
 //! The answer to a query.
 
-use crate::state::Assignment;
+use crate::assignment::Assignment;
 use base::Seq;
 use graph::Lit;
 

@@ -3,19 +3,21 @@
 ghost use Rattle.std.specs.Prelude.{◌≡◌, ◌<◌, ℕ, List, length, All, IfOk, OnOk};
 ghost use Rattle.base.specs.Budget.{Spends};
 ghost use Rattle.cnf.specs.Clauses.{along as along_of};
-ghost use Rattle.ic3_step.specs.States.{Guarded, IsPartOf};
+ghost use Rattle.states.specs.States.{IsPartOf};
+ghost use Rattle.ic3_step.specs.States.{Guarded};
 ghost use Rattle.ic3_step.specs.Contents.{IsLoaded, HasGuards};
 ghost use Rattle.ic3_step.specs.Steps.{IsConsecution, HasNeeded, denial, denials_of};
 
+use crate::assignment::Assignment;
 use crate::lookup::{contains, in_order};
 use crate::order::by_activity;
 use crate::reply::Reply;
-use crate::state::{Assignment, StateLit};
 use crate::transition::Transition;
 use base::{Budget, Refused, Seq};
 use engine::EngineError;
 use graph::{Latch, Lit, Model};
 use solver::PartSat;
+use states::StateLit;
 use std::alloc::Global;
 
 /// What is known of a clause after each step.

@@ -12,13 +12,13 @@ ghost use Rattle.ic3_step.specs.Contents.{IsLoaded, HasGuards};
 use crate::cone::Cone;
 use crate::counts::{Counted, Counts};
 use crate::reply::Reply;
-use crate::state::StateLit;
 use crate::{asking, encoding};
 use base::{Budget, Refused, Seq};
 use engine::{Counters, EngineError};
 use graph::{Lit, Model};
 use inductive_subset::safe_inductive_subset;
 use solver::{PartSat, Sat};
+use states::StateLit;
 use std::alloc::Global;
 
 /// One time of a circuit in an incremental solver, with clauses over its state, each under a

@@ -8,8 +8,7 @@ use Rattle.graph.specs.Circuits.{Valuation, variable, value_of, StartsInitial, I
 use Rattle.graph.specs.WellFormed.{IsWellFormed}
 use Rattle.stimulus.specs.Shown.{Begins, IsReplay, last_of}
 use Rattle.cnf.specs.Clauses.{init_clauses, step_clauses}
-use Rattle.cnf.specs.Invariants.{AreContradictory}
-use Rattle.engine.specs.Findings.{IsProper}
+use Rattle.cnf.specs.Invariants.{AreContradictory, IsProper}
 use Rattle.merged.specs.Reading.{read_as, IsTable}
 use Rattle.merged.specs.Merged.{merged_parts, IsMerged}
 use Rattle.merged.specs.Laws.{AreInductive, SameLaw, RunsLaw, ViolationLaw, ClearLaw, InvariantLaw, AreLaws}

@@ -7,10 +7,9 @@ use Rattle.graph.specs.Circuits.{Valuation, value_of, state_of, inputs_of, IsVal
 use Rattle.stimulus.specs.declared.value.Stimulus.TheVariants.{Violated}
 use Rattle.stimulus.specs.Shown.{ShowsBad}
 use Rattle.cnf.specs.Clauses.{init_clauses, step_clauses}
-use Rattle.cnf.specs.Invariants.{AreContradictory}
+use Rattle.cnf.specs.Invariants.{AreContradictory, IsProper, IsInvariant}
 use Rattle.cnf.specs.Meaning.{HoldsClause}
 use Rattle.engine.specs.Bounds.{IsClear}
-use Rattle.engine.specs.Findings.{IsProper, IsInvariant}
 
 -- clauses over the latches that hold in every first state, and after each step from a state that satisfies all of them
 pub record AreInductive (m : Parts) (cs : List (List Lit)) : Type 0 where

@@ -15,7 +15,7 @@ use Rattle.lrat.specs.Literals.{IsProper as IsProperClause}
 use Rattle.cnf.specs.Clauses.{literal, signed, is_negated}
 use Rattle.cnf.specs.Formulas.{IsOverLatches}
 use Rattle.cnf.proofs.CaseLaws.{clause_range}
-use Rattle.engine.specs.Findings.{IsInvariant, IsProper}
+use Rattle.cnf.specs.Invariants.{IsInvariant, IsProper}
 use Rattle.extension.specs.Accepted.{IsShowable, bad_of, circuit_of}
 use Rattle.extension.specs.Extended.{extended}
 use Rattle.extension.specs.Inductive.{IsInductiveOver, IsOverAll}

@@ -7,7 +7,8 @@ use Rattle.graph.specs.declared.parts.Parts.{Parts}
 use Rattle.stimulus.specs.declared.value.Stimulus.TheVariants.{Violated}
 use Rattle.stimulus.specs.Shown.{ShowsBad}
 use Rattle.engine.specs.Bounds.{IsClear}
-use Rattle.engine.specs.Findings.{IsForBad, IsHonest, IsInvariant, IsSo}
+use Rattle.cnf.specs.Invariants.{IsInvariant}
+use Rattle.engine.specs.Findings.{IsForBad, IsHonest, IsSo}
 use Rattle.engine.specs.declared.finding.Finding.{Finding}
 use Rattle.engine.specs.declared.finding.Finding.TheVariants as finding
 use Rattle.engine.specs.declared.finding.Reason.{Reason}

@@ -7,7 +7,7 @@ ghost use Rattle.graph.specs.Circuits.{HasProperty};
 ghost use Rattle.graph.specs.declared.circuit.Property.TheVariants.{Bad, Justice};
 ghost use Rattle.stimulus.specs.declared.value.Stimulus.TheVariants.{Violated};
 ghost use Rattle.stimulus.specs.Shown.{ShowsBad};
-ghost use Rattle.engine.specs.Findings.{IsInvariant};
+ghost use Rattle.cnf.specs.Invariants.{IsInvariant};
 ghost use Rattle.extension.specs.Accepted.{IsShowable};
 ghost use Rattle.extension.specs.Rounds.{rounds_of};
 ghost use Rattle.extension.specs.Rows.{IsCountable};

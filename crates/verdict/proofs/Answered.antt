@@ -13,7 +13,7 @@ use Rattle.graph.specs.WellFormed.{IsAlone, IsWellFormed}
 use Rattle.graph.proofs.Alone.{watched_there}
 use Rattle.stimulus.specs.Shown.{ShowsBad}
 use Rattle.stimulus.specs.declared.value.Stimulus.TheVariants.{Violated}
-use Rattle.cnf.specs.Invariants.{IsInductive}
+use Rattle.cnf.specs.Invariants.{IsInductive, IsInvariant}
 use Rattle.live_safe.specs.Shadow.{closing_literal, shadow_of}
 use Rattle.live_safe.specs.Laws.{Carries}
 use Rattle.live_safe.proofs.Carried.{lasso_carried}
@@ -24,7 +24,7 @@ use Rattle.certify.specs.Causes.{HasCause as IsUncertified}
 use Rattle.certify.specs.declared.certify_error.CertifyError.{CertifyError}
 use Rattle.certify.specs.declared.certify_error.CertifyError.TheVariants.{NoProperty, Limit, IdsTaken, NotLatch, Repeated, OutOfMemory}
 use Rattle.engine.specs.Bounds.{IsClear}
-use Rattle.engine.specs.Findings.{IsForBad, IsHonest, IsInvariant, IsSo}
+use Rattle.engine.specs.Findings.{IsForBad, IsHonest, IsSo}
 use Rattle.engine.specs.declared.engine_error.EngineError.{EngineError}
 use Rattle.engine.specs.declared.engine_error.EngineError.TheVariants as engine
 use Rattle.engine.specs.declared.finding.Finding.{Finding}

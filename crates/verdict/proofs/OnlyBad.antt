@@ -9,10 +9,9 @@ use Rattle.graph.proofs.Alone.{watched_one, agrees_without, steps_without, run_w
 use Rattle.graph.specs.WellFormed.{only_bad}
 use Rattle.stimulus.specs.Shown.{Begins, IsReplay, ShowsBad, last_of}
 use Rattle.stimulus.specs.declared.value.Stimulus.TheVariants.{Violated}
-use Rattle.cnf.specs.Invariants.{IsInductive}
+use Rattle.cnf.specs.Invariants.{IsInductive, IsInvariant}
 use Rattle.checker.specs.Accepted.{IsGood}
 use Rattle.engine.specs.Bounds.{IsClear}
-use Rattle.engine.specs.Findings.{IsInvariant}
 
 begins_without : (m : Parts) (a : Lit) (initial : List Bool) (r : List Valuation) → Begins (only_bad m a) initial r → Begins m initial r
 begins_without m a initial [] h = h

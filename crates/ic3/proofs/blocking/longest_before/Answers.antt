@@ -1,7 +1,7 @@
 use Rattle.std.proofs.Common.{rules, ◌≡◌, ◌<◌, ◌∙◌, ℕ, List, [], Option, IfSome, length, get_or, inr, ap, sym, subst}
 use Rattle.std.proofs.lemmas.List.{get_or_default}
-use Rattle.ic3_step.specs.declared.state.StateLit.{StateLit}
-use Rattle.ic3_step.specs.States.{IsPartOf}
+use Rattle.states.specs.declared.state_lit.StateLit.{StateLit}
+use Rattle.states.specs.States.{IsPartOf}
 use Rattle.ic3_frames.specs.declared.frames.Entry.{Entry}
 use Rattle.ic3.proofs.blocking.longest_before.Goals as goal
 

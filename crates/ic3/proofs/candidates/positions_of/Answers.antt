@@ -2,7 +2,7 @@ use Rattle.std.proofs.Common.{◌+◌, ◌*◌, ◌<◌, ◌≤◌, ◌∙◌, �
 use Rattle.std.proofs.lemmas.List.{length-set}
 use Rattle.std.proofs.lemmas.List.Elements.{All-set}
 use Rattle.graph.proofs.Evaluation.{latches_in_range}
-use Rattle.ic3_step.proofs.Latched.{no_latch}
+use Rattle.states.proofs.Defaults.{no_latch}
 use Rattle.ic3.proofs.candidates.positions_of.Goals as goal
 
 pub index_mut-requires : goal.index_mut-requires

@@ -1,6 +1,6 @@
 use Rattle.std.proofs.Common.{rules, ◌≡◌, Option, Vec, Global, IfSome, drop, length, sym, subst, ◌∙◌}
 use Rattle.graph.proofs.Tabled.{take_whole}
-use Rattle.ic3_step.specs.declared.state.StateLit.{StateLit}
+use Rattle.states.specs.declared.state_lit.StateLit.{StateLit}
 use Rattle.ic3_frames.specs.Frames.{IsRising}
 use Rattle.ic3.specs.Candidates.{AreInside}
 use Rattle.ic3.proofs.candidates.state_clause.Goals as goal

@@ -1,6 +1,6 @@
 use Rattle.std.proofs.Common.{◌⊎◌, ◌∙◌, refl, ap, subst, All, Contains}
 use Rattle.std.proofs.lemmas.List.{take_all}
-use Rattle.ic3_step.specs.declared.state.StateLit.{StateLit}
+use Rattle.states.specs.declared.state_lit.StateLit.{StateLit}
 use Rattle.ic3.specs.Answers.{HasLatch}
 use Rattle.ic3.proofs.Tried.{listed_next, listed_not}
 use Rattle.ic3.proofs.order.others.Goals as goal

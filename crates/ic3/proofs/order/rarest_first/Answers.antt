@@ -1,6 +1,6 @@
 use Rattle.std.proofs.Common.{rules, ◌≡◌, inl, inr, length, drop, get_or, Contains, sym, subst}
 use Rattle.graph.proofs.Tabled.{take_whole}
-use Rattle.ic3_step.specs.declared.state.StateLit.{StateLit}
+use Rattle.states.specs.declared.state_lit.StateLit.{StateLit}
 use Rattle.ic3.proofs.order.rarest_first.Goals as goal
 
 pub returns : goal.returns

@@ -1,8 +1,8 @@
 use Rattle.std.proofs.Common.{refl, ◌∙◌, filter, Contains, ap, sym, subst}
 use Rattle.std.proofs.lemmas.Bool.{false≢true, false_from_ne_true}
 use Rattle.std.proofs.lemmas.List.{take_all}
-use Rattle.ic3_step.specs.declared.state.StateLit.{StateLit}
-use Rattle.ic3_step.proofs.Valued.{is_among, among_contains, contains_among}
+use Rattle.states.specs.declared.state_lit.StateLit.{StateLit}
+use Rattle.states.proofs.Valued.{is_among, among_contains, contains_among}
 use Rattle.ic3.proofs.Literals.{filter_takes, filter_leaves, filter_has}
 use Rattle.ic3.proofs.picked.among.Goals as goal
 use Rattle.ic3.proofs.picked.among.Goals.{then-contains+in_ok-push, else-contains}

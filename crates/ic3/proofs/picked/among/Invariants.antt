@@ -1,6 +1,6 @@
 use Rattle.std.proofs.Common.{◌≡◌, filter, take}
-use Rattle.ic3_step.specs.declared.state.StateLit.{StateLit}
-use Rattle.ic3_step.proofs.Valued.{is_among}
+use Rattle.states.specs.declared.state_lit.StateLit.{StateLit}
+use Rattle.states.proofs.Valued.{is_among}
 use Rattle.ic3.proofs.picked.among.Given as goal
 
 abbrev pub invariant-choosing : goal.invariant-choosing

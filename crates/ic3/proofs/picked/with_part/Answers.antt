@@ -1,6 +1,6 @@
 use Rattle.std.proofs.Common.{List, Contains, sym, subst}
-use Rattle.ic3_step.specs.declared.state.StateLit.{StateLit}
-use Rattle.ic3_step.specs.States.{IsPartOf}
+use Rattle.states.specs.declared.state_lit.StateLit.{StateLit}
+use Rattle.states.specs.States.{IsPartOf}
 use Rattle.ic3.proofs.Outcomes.{if_ok}
 use Rattle.ic3.proofs.picked.with_part.Goals as goal
 

@@ -1,7 +1,7 @@
 use Rattle.std.proofs.Common.{◌==◌, ◌∙◌, not, filter, ap}
 use Rattle.std.proofs.lemmas.Bool.{eq-eqb, ne_eqb}
 use Rattle.std.proofs.lemmas.List.{take_all}
-use Rattle.ic3_step.specs.declared.state.StateLit.{StateLit}
+use Rattle.states.specs.declared.state_lit.StateLit.{StateLit}
 use Rattle.ic3.proofs.Literals.{filter_takes, filter_leaves}
 use Rattle.ic3.proofs.picked.without.Goals as goal
 use Rattle.ic3.proofs.picked.without.Goals.{then-lit-latch+in_ok-push, else-lit-latch}

@@ -1,6 +1,6 @@
 use Rattle.std.proofs.Common.{◌≡◌, ◌≢◌, ◌<◌, ℕ, get_or, length, true, false}
 use Rattle.graph.specs.declared.circuit.Latch.{Latch}
-use Rattle.ic3_step.specs.States.{latch_at}
+use Rattle.states.specs.States.{latch_at}
 use Rattle.ic3.proofs.run.reset_state.Given as goal
 
 abbrev pub invariant-resetting : goal.invariant-resetting

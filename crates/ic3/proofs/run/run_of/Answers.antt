@@ -1,8 +1,8 @@
 use Rattle.std.proofs.Common.{◌∙◌, ◌<◌, ap, sym, subst, length, Bool, List, All}
 use Rattle.graph.specs.declared.circuit.Latch.{Latch}
 use Rattle.graph.specs.WellFormed.{IsModel}
-use Rattle.ic3_step.specs.declared.state.StateLit.{StateLit}
-use Rattle.ic3_step.specs.States.{Denies}
+use Rattle.states.specs.declared.state_lit.StateLit.{StateLit}
+use Rattle.states.specs.States.{Denies}
 use Rattle.ic3_frames.specs.Clauses.{IsResetLit}
 use Rattle.ic3_frames.specs.Resets.{HasResets}
 use Rattle.ic3.specs.declared.obligation.Obligation.{Obligation}

@@ -1,5 +1,5 @@
 use Rattle.std.proofs.Common.{◌<◌, ◌/◌, ℕ, get_or}
-use Rattle.ic3_step.specs.declared.state.StateLit.{StateLit}
+use Rattle.states.specs.declared.state_lit.StateLit.{StateLit}
 use Rattle.ic3_frames.specs.Marks.{mark_of}
 use Rattle.ic3_frames.proofs.marks.words_for.Given as goal
 

@@ -1,6 +1,6 @@
 use Rattle.std.proofs.Common.{◌≡◌, ◌≢◌, ◌<◌, ℕ, All, get_or}
 use Rattle.std.specs.Int.{bit_at}
-use Rattle.ic3_step.specs.declared.state.StateLit.{StateLit}
+use Rattle.states.specs.declared.state_lit.StateLit.{StateLit}
 use Rattle.ic3_frames.specs.Signatures.{signature_bit}
 use Rattle.ic3_frames.proofs.signature.signature_of.Given as goal
 

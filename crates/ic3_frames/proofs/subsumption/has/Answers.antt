@@ -1,6 +1,6 @@
 use Rattle.std.proofs.Common.{rules, false}
 use Rattle.std.proofs.lemmas.List.Sorted.{answers_always}
-use Rattle.ic3_step.specs.declared.state.StateLit.{StateLit}
+use Rattle.states.specs.declared.state_lit.StateLit.{StateLit}
 use Rattle.ic3_frames.proofs.Searched.{found_there, not_missed}
 use Rattle.ic3_frames.proofs.subsumption.has.Goals as goal
 

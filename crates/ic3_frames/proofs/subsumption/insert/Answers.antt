@@ -2,7 +2,7 @@ use Rattle.std.proofs.Common.{◌⊎◌, inl, inr, List, All, Contains, subst, s
 use Rattle.std.proofs.lemmas.List.Elements.{Contains-push}
 use Rattle.ic3_frames.specs.declared.frames.Entry.{Entry}
 use Rattle.ic3_frames.specs.Frames.{IsSubsumed, IsNotSubsumed}
-use Rattle.ic3_step.specs.declared.state.StateLit.{StateLit}
+use Rattle.states.specs.declared.state_lit.StateLit.{StateLit}
 use Rattle.ic3_frames.specs.Signatures.{IsSignature}
 use Rattle.ic3_frames.proofs.Signed.{signed_push}
 use Rattle.ic3_frames.proofs.Sifting.{nowhere, inserted_only, inserted_each, inserted_lean}

@@ -1,6 +1,6 @@
 use Rattle.std.proofs.Common.{◌∙◌, subst, sym}
 use Rattle.std.proofs.lemmas.Bool.{leb-true, le-leb, false≢true}
-use Rattle.ic3_step.specs.States.{IsPartOf}
+use Rattle.states.specs.States.{IsPartOf}
 use Rattle.ic3_frames.specs.Frames.{IsRising}
 use Rattle.ic3_frames.proofs.subsumption.is_subsumed.Goals as goal
 use Rattle.ic3_frames.proofs.subsumption.is_subsumed.Goals.{then-covers, else-covers}

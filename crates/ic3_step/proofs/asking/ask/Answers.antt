@@ -10,7 +10,7 @@ use Rattle.ic3_step.specs.Replies.{IsReply}
 use Rattle.cnf.specs.Clauses.{frame_at}
 use Rattle.ic3_step.specs.Contents.{Contents, IsGrown, IsMoreOf}
 use Rattle.ic3_step.specs.Readings.{assumptions_of, time_at, core_lits}
-use Rattle.ic3_step.proofs.Valued.{known_in_range}
+use Rattle.states.proofs.Valued.{known_in_range}
 use Rattle.ic3_step.proofs.Loaded.{assumptions_literals, grown_of, loaded_grown, kept_marks}
 use Rattle.ic3_step.proofs.Found.{found}
 use Rattle.ic3_step.proofs.Refused.{refused}

@@ -1,5 +1,5 @@
 use Rattle.graph.proofs.Evaluation.{latches_in_range}
-use Rattle.ic3_step.proofs.Latched.{no_latch}
+use Rattle.states.proofs.Defaults.{no_latch}
 use Rattle.ic3_step.proofs.encoding.state_literal.Goals as goal
 
 pub literal-requires-clause-in_range : goal.literal-requires-clause-in_range

@@ -1,6 +1,6 @@
 use Rattle.std.proofs.Common.{◌<◌, length, All, List, sym, subst}
 use Rattle.std.proofs.lemmas.List.Sorted.{All-permutation}
-use Rattle.ic3_step.specs.declared.state.StateLit.{StateLit}
+use Rattle.states.specs.declared.state_lit.StateLit.{StateLit}
 use Rattle.ic3_step.specs.Steps.{IsConsecution}
 use Rattle.ic3_step.proofs.Loaded.{if_ok}
 use Rattle.ic3_step.proofs.Denied.{in_any_order}

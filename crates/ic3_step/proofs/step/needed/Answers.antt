@@ -1,7 +1,7 @@
 use Rattle.std.proofs.Common.{Contains, sym, subst, ◌∙◌}
 use Rattle.std.proofs.lemmas.Bool.{false≢true}
 use Rattle.std.proofs.lemmas.List.{take_all}
-use Rattle.ic3_step.specs.States.{IsPartOf}
+use Rattle.states.specs.States.{IsPartOf}
 use Rattle.ic3_step.proofs.Denied.{chosen, passed_over}
 use Rattle.ic3_step.proofs.step.needed.Goals as goal
 use Rattle.ic3_step.proofs.step.needed.Goals.{then-contains+in_ok-push, else-contains}

@@ -1,5 +1,5 @@
 use Rattle.std.proofs.Common.{take}
-use Rattle.ic3_step.specs.States.{IsPartOf}
+use Rattle.states.specs.States.{IsPartOf}
 use Rattle.ic3_step.specs.Steps.{HasNeeded}
 use Rattle.ic3_step.proofs.step.needed.Given as goal
 

@@ -1,6 +1,6 @@
 use Rattle.std.proofs.Common.{List, sym, subst}
 use Rattle.graph.specs.declared.circuit.Lit.{Lit}
-use Rattle.engine.specs.Findings.{IsInvariant}
+use Rattle.cnf.specs.Invariants.{IsInvariant}
 use Rattle.extension.specs.Rounds.{rounds_of}
 use Rattle.rounds.proofs.Clauses.{meant_on}
 use Rattle.rounds.proofs.Tried.{tried_by_clauses}

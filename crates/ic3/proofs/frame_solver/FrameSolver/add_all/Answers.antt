@@ -1,5 +1,5 @@
 use Rattle.std.proofs.Common.{◌≤◌, ◌<◌, ◌∙◌, arith, sym, subst}
-use Rattle.ic3_step.specs.States.{Holds}
+use Rattle.states.specs.States.{Holds}
 use Rattle.ic3_frames.specs.declared.frames.Entry.{Entry}
 use Rattle.ic3_frames.specs.Frames.{IsStateClause}
 use Rattle.ic3.proofs.Guarding.{item_has}

@@ -1,6 +1,6 @@
 use Rattle.std.proofs.Common.{◌≡◌, ◌+◌, ◌<◌, All, refl, arith, sym, subst, ◌∙◌}
 use Rattle.cnf.specs.Formulas.{bad_literal}
-use Rattle.ic3_step.specs.States.{Holds}
+use Rattle.states.specs.States.{Holds}
 use Rattle.ic3_frames.specs.declared.frames.Entry.{Entry}
 use Rattle.ic3_frames.specs.Frames.{IsStateClause}
 use Rattle.ic3.specs.Sound.{HasFrames}

@@ -1,7 +1,7 @@
 use Rattle.std.proofs.Common.{◌≡◌, ◌∙◌, get_or, sym, ap, subst, List}
 use Rattle.std.proofs.lemmas.List.{get_or_default}
 use Rattle.ic3_frames.specs.Frames.{IsStateClause}
-use Rattle.ic3_step.specs.declared.state.StateLit.{StateLit}
+use Rattle.states.specs.declared.state_lit.StateLit.{StateLit}
 use Rattle.ic3.specs.declared.obligation.Obligation.{Obligation}
 use Rattle.ic3.specs.declared.blocking.Blocking.TheVariants.{Predecessor}
 use Rattle.ic3.specs.Answers.{IsObligation, IsBlocking}

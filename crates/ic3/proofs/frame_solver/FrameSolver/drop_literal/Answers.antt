@@ -1,8 +1,9 @@
 use Rattle.std.proofs.Common.{List, not, ◌==◌, inl, inr, All, Contains, sym, subst}
 use Rattle.graph.specs.declared.circuit.Latch.{Latch}
 use Rattle.graph.specs.Circuits.{Valuation, next_state}
-use Rattle.ic3_step.specs.declared.state.StateLit.{StateLit}
-use Rattle.ic3_step.specs.States.{Denies, IsAt, IsPartOf}
+use Rattle.states.specs.declared.state_lit.StateLit.{StateLit}
+use Rattle.states.specs.States.{Denies, IsPartOf}
+use Rattle.ic3_step.specs.States.{IsAt}
 use Rattle.ic3_step.specs.Steps.{denials_of}
 use Rattle.ic3.specs.Answers.{IsInductiveAnswer}
 use Rattle.ic3_frames.specs.Clauses.{IsResetLit}

@@ -2,8 +2,8 @@ use Rattle.std.proofs.Common.{rules, ◌≡◌, ◌≤◌, ◌<◌, ◌∙◌, �
 use Rattle.std.proofs.lemmas.Bool.{cases_lt}
 use Rattle.std.proofs.lemmas.List.{get_or_default}
 use Rattle.std.proofs.lemmas.List.Elements.{All-contains, Contains-get_or}
-use Rattle.ic3_step.specs.declared.state.StateLit.{StateLit}
-use Rattle.ic3_step.specs.States.{IsPartOf}
+use Rattle.states.specs.declared.state_lit.StateLit.{StateLit}
+use Rattle.states.specs.States.{IsPartOf}
 use Rattle.ic3.specs.Answers.{HasLatch, IsInductiveFrom, IsTried}
 use Rattle.ic3.proofs.Tried.{tried_here, tried_part}
 use Rattle.ic3.proofs.frame_solver.FrameSolver.generalize.Goals as goal

@@ -1,6 +1,6 @@
 use Rattle.std.proofs.Common.{◌<◌, ℕ, get_or}
 use Rattle.base.specs.Budget.{Spends}
-use Rattle.ic3_step.specs.States.{IsPartOf}
+use Rattle.states.specs.States.{IsPartOf}
 use Rattle.ic3.specs.Sound.{IsSound}
 use Rattle.ic3.specs.Answers.{IsInductiveFrom, IsTried}
 use Rattle.ic3.proofs.frame_solver.FrameSolver.generalize.Given as goal

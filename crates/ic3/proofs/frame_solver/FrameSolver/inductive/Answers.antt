@@ -1,7 +1,7 @@
 use Rattle.std.proofs.Common.{List, Contains, sym, subst}
 use Rattle.std.specs.Option.{unwrap_or}
 use Rattle.graph.specs.declared.circuit.Latch.{Latch}
-use Rattle.ic3_step.specs.States.{IsPartOf}
+use Rattle.states.specs.States.{IsPartOf}
 use Rattle.ic3_frames.specs.Clauses.{IsResetLit}
 use Rattle.ic3.specs.Answers.{IsRelative}
 use Rattle.ic3.proofs.Inductions.{reset_of, kept_inductive}

@@ -1,6 +1,6 @@
 use Rattle.std.proofs.Common.{rules, ◌≤◌, ◌+◌, ℕ, Bool, arith, List, Contains, subst}
-use Rattle.ic3_step.specs.States.{Holds}
-use Rattle.ic3_step.specs.declared.state.StateLit.{StateLit}
+use Rattle.states.specs.States.{Holds}
+use Rattle.states.specs.declared.state_lit.StateLit.{StateLit}
 use Rattle.ic3_frames.specs.Frames.{InFrame}
 use Rattle.ic3.proofs.Joining.{frame_from, holds_part}
 use Rattle.ic3.specs.Answers.{IsFurthest, IsLearned}

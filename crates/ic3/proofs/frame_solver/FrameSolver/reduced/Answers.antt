@@ -1,8 +1,7 @@
 use Rattle.std.proofs.Common.{List, get_or, All, Contains, sym, subst}
 use Rattle.graph.specs.declared.circuit.Lit.{Lit}
 use Rattle.cnf.specs.Formulas.{IsOverLatches}
-use Rattle.cnf.specs.Invariants.{IsInductive}
-use Rattle.engine.specs.Findings.{IsInvariant}
+use Rattle.cnf.specs.Invariants.{IsInductive, IsInvariant}
 use Rattle.ic3.proofs.Reduced.{bad_used, clauses_over, subset_is}
 use Rattle.ic3.proofs.frame_solver.FrameSolver.reduced.Goals as goal
 

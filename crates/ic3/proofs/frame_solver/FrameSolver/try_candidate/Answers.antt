@@ -1,5 +1,5 @@
 use Rattle.std.proofs.Common.{List, Option, IfSome, subst}
-use Rattle.ic3_step.specs.declared.state.StateLit.{StateLit}
+use Rattle.states.specs.declared.state_lit.StateLit.{StateLit}
 use Rattle.ic3_frames.specs.Frames.{IsStateClause}
 use Rattle.ic3.proofs.frame_solver.FrameSolver.try_candidate.Goals as goal
 

@@ -1,7 +1,8 @@
 use Rattle.std.proofs.Common.{◌≡◌, ◌<◌, ◌+◌, ◌∙◌, ◌++◌, ◌∷◌, [], ℕ, length, get_or, sym, ap, subst, arith, List}
 use Rattle.std.proofs.lemmas.List.{get_or_default, length-append}
 use Rattle.graph.specs.Circuits.{Valuation, next_state}
-use Rattle.ic3_step.specs.States.{IsAt, Denies}
+use Rattle.ic3_step.specs.States.{IsAt}
+use Rattle.states.specs.States.{Denies}
 use Rattle.ic3_step.specs.Steps.{denials_of}
 use Rattle.ic3.specs.declared.obligation.Obligation.{Obligation}
 use Rattle.ic3.specs.Cubes.{ArePredecessors}

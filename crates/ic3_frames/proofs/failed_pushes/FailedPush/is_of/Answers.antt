@@ -1,5 +1,5 @@
 use Rattle.std.proofs.Common.{◌≡◌, List, subst}
-use Rattle.ic3_step.specs.declared.state.StateLit.{StateLit}
+use Rattle.states.specs.declared.state_lit.StateLit.{StateLit}
 use Rattle.ic3_frames.proofs.Failing.{clauses_decided}
 use Rattle.ic3_frames.proofs.failed_pushes.FailedPush.is_of.Goals as goal
 

@@ -1,6 +1,6 @@
 use Rattle.std.proofs.Common.{All, Contains, ap, subst}
 use Rattle.ic3_frames.specs.FailedPushes.{clauses_of}
-use Rattle.ic3_step.specs.declared.state.StateLit.{StateLit}
+use Rattle.states.specs.declared.state_lit.StateLit.{StateLit}
 use Rattle.ic3_frames.specs.Clauses.{IsResetLit, IsResetEntry, reset_entry}
 use Rattle.ic3_frames.proofs.Begun.{level_zero, first_laws, first_initial}
 use Rattle.ic3_frames.proofs.frames.Frames.first.Goals as goal

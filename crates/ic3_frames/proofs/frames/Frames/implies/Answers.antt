@@ -1,6 +1,6 @@
 use Rattle.std.proofs.Common.{◌≡◌, ◌≤◌, ◌∙◌, List, All, ap, subst, sym}
 use Rattle.std.proofs.lemmas.Bool.{false≢true}
-use Rattle.ic3_step.specs.States.{IsPartOf}
+use Rattle.states.specs.States.{IsPartOf}
 use Rattle.ic3_frames.specs.declared.frames.Entry.{Entry}
 use Rattle.ic3_frames.specs.Frames.{Levels, InFrame}
 use Rattle.ic3_frames.proofs.Marking.{implied, not_implied}

@@ -1,5 +1,5 @@
 use Rattle.std.proofs.Common.{◌≡◌, ◌<◌, ◌≤◌, ◌∙◌, IfSome, List, length, get_or, All, ap, subst}
-use Rattle.ic3_step.specs.States.{IsPartOf}
+use Rattle.states.specs.States.{IsPartOf}
 use Rattle.ic3_frames.specs.declared.frames.Entry.{Entry}
 use Rattle.ic3_frames.specs.Frames.{Levels}
 use Rattle.ic3_frames.specs.Marks.{IsMarked}

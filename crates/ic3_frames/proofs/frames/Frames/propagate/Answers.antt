@@ -1,6 +1,6 @@
 use Rattle.std.proofs.Common.{◌≡◌, ◌+◌, ◌<◌, arith, refl, List, length, get_or, take, All, Contains, ap, subst, sym, ◌∙◌}
 use Rattle.std.proofs.lemmas.List.{get_or_default, get_or-set_same, length-set, take-set}
-use Rattle.ic3_step.specs.declared.state.StateLit.{StateLit}
+use Rattle.states.specs.declared.state_lit.StateLit.{StateLit}
 use Rattle.ic3_frames.proofs.Laws.{next_level, raised_to, raised_added, within_added}
 use Rattle.ic3_frames.proofs.Signed.{signed_raised}
 use Rattle.ic3_frames.specs.declared.frames.Entry.{Entry}

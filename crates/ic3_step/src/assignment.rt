@@ -1,14 +1,6 @@
-//! States and times.
+//! Times.
 
 use base::Seq;
-
-/// A latch, by its position in the circuit's list, and a value. A literal of clauses over states:
-/// it is set where the latch has the value.
-#[derive(Clone, Copy, PartialEq, Eq)]
-pub struct StateLit {
-    pub latch: u32,
-    pub value: bool,
-}
 
 /// The state and the inputs of a time, in the order of the circuit's latches and inputs, and the
 /// values of what was asked about.

@@ -1,0 +1,2 @@
+pub mod Valued
+pub mod Defaults
