@@ -1,5 +1,5 @@
 -- What a device does in one call.
-use Rattle.std.specs.Prelude.{◌≡◌, ℕ, ◌+◌, ◌<◌, ◌≤◌, List, [], ◌++◌, length, take, Bool, Option, Result, IfOk, MatchResult, false, IsTrue, IfSome}
+use Rattle.std.specs.Prelude.{◌≡◌, ◌↔◌, ℕ, ◌+◌, ◌<◌, ◌≤◌, List, [], ◌++◌, length, take, Bool, Option, Result, IfOk, IsErrOf, MatchResult, false, IsTrue, IfSome}
 use Rattle.std.specs.Io.KnownBytes.{Appends}
 
 -- no more bytes are moved than the slice has
@@ -13,6 +13,11 @@ MovesSome result bytes = IfOk result (λ n. 0 < length bytes → 0 < n)
 -- a failure adds one to the count of failures, and a success nothing
 abbrev pub CountsFailure : {X E : Type 0} → ℕ → ℕ → Result X E → Type 0
 CountsFailure before after result = MatchResult result (λ _. after ≡ before) (λ _. after ≡ before + 1)
+
+-- in a call of several steps, the device failed once where this is the error, and else not
+pub record FailsOnce {X E : Type 0} (result : Result X E) (device : E) (before after : ℕ) : Type 0 where
+  pub failed : IsErrOf result device ↔ (after ≡ before + 1)
+  pub kept : (IsErrOf result device → ⊥) → after ≡ before
 
 -- what was given lowers what can still be given, and a failure leaves it
 abbrev pub LowersMost : {E : Type 0} → ℕ → ℕ → Result ℕ E → Type 0

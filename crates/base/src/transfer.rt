@@ -1,8 +1,8 @@
 //! Whole texts, moved from a source and to a sink.
 
-ghost use Rattle.std.specs.Prelude.{◌≡◌, ◌+◌, ◌-◌, ◌^◌, ◌<◌, ◌≤◌, ◌↔◌, [], length, MatchResult, IfOk, IsErrOf, OnOk, OnErr};
+ghost use Rattle.std.specs.Prelude.{◌≡◌, ◌-◌, ◌^◌, ◌<◌, ◌≤◌, [], length, MatchResult, IfOk, OnOk, OnErr};
 ghost use Rattle.std.specs.Io.KnownBytes.{Appends};
-ghost use Rattle.base.specs.Devices.{CountsFailure, PutsBeginning, Reads};
+ghost use Rattle.base.specs.Devices.{CountsFailure, PutsBeginning, Reads, FailsOnce};
 
 use crate::grow;
 use crate::refused::Refused;
@@ -34,8 +34,7 @@ pub fn read_all<S: Source>(
     requires { S.failed source.old < 2 ^ 64 - 1 }
     ensures reads { Reads (S.leaves source.old) (S.leaves source.new) (λ xs later. MatchResult result (λ v. (v.items ≡ xs) × (later ≡ [])) (λ e. e ≡ ReadAllError.TooLong → limit < length xs)) }
     ensures within { IfOk result (λ v. length v.items ≤ limit) }
-    ensures device { IsErrOf result ReadAllError.Device ↔ (S.failed source.new ≡ S.failed source.old + 1) }
-    ensures others { (IsErrOf result ReadAllError.Device → ⊥) → S.failed source.new ≡ S.failed source.old }
+    ensures device { FailsOnce result ReadAllError.Device (S.failed source.old) (S.failed source.new) }
 {
     let mut bytes = Vec::new(alloc);
     let mut chunk = [0u8; CHUNK];
@@ -69,8 +68,7 @@ pub enum ReadToEndError {
 pub fn read_to_end<S: Source>(alloc: Global, source: &mut S) -> Result<Vec<u8>, ReadToEndError>
     requires { S.failed source.old < 2 ^ 64 - 1 }
     ensures reads { Reads (S.leaves source.old) (S.leaves source.new) (λ xs later. IfOk result (λ v. (v.items ≡ xs) × (later ≡ []))) }
-    ensures device { IsErrOf result ReadToEndError.Device ↔ (S.failed source.new ≡ S.failed source.old + 1) }
-    ensures others { (IsErrOf result ReadToEndError.Device → ⊥) → S.failed source.new ≡ S.failed source.old }
+    ensures device { FailsOnce result ReadToEndError.Device (S.failed source.old) (S.failed source.new) }
 {
     let mut bytes = Vec::new(alloc);
     let mut chunk = [0u8; CHUNK];

@@ -1,7 +1,7 @@
 //! The text of a certificate, read line by line.
 
-ghost use Rattle.std.specs.Prelude.{◌≡◌, ◌+◌, ◌-◌, ◌^◌, ◌<◌, ◌≤◌, ◌↔◌, ℕ, List, [], ◌++◌, None, Some, Err, IfOk, IfSome, IsErrOf, length};
-ghost use Rattle.base.specs.Devices.{Reads};
+ghost use Rattle.std.specs.Prelude.{◌≡◌, ◌+◌, ◌-◌, ◌^◌, ◌<◌, ◌≤◌, ℕ, List, [], ◌++◌, None, Some, Err, IfOk, IfSome, length};
+ghost use Rattle.base.specs.Devices.{Reads, FailsOnce};
 ghost use Rattle.scan.specs.Reading.{ended};
 ghost use Rattle.scan.specs.Words.{any, field_at};
 ghost use Rattle.lrat.specs.Limits.{IsLine};
@@ -40,8 +40,7 @@ fn line_from<L: LineKind<Fault = CertFault>, S: Source>(
     ensures says { Reads (S.leaves from.old) (S.leaves from.new) (λ ys zs. Finds (L.at context (pieces.old ++ ys)) result pieces.new zs) }
     ensures given { IfOk result (λ x. (text : List ℕ) × (ended (L.at context text) ≡ Some x)) }
     ensures moves { IfOk result (λ _. length pieces.new + S.most from.new < length pieces.old + S.most from.old) }
-    ensures device { IsErrOf result Device ↔ (S.failed from.new ≡ S.failed from.old + 1) }
-    ensures others { (IsErrOf result Device → ⊥) → S.failed from.new ≡ S.failed from.old }
+    ensures device { FailsOnce result Device (S.failed from.old) (S.failed from.new) }
 {
     let n = pieces.next(from)?;
     let (item, left) = match L::line(alloc, pieces.first(n), context) {
@@ -65,8 +64,7 @@ fn clause_from<S: Source>(
 ) -> Result<(), ReaderError>
     requires source { S.failed from.old < 2 ^ 64 - 1 }
     ensures says { Reads (S.leaves from.old) (S.leaves from.new) (λ ys zs. Finds (clause_at (pieces.old ++ ys)) (with_list result clause.new.items) pieces.new zs) }
-    ensures device { IsErrOf result Device ↔ (S.failed from.new ≡ S.failed from.old + 1) }
-    ensures others { (IsErrOf result Device → ⊥) → S.failed from.new ≡ S.failed from.old }
+    ensures device { FailsOnce result Device (S.failed from.old) (S.failed from.new) }
 {
     let n = pieces.next(from)?;
     let left = match clause_into(alloc, clause, pieces.first(n)) {
@@ -92,8 +90,7 @@ fn item_from<S: Source>(
     ensures says { Reads (S.leaves from.old) (S.leaves from.new) (λ ys zs. Finds (item_at (pieces.old ++ ys)) (with_line result line.new) pieces.new zs) }
     ensures line { IfOk (with_line result line.new) (λ l. IfSome l IsLine) }
     ensures moves { IfOk result (λ _. length pieces.new + S.most from.new < length pieces.old + S.most from.old) }
-    ensures device { IsErrOf result Device ↔ (S.failed from.new ≡ S.failed from.old + 1) }
-    ensures others { (IsErrOf result Device → ⊥) → S.failed from.new ≡ S.failed from.old }
+    ensures device { FailsOnce result Device (S.failed from.old) (S.failed from.new) }
 {
     let n = pieces.next(from)?;
     let (there, left) = match line_into(alloc, line, pieces.first(n)) {
@@ -110,8 +107,7 @@ fn item_from<S: Source>(
 fn end_from<S: Source>(pieces: &mut Pieces, before: usize, from: &mut S) -> Result<(), ReaderError>
     requires source { S.failed from.old < 2 ^ 64 - 1 }
     ensures says { Reads (S.leaves from.old) (S.leaves from.new) (λ ys zs. Finds (end_at (pieces.old ++ ys)) result pieces.new zs) }
-    ensures device { IsErrOf result Device ↔ (S.failed from.new ≡ S.failed from.old + 1) }
-    ensures others { (IsErrOf result Device → ⊥) → S.failed from.new ≡ S.failed from.old }
+    ensures device { FailsOnce result Device (S.failed from.old) (S.failed from.new) }
 {
     let n = pieces.next(from)?;
     if n > 0 {
@@ -187,8 +183,7 @@ impl Reader {
     ) -> Result<Version, ReaderError>
         requires source { S.failed from.old < 2 ^ 64 - 1 }
         ensures says { Reads (S.leaves from.old) (S.leaves from.new) (λ ys zs. Finds (first_line_at (self.old.held ++ ys)) result self.new.held zs) }
-        ensures device { IsErrOf result Device ↔ (S.failed from.new ≡ S.failed from.old + 1) }
-        ensures others { (IsErrOf result Device → ⊥) → S.failed from.new ≡ S.failed from.old }
+        ensures device { FailsOnce result Device (S.failed from.old) (S.failed from.new) }
         ensures again { IfSome self.old.refusal (λ e. (result ≡ Err (IsRefused e)) × (from.new ≡ from.old)) }
         ensures remembers { self.new.refusal ≡ refusal_of result }
     {
@@ -204,8 +199,7 @@ impl Reader {
     ) -> Result<Property, ReaderError>
         requires source { S.failed from.old < 2 ^ 64 - 1 }
         ensures says { Reads (S.leaves from.old) (S.leaves from.new) (λ ys zs. Finds (property_at (self.old.held ++ ys)) result self.new.held zs) }
-        ensures device { IsErrOf result Device ↔ (S.failed from.new ≡ S.failed from.old + 1) }
-        ensures others { (IsErrOf result Device → ⊥) → S.failed from.new ≡ S.failed from.old }
+        ensures device { FailsOnce result Device (S.failed from.old) (S.failed from.new) }
         ensures again { IfSome self.old.refusal (λ e. (result ≡ Err (IsRefused e)) × (from.new ≡ from.old)) }
         ensures remembers { self.new.refusal ≡ refusal_of result }
     {
@@ -218,8 +212,7 @@ impl Reader {
         requires source { S.failed from.old < 2 ^ 64 - 1 }
         ensures says { Reads (S.leaves from.old) (S.leaves from.new) (λ ys zs. Finds (field_at greatest any 10 (self.old.held ++ ys)) result self.new.held zs) }
         ensures few { IfOk result (λ n. n ≤ 4194303) }
-        ensures device { IsErrOf result Device ↔ (S.failed from.new ≡ S.failed from.old + 1) }
-        ensures others { (IsErrOf result Device → ⊥) → S.failed from.new ≡ S.failed from.old }
+        ensures device { FailsOnce result Device (S.failed from.old) (S.failed from.new) }
         ensures again { IfSome self.old.refusal (λ e. (result ≡ Err (IsRefused e)) × (from.new ≡ from.old)) }
         ensures remembers { self.new.refusal ≡ refusal_of result }
     {
@@ -235,8 +228,7 @@ impl Reader {
     ) -> Result<(), ReaderError>
         requires source { S.failed from.old < 2 ^ 64 - 1 }
         ensures says { Reads (S.leaves from.old) (S.leaves from.new) (λ ys zs. Finds (clause_at (self.old.held ++ ys)) (with_list result clause.new.items) self.new.held zs) }
-        ensures device { IsErrOf result Device ↔ (S.failed from.new ≡ S.failed from.old + 1) }
-        ensures others { (IsErrOf result Device → ⊥) → S.failed from.new ≡ S.failed from.old }
+        ensures device { FailsOnce result Device (S.failed from.old) (S.failed from.new) }
         ensures again { IfSome self.old.refusal (λ e. (result ≡ Err (IsRefused e)) × (from.new ≡ from.old)) }
         ensures remembers { self.new.refusal ≡ refusal_of result }
     {
@@ -260,8 +252,7 @@ impl Reader {
         requires source { S.failed from.old < 2 ^ 64 - 1 }
         ensures says { Reads (S.leaves from.old) (S.leaves from.new) (λ ys zs. Finds (L.at context (self.old.held ++ ys)) result self.new.held zs) }
         ensures given { IfOk result (λ x. (text : List ℕ) × (ended (L.at context text) ≡ Some x)) }
-        ensures device { IsErrOf result Device ↔ (S.failed from.new ≡ S.failed from.old + 1) }
-        ensures others { (IsErrOf result Device → ⊥) → S.failed from.new ≡ S.failed from.old }
+        ensures device { FailsOnce result Device (S.failed from.old) (S.failed from.new) }
         ensures again { IfSome self.old.refusal (λ e. (result ≡ Err (IsRefused e)) × (from.new ≡ from.old)) }
         ensures remembers { self.new.refusal ≡ refusal_of result }
     {
@@ -283,8 +274,7 @@ impl Reader {
     ) -> Result<(), ReaderError>
         requires source { S.failed from.old < 2 ^ 64 - 1 }
         ensures says { Reads (S.leaves from.old) (S.leaves from.new) (λ ys zs. Finds (letter_at kind (self.old.held ++ ys)) result self.new.held zs) }
-        ensures device { IsErrOf result Device ↔ (S.failed from.new ≡ S.failed from.old + 1) }
-        ensures others { (IsErrOf result Device → ⊥) → S.failed from.new ≡ S.failed from.old }
+        ensures device { FailsOnce result Device (S.failed from.old) (S.failed from.new) }
         ensures again { IfSome self.old.refusal (λ e. (result ≡ Err (IsRefused e)) × (from.new ≡ from.old)) }
         ensures remembers { self.new.refusal ≡ refusal_of result }
     {
@@ -304,8 +294,7 @@ impl Reader {
         ensures says { Reads (S.leaves from.old) (S.leaves from.new) (λ ys zs. Finds (item_at (self.old.held ++ ys)) (with_line result line.new) self.new.held zs) }
         ensures line { IfOk (with_line result line.new) (λ l. IfSome l IsLine) }
         ensures moves { IfOk result (λ _. length self.new.held + S.most from.new < length self.old.held + S.most from.old) }
-        ensures device { IsErrOf result Device ↔ (S.failed from.new ≡ S.failed from.old + 1) }
-        ensures others { (IsErrOf result Device → ⊥) → S.failed from.new ≡ S.failed from.old }
+        ensures device { FailsOnce result Device (S.failed from.old) (S.failed from.new) }
         ensures again { IfSome self.old.refusal (λ e. (result ≡ Err (IsRefused e)) × (from.new ≡ from.old)) }
         ensures remembers { self.new.refusal ≡ refusal_of result }
     {
@@ -321,8 +310,7 @@ impl Reader {
     pub fn end<S: Source>(&mut self, from: &mut S) -> Result<(), ReaderError>
         requires source { S.failed from.old < 2 ^ 64 - 1 }
         ensures says { Reads (S.leaves from.old) (S.leaves from.new) (λ ys zs. Finds (end_at (self.old.held ++ ys)) result self.new.held zs) }
-        ensures device { IsErrOf result Device ↔ (S.failed from.new ≡ S.failed from.old + 1) }
-        ensures others { (IsErrOf result Device → ⊥) → S.failed from.new ≡ S.failed from.old }
+        ensures device { FailsOnce result Device (S.failed from.old) (S.failed from.new) }
         ensures again { IfSome self.old.refusal (λ e. (result ≡ Err (IsRefused e)) × (from.new ≡ from.old)) }
         ensures remembers { self.new.refusal ≡ refusal_of result }
     {

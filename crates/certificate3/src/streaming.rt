@@ -1,7 +1,7 @@
 //! Parts of several lines.
 
-ghost use Rattle.std.specs.Prelude.{◌≡◌, ◌+◌, ◌-◌, ◌^◌, ◌<◌, ◌↔◌, List, ◌++◌, length, IfOk, IsErrOf};
-ghost use Rattle.base.specs.Devices.{Reads};
+ghost use Rattle.std.specs.Prelude.{◌≡◌, ◌-◌, ◌^◌, ◌<◌, List, ◌++◌, length, IfOk};
+ghost use Rattle.base.specs.Devices.{Reads, FailsOnce};
 ghost use Rattle.scan.specs.Lists.{many_at};
 ghost use Rattle.graph.specs.declared.circuit.Latch.{Latch as ALatch};
 ghost use Rattle.graph.specs.declared.circuit.Gate.{Gate as AGate};
@@ -25,8 +25,7 @@ pub fn read_latches<S: Source>(
     requires source { S.failed from.old < 2 ^ 64 - 1 }
     ensures says { Reads (S.leaves from.old) (S.leaves from.new) (λ ys zs. Finds (many_at latch_at count (reader.old.held ++ ys)) result reader.new.held zs) }
     ensures many { IfOk result (λ v. length v ≡ count) }
-    ensures device { IsErrOf result Device ↔ (S.failed from.new ≡ S.failed from.old + 1) }
-    ensures others { (IsErrOf result Device → ⊥) → S.failed from.new ≡ S.failed from.old }
+    ensures device { FailsOnce result Device (S.failed from.old) (S.failed from.new) }
 {
     let mut latches = Seq::new(alloc);
     for _ in 0..count {
@@ -46,8 +45,7 @@ pub fn read_gates<S: Source>(
     requires source { S.failed from.old < 2 ^ 64 - 1 }
     ensures says { Reads (S.leaves from.old) (S.leaves from.new) (λ ys zs. Finds (many_at gate_at count (reader.old.held ++ ys)) result reader.new.held zs) }
     ensures many { IfOk result (λ v. length v ≡ count) }
-    ensures device { IsErrOf result Device ↔ (S.failed from.new ≡ S.failed from.old + 1) }
-    ensures others { (IsErrOf result Device → ⊥) → S.failed from.new ≡ S.failed from.old }
+    ensures device { FailsOnce result Device (S.failed from.old) (S.failed from.new) }
 {
     let mut gates = Seq::new(alloc);
     for _ in 0..count {
@@ -66,8 +64,7 @@ pub fn skip_hints<S: Source>(
 ) -> Result<(), ReaderError>
     requires source { S.failed from.old < 2 ^ 64 - 1 }
     ensures says { Reads (S.leaves from.old) (S.leaves from.new) (λ ys zs. FindsWith (λ hints _. Unit {0}) (many_at hints_at count (reader.old.held ++ ys)) result reader.new.held zs) }
-    ensures device { IsErrOf result Device ↔ (S.failed from.new ≡ S.failed from.old + 1) }
-    ensures others { (IsErrOf result Device → ⊥) → S.failed from.new ≡ S.failed from.old }
+    ensures device { FailsOnce result Device (S.failed from.old) (S.failed from.new) }
 {
     for _ in 0..count {
         let _hints = reader.line::<HintsLine, S>(alloc, (), from)?;
@@ -85,8 +82,7 @@ pub fn skip_shown<S: Source>(
 ) -> Result<(), ReaderError>
     requires source { S.failed from.old < 2 ^ 64 - 1 }
     ensures says { Reads (S.leaves from.old) (S.leaves from.new) (λ ys zs. FindsWith (λ shown _. Unit {0}) (shown_at (letter_of kind) count (reader.old.held ++ ys)) result reader.new.held zs) }
-    ensures device { IsErrOf result Device ↔ (S.failed from.new ≡ S.failed from.old + 1) }
-    ensures others { (IsErrOf result Device → ⊥) → S.failed from.new ≡ S.failed from.old }
+    ensures device { FailsOnce result Device (S.failed from.old) (S.failed from.new) }
 {
     skip_section(alloc, kind, reader, from)?;
     skip_hints(alloc, count, reader, from)
@@ -101,8 +97,7 @@ pub fn skip_later<S: Source>(
 ) -> Result<(), ReaderError>
     requires source { S.failed from.old < 2 ^ 64 - 1 }
     ensures says { Reads (S.leaves from.old) (S.leaves from.new) (λ ys zs. FindsWith (λ later _. Unit {0}) (later_at count (reader.old.held ++ ys)) result reader.new.held zs) }
-    ensures device { IsErrOf result Device ↔ (S.failed from.new ≡ S.failed from.old + 1) }
-    ensures others { (IsErrOf result Device → ⊥) → S.failed from.new ≡ S.failed from.old }
+    ensures device { FailsOnce result Device (S.failed from.old) (S.failed from.new) }
 {
     skip_shown(alloc, SectionKind::Step, count, reader, from)?;
     skip_section(alloc, SectionKind::Bad, reader, from)
@@ -117,8 +112,7 @@ pub fn skip_proofs<S: Source>(
 ) -> Result<(), ReaderError>
     requires source { S.failed from.old < 2 ^ 64 - 1 }
     ensures says { Reads (S.leaves from.old) (S.leaves from.new) (λ ys zs. FindsWith (λ proofs _. Unit {0}) (proofs_at count (reader.old.held ++ ys)) result reader.new.held zs) }
-    ensures device { IsErrOf result Device ↔ (S.failed from.new ≡ S.failed from.old + 1) }
-    ensures others { (IsErrOf result Device → ⊥) → S.failed from.new ≡ S.failed from.old }
+    ensures device { FailsOnce result Device (S.failed from.old) (S.failed from.new) }
 {
     skip_shown(alloc, SectionKind::Initial, count, reader, from)?;
     skip_later(alloc, count, reader, from)
@@ -132,8 +126,7 @@ pub fn skip_clauses<S: Source>(
 ) -> Result<(), ReaderError>
     requires source { S.failed from.old < 2 ^ 64 - 1 }
     ensures says { (ls : List ALatch) (gs : List AGate) → Reads (S.leaves from.old) (S.leaves from.new) (λ ys zs. FindsWith (λ evidence _. Unit {0}) (clauses_at ls gs (reader.old.held ++ ys)) result reader.new.held zs) }
-    ensures device { IsErrOf result Device ↔ (S.failed from.new ≡ S.failed from.old + 1) }
-    ensures others { (IsErrOf result Device → ⊥) → S.failed from.new ≡ S.failed from.old }
+    ensures device { FailsOnce result Device (S.failed from.old) (S.failed from.new) }
 {
     let count = reader.count(alloc, from)?;
     let _clauses = read_clauses(alloc, count, reader, from)?;
@@ -148,8 +141,7 @@ pub fn skip_evidence<S: Source>(
 ) -> Result<(), ReaderError>
     requires source { S.failed from.old < 2 ^ 64 - 1 }
     ensures says { Reads (S.leaves from.old) (S.leaves from.new) (λ ys zs. FindsWith (λ evidence _. Unit {0}) (evidence_at (reader.old.held ++ ys)) result reader.new.held zs) }
-    ensures device { IsErrOf result Device ↔ (S.failed from.new ≡ S.failed from.old + 1) }
-    ensures others { (IsErrOf result Device → ⊥) → S.failed from.new ≡ S.failed from.old }
+    ensures device { FailsOnce result Device (S.failed from.old) (S.failed from.new) }
 {
     let sizes = reader.line::<SizesLine, S>(alloc, (), from)?;
     let _latches = read_latches(alloc, sizes.latches, reader, from)?;

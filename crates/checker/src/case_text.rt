@@ -1,7 +1,7 @@
 //! The cases of an invariant, checked while their sections are read.
 
-ghost use Rattle.std.specs.Prelude.{◌≡◌, ◌+◌, ◌-◌, ◌<◌, ◌^◌, ◌↔◌, ◌++◌, map, length, Contains, None, IfNone, IfOk, IsErrOf};
-ghost use Rattle.base.specs.Devices.{Reads};
+ghost use Rattle.std.specs.Prelude.{◌≡◌, ◌+◌, ◌-◌, ◌<◌, ◌^◌, ◌++◌, map, length, Contains, None, IfNone, IfOk};
+ghost use Rattle.base.specs.Devices.{Reads, FailsOnce};
 ghost use Rattle.scan.specs.Lists.{many_at};
 ghost use Rattle.graph.specs.WellFormed.{used};
 ghost use Rattle.lrat.specs.Shared.{base_of};
@@ -52,8 +52,7 @@ pub fn check_initial<S: Source>(
     requires base { refuter.old.base ≡ base_of (start_formula check.circuit.now) }
     requires invariant { IsInvariant check.circuit.now check.invariant.now }
     ensures says { Reads (S.leaves from.old) (S.leaves from.new) (λ ys zs. FindsWith (AreOfCases (map (init_case check.entry.circuit.now) check.entry.invariant.now)) (many_at (section_at 105) (length check.entry.invariant.now) (reader.old.held ++ ys)) result reader.new.held zs) }
-    ensures device { IsErrOf result Device ↔ (S.failed from.new ≡ S.failed from.old + 1) }
-    ensures others { (IsErrOf result Device → ⊥) → S.failed from.new ≡ S.failed from.old }
+    ensures device { FailsOnce result Device (S.failed from.old) (S.failed from.new) }
 {
     check.circuit.well_formed();
     let mut units = Vec::new(alloc);
@@ -96,8 +95,7 @@ pub fn check_steps<S: Source>(
     ensures base { refuter.new.base ≡ refuter.old.base }
     ensures fresh { IfOk result (λ found. IfNone found (refuter.new.refusal ≡ None)) }
     ensures says { Reads (S.leaves from.old) (S.leaves from.new) (λ ys zs. FindsWith (AreOfCases (map (step_case check.entry.circuit.now refuter.old.base) check.entry.invariant.now)) (many_at (section_at 115) (length check.entry.invariant.now) (reader.old.held ++ ys)) result reader.new.held zs) }
-    ensures device { IsErrOf result Device ↔ (S.failed from.new ≡ S.failed from.old + 1) }
-    ensures others { (IsErrOf result Device → ⊥) → S.failed from.new ≡ S.failed from.old }
+    ensures device { FailsOnce result Device (S.failed from.old) (S.failed from.new) }
 {
     check.circuit.well_formed();
     let mut units = Vec::new(alloc);
@@ -142,8 +140,7 @@ pub fn check_cases<S: Source>(
     requires shared { shared.old.refusal ≡ None }
     requires vars { shared.old.base.vars ≡ check.circuit.now.max_var + 1 }
     ensures says { Reads (S.leaves from.old) (S.leaves from.new) (λ ys zs. FindsWith (AreOfCases (cases check.entry.circuit.now shared.old.base check.entry.invariant.now check.entry.bad)) (sections_at (length check.entry.invariant.now) (reader.old.held ++ ys)) result reader.new.held zs) }
-    ensures device { IsErrOf result Device ↔ (S.failed from.new ≡ S.failed from.old + 1) }
-    ensures others { (IsErrOf result Device → ⊥) → S.failed from.new ≡ S.failed from.old }
+    ensures device { FailsOnce result Device (S.failed from.old) (S.failed from.new) }
 {
     let count = check.invariant.len() as u32;
     let mut line = LineBuffer::new(alloc);

@@ -1,8 +1,8 @@
 //! A certificate's text, checked while it is read.
 
 ghost use Rattle.base.specs.Witness.{witness};
-ghost use Rattle.std.specs.Prelude.{◌≡◌, ◌≢◌, ◌+◌, ◌-◌, ◌<◌, ◌≤◌, ◌^◌, ◌↔◌, List, ◌++◌, All, length, Contains, None, Some, IfErr, IfNone, IfOk, IsErrOf, MatchResult, OnOk};
-ghost use Rattle.base.specs.Devices.{IsAtEnd, Reads};
+ghost use Rattle.std.specs.Prelude.{◌≡◌, ◌≢◌, ◌-◌, ◌<◌, ◌≤◌, ◌^◌, List, ◌++◌, All, length, Contains, None, Some, IfErr, IfNone, IfOk, MatchResult, OnOk};
+ghost use Rattle.base.specs.Devices.{IsAtEnd, Reads, FailsOnce};
 ghost use Rattle.graph.specs.WellFormed.{used};
 ghost use Rattle.graph.specs.declared.circuit.Lit.{Lit as ALit};
 ghost use Rattle.graph.specs.declared.circuit.Property.{Property as AProperty};
@@ -50,8 +50,7 @@ fn skip_cases<S: Source>(
 ) -> Result<(), ReaderError>
     requires source { S.failed from.old < 2 ^ 64 - 1 }
     ensures says { Reads (S.leaves from.old) (S.leaves from.new) (λ ys zs. FindsWith (λ sections _. Unit {0}) (sections_at count (reader.old.held ++ ys)) result reader.new.held zs) }
-    ensures device { IsErrOf result Device ↔ (S.failed from.new ≡ S.failed from.old + 1) }
-    ensures others { (IsErrOf result Device → ⊥) → S.failed from.new ≡ S.failed from.old }
+    ensures device { FailsOnce result Device (S.failed from.old) (S.failed from.new) }
 {
     skip_sections(alloc, SectionKind::Initial, count, reader, from)?;
     skip_sections(alloc, SectionKind::Step, count, reader, from)?;
@@ -67,8 +66,7 @@ fn skip_lemmas<S: Source>(
 ) -> Result<(), ReaderError>
     requires source { S.failed from.old < 2 ^ 64 - 1 }
     ensures says { Reads (S.leaves from.old) (S.leaves from.new) (λ ys zs. FindsWith (λ lemmas _. Unit {0}) (lemmas_at version (reader.old.held ++ ys)) result reader.new.held zs) }
-    ensures device { IsErrOf result Device ↔ (S.failed from.new ≡ S.failed from.old + 1) }
-    ensures others { (IsErrOf result Device → ⊥) → S.failed from.new ≡ S.failed from.old }
+    ensures device { FailsOnce result Device (S.failed from.old) (S.failed from.new) }
 {
     match version {
         Version::One => Ok(()),
@@ -88,8 +86,7 @@ fn skip_parts<S: Source>(
 ) -> Result<Option<u8>, ReaderError>
     requires source { S.failed from.old < 2 ^ 64 - 1 }
     ensures says { Reads (S.leaves from.old) (S.leaves from.new) (λ ys zs. (p : AProperty) (inv : List (List ALit)) → FindsWith (λ c found. (found ≡ Some (number_of error)) × (error ≢ OutOfMemory witness)) (parts_at version p count inv (reader.old.held ++ ys)) result reader.new.held zs) }
-    ensures device { IsErrOf result Device ↔ (S.failed from.new ≡ S.failed from.old + 1) }
-    ensures others { (IsErrOf result Device → ⊥) → S.failed from.new ≡ S.failed from.old }
+    ensures device { FailsOnce result Device (S.failed from.old) (S.failed from.new) }
 {
     match error {
         CheckError::OutOfMemory(refused) => Err(ReaderError::from(refused)),
@@ -115,8 +112,7 @@ fn share_lemmas<S: Source>(
     ensures vars { refuter.new.base.vars ≡ refuter.old.base.vars }
     ensures fresh { IfOk result (λ found. IfNone found (refuter.new.refusal ≡ None)) }
     ensures says { Reads (S.leaves from.old) (S.leaves from.new) (λ ys zs. (m : AParts) (inv : List (List ALit)) → refuter.old ≡ at_formula (shared_formula m inv) → FindsWith (AreTaken m inv refuter.new.base) (lemmas_at version (reader.old.held ++ ys)) result reader.new.held zs) }
-    ensures device { IsErrOf result Device ↔ (S.failed from.new ≡ S.failed from.old + 1) }
-    ensures others { (IsErrOf result Device → ⊥) → S.failed from.new ≡ S.failed from.old }
+    ensures device { FailsOnce result Device (S.failed from.old) (S.failed from.new) }
 {
     match version {
         Version::One => Ok(None),
@@ -154,8 +150,7 @@ fn check_lemmas_and_cases<S: Source>(
     requires start { start.old ≡ at_formula (start_formula check.circuit.now) }
     requires shared { shared.old ≡ at_formula (shared_formula check.circuit.now check.invariant.now) }
     ensures says { Reads (S.leaves from.old) (S.leaves from.new) (λ ys zs. (p : AProperty) → FindsWith (HasSections check.entry.circuit.now check.entry.bad) (parts_at check.entry.version p (length check.entry.invariant.now) check.entry.invariant.now (reader.old.held ++ ys)) result reader.new.held zs) }
-    ensures device { IsErrOf result Device ↔ (S.failed from.new ≡ S.failed from.old + 1) }
-    ensures others { (IsErrOf result Device → ⊥) → S.failed from.new ≡ S.failed from.old }
+    ensures device { FailsOnce result Device (S.failed from.old) (S.failed from.new) }
 {
     let found = share_lemmas(alloc, check.version, shared, reader, from)?;
     if let Some(fault) = found {
@@ -178,8 +173,7 @@ fn check_parts<S: Source>(
     requires table { IsTableOf check.circuit.now.latches check.table.now }
     requires bad { Contains (used check.circuit.now) check.bad }
     ensures says { Reads (S.leaves from.old) (S.leaves from.new) (λ ys zs. (p : AProperty) → FindsWith (HasSections check.entry.circuit.now check.entry.bad) (parts_at check.entry.version p (length check.entry.invariant.now) check.entry.invariant.now (reader.old.held ++ ys)) result reader.new.held zs) }
-    ensures device { IsErrOf result Device ↔ (S.failed from.new ≡ S.failed from.old + 1) }
-    ensures others { (IsErrOf result Device → ⊥) → S.failed from.new ≡ S.failed from.old }
+    ensures device { FailsOnce result Device (S.failed from.old) (S.failed from.new) }
 {
     let mut start = start_refuter(alloc, check.circuit)?;
     let mut shared = invariant_refuter(alloc, check.circuit, check.invariant)?;
@@ -213,8 +207,7 @@ fn check_for<S: Source>(
     requires bad { Contains (used circuit.now) bad }
     requires few { length invariant.now ≤ 4194303 }
     ensures says { Reads (S.leaves from.old) (S.leaves from.new) (λ ys zs. (p : AProperty) → FindsWith (IsFoundFor circuit.now bad) (parts_at version p (length invariant.now) invariant.now (reader.old.held ++ ys)) result reader.new.held zs) }
-    ensures device { IsErrOf result Device ↔ (S.failed from.new ≡ S.failed from.old + 1) }
-    ensures others { (IsErrOf result Device → ⊥) → S.failed from.new ≡ S.failed from.old }
+    ensures device { FailsOnce result Device (S.failed from.old) (S.failed from.new) }
 {
     circuit.well_formed();
     match prepare(alloc, circuit, invariant) {
@@ -250,8 +243,7 @@ fn check_justice<S: Source>(
     requires source { S.failed from.old < 2 ^ 64 - 1 }
     requires few { length invariant.now ≤ 4194303 }
     ensures says { Reads (S.leaves from.old) (S.leaves from.new) (λ ys zs. FindsWith (IsFound circuit.now) (parts_at version (Justice n) (length invariant.now) invariant.now (reader.old.held ++ ys)) result reader.new.held zs) }
-    ensures device { IsErrOf result Device ↔ (S.failed from.new ≡ S.failed from.old + 1) }
-    ensures others { (IsErrOf result Device → ⊥) → S.failed from.new ≡ S.failed from.old }
+    ensures device { FailsOnce result Device (S.failed from.old) (S.failed from.new) }
 {
     let count = invariant.len() as u32;
     match to_safety(alloc, circuit, n) {
@@ -289,8 +281,7 @@ fn check_property<S: Source>(
     requires source { S.failed from.old < 2 ^ 64 - 1 }
     requires few { length invariant.now ≤ 4194303 }
     ensures says { Reads (S.leaves from.old) (S.leaves from.new) (λ ys zs. FindsWith (IsFound circuit.now) (parts_at version property (length invariant.now) invariant.now (reader.old.held ++ ys)) result reader.new.held zs) }
-    ensures device { IsErrOf result Device ↔ (S.failed from.new ≡ S.failed from.old + 1) }
-    ensures others { (IsErrOf result Device → ⊥) → S.failed from.new ≡ S.failed from.old }
+    ensures device { FailsOnce result Device (S.failed from.old) (S.failed from.new) }
 {
     if !circuit.parts().has_property(property) {
         let error = no_property(property);
@@ -343,8 +334,7 @@ fn check_earlier<S: Source>(
 ) -> Result<Outcome, ReaderError>
     requires source { S.failed from.old < 2 ^ 64 - 1 }
     ensures says { Reads (S.leaves from.old) (S.leaves from.new) (λ ys zs. FindsWith (λ c found. (found.property ≡ c.property) × IsFound circuit.now c found.refusal) (behind_version_at version (reader.old.held ++ ys)) result reader.new.held zs) }
-    ensures device { IsErrOf result Device ↔ (S.failed from.new ≡ S.failed from.old + 1) }
-    ensures others { (IsErrOf result Device → ⊥) → S.failed from.new ≡ S.failed from.old }
+    ensures device { FailsOnce result Device (S.failed from.old) (S.failed from.new) }
 {
     let property = reader.property(alloc, from)?;
     let count = reader.count(alloc, from)?;
@@ -362,8 +352,7 @@ fn check_third<S: Source>(
 ) -> Result<Outcome, ReaderError>
     requires source { S.failed from.old < 2 ^ 64 - 1 }
     ensures says { Reads (S.leaves from.old) (S.leaves from.new) (λ ys zs. FindsWith (λ c found. (found.property ≡ c.claim.property) × IsFoundThird circuit.now c found.refusal) (behind_at (reader.old.held ++ ys)) result reader.new.held zs) }
-    ensures device { IsErrOf result Device ↔ (S.failed from.new ≡ S.failed from.old + 1) }
-    ensures others { (IsErrOf result Device → ⊥) → S.failed from.new ≡ S.failed from.old }
+    ensures device { FailsOnce result Device (S.failed from.old) (S.failed from.new) }
 {
     let found = check_behind(alloc, circuit, reader, from)?;
     let property = found.claim.property;
@@ -388,8 +377,7 @@ fn check_text<S: Source>(
 ) -> Result<Outcome, ReaderError>
     requires source { S.failed from.old < 2 ^ 64 - 1 }
     ensures says { Reads (S.leaves from.old) (S.leaves from.new) (λ ys zs. FindsWith (λ c found. (found.property ≡ named_property c) × IsFoundOf circuit.now c found.refusal) (certified_at (reader.old.held ++ ys)) result reader.new.held zs) }
-    ensures device { IsErrOf result Device ↔ (S.failed from.new ≡ S.failed from.old + 1) }
-    ensures others { (IsErrOf result Device → ⊥) → S.failed from.new ≡ S.failed from.old }
+    ensures device { FailsOnce result Device (S.failed from.old) (S.failed from.new) }
 {
     let format = reader.line::<AnyFirstLine, S>(alloc, (), from)?;
     match format {
@@ -411,8 +399,7 @@ pub fn check_source<S: Source>(
     requires source { S.failed from.old < 2 ^ 64 - 1 }
     ensures says { Reads (S.leaves from.old) (S.leaves from.new) (λ ys zs. MatchResult result (λ found. (c : Certified) × SpellsCertified ys c × (found.property ≡ named_property c) × IsFoundOf circuit.now c found.refusal) (λ e. ForText e ((c : Certified) → SpellsCertified ys c → ⊥))) }
     ensures ended { IfOk result (λ _. IsAtEnd (S.leaves from.new)) }
-    ensures device { IsErrOf result Device ↔ (S.failed from.new ≡ S.failed from.old + 1) }
-    ensures others { (IsErrOf result Device → ⊥) → S.failed from.new ≡ S.failed from.old }
+    ensures device { FailsOnce result Device (S.failed from.old) (S.failed from.new) }
 {
     let mut reader = Reader::new(alloc)?;
     let outcome = check_text(alloc, circuit, &mut reader, from)?;

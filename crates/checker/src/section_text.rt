@@ -1,8 +1,8 @@
 //! The sections of a certificate's text, checked line by line.
 
 ghost use Rattle.base.specs.Witness.{witness};
-ghost use Rattle.std.specs.Prelude.{◌≡◌, ◌≢◌, ◌+◌, ◌-◌, ◌<◌, ◌^◌, ◌↔◌, ◌++◌, All, None, Some, IfOk, IfNone, IsErrOf};
-ghost use Rattle.base.specs.Devices.{Reads};
+ghost use Rattle.std.specs.Prelude.{◌≡◌, ◌≢◌, ◌-◌, ◌<◌, ◌^◌, ◌++◌, All, None, Some, IfOk, IfNone};
+ghost use Rattle.base.specs.Devices.{Reads, FailsOnce};
 ghost use Rattle.scan.specs.Lists.{items_at};
 ghost use Rattle.lrat.specs.Literals.{IsLiteral};
 ghost use Rattle.lrat.specs.declared.fault.Fault.TheVariants.{OutOfMemory};
@@ -27,8 +27,7 @@ fn skip_refused<S: Source>(
     requires source { S.failed from.old < 2 ^ 64 - 1 }
     ensures says { Reads (S.leaves from.old) (S.leaves from.new) (λ ys zs. FindsWith (λ lines found. (found ≡ Some fault) × (fault ≢ OutOfMemory witness)) (items_at item_at (reader.old.held ++ ys)) result reader.new.held zs) }
     ensures found { IfOk result (λ found. (found ≡ Some fault) × (fault ≢ OutOfMemory witness)) }
-    ensures device { IsErrOf result Device ↔ (S.failed from.new ≡ S.failed from.old + 1) }
-    ensures others { (IsErrOf result Device → ⊥) → S.failed from.new ≡ S.failed from.old }
+    ensures device { FailsOnce result Device (S.failed from.old) (S.failed from.new) }
 {
     match fault {
         Fault::OutOfMemory(refused) => Err(ReaderError::from(refused)),
@@ -53,8 +52,7 @@ fn feed_lines<S: Source>(
     ensures base { refuter.new.base ≡ refuter.old.base }
     ensures fresh { IfOk result (λ found. IfNone found (refuter.new.refusal ≡ None)) }
     ensures says { Reads (S.leaves from.old) (S.leaves from.new) (λ ys zs. FindsWith (IsFed refuter.old.base.vars refuter.old.stage) (items_at item_at (reader.old.held ++ ys)) result reader.new.held zs) }
-    ensures device { IsErrOf result Device ↔ (S.failed from.new ≡ S.failed from.old + 1) }
-    ensures others { (IsErrOf result Device → ⊥) → S.failed from.new ≡ S.failed from.old }
+    ensures device { FailsOnce result Device (S.failed from.old) (S.failed from.new) }
 {
     'feeding: loop {
         let there = reader.line_into(alloc, line, from)?;
@@ -87,8 +85,7 @@ pub fn check_section<S: Source>(
     ensures base { refuter.new.base ≡ refuter.old.base }
     ensures fresh { IfOk result (λ found. IfNone found (refuter.new.refusal ≡ None)) }
     ensures says { Reads (S.leaves from.old) (S.leaves from.new) (λ ys zs. FindsWith (IsOfCase (record { base = refuter.old.base; units = units.now })) (section_at (letter_of kind) (reader.old.held ++ ys)) result reader.new.held zs) }
-    ensures device { IsErrOf result Device ↔ (S.failed from.new ≡ S.failed from.old + 1) }
-    ensures others { (IsErrOf result Device → ⊥) → S.failed from.new ≡ S.failed from.old }
+    ensures device { FailsOnce result Device (S.failed from.old) (S.failed from.new) }
 {
     reader.section(alloc, kind, from)?;
     if let Err(fault) = refuter.begin(alloc, units) {
@@ -110,8 +107,7 @@ fn share_lines<S: Source>(
     ensures vars { refuter.new.base.vars ≡ refuter.old.base.vars }
     ensures fresh { IfOk result (λ found. IfNone found (refuter.new.refusal ≡ None)) }
     ensures says { Reads (S.leaves from.old) (S.leaves from.new) (λ ys zs. FindsWith (AreLemmas refuter.old.base.vars refuter.old.stage refuter.new.base) (items_at item_at (reader.old.held ++ ys)) result reader.new.held zs) }
-    ensures device { IsErrOf result Device ↔ (S.failed from.new ≡ S.failed from.old + 1) }
-    ensures others { (IsErrOf result Device → ⊥) → S.failed from.new ≡ S.failed from.old }
+    ensures device { FailsOnce result Device (S.failed from.old) (S.failed from.new) }
 {
     let mut line = LineBuffer::new(alloc);
     'taking: loop {
@@ -141,8 +137,7 @@ pub fn take_lemmas<S: Source>(
     ensures vars { refuter.new.base.vars ≡ refuter.old.base.vars }
     ensures fresh { IfOk result (λ found. IfNone found (refuter.new.refusal ≡ None)) }
     ensures says { Reads (S.leaves from.old) (S.leaves from.new) (λ ys zs. FindsWith (AreLemmas refuter.old.base.vars refuter.old.stage refuter.new.base) (section_at 108 (reader.old.held ++ ys)) result reader.new.held zs) }
-    ensures device { IsErrOf result Device ↔ (S.failed from.new ≡ S.failed from.old + 1) }
-    ensures others { (IsErrOf result Device → ⊥) → S.failed from.new ≡ S.failed from.old }
+    ensures device { FailsOnce result Device (S.failed from.old) (S.failed from.new) }
 {
     reader.section(alloc, SectionKind::Lemmas, from)?;
     share_lines(alloc, refuter, reader, from)

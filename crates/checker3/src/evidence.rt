@@ -1,7 +1,7 @@
 //! What is behind the property, checked while it is read.
 
-ghost use Rattle.std.specs.Prelude.{◌≡◌, ◌+◌, ◌-◌, ◌<◌, ◌≤◌, ◌^◌, ◌↔◌, List, ◌++◌, length, IsErrOf};
-ghost use Rattle.base.specs.Devices.{Reads};
+ghost use Rattle.std.specs.Prelude.{◌-◌, ◌<◌, ◌≤◌, ◌^◌, List, ◌++◌, length};
+ghost use Rattle.base.specs.Devices.{Reads, FailsOnce};
 ghost use Rattle.graph.specs.declared.circuit.Latch.{Latch as ALatch};
 ghost use Rattle.graph.specs.declared.circuit.Gate.{Gate as AGate};
 ghost use Rattle.graph.specs.declared.circuit.Lit.{Lit as ALit};
@@ -34,8 +34,7 @@ fn check_invariant<S: Source>(
     requires few { length claims.invariant.now ≤ 4194303 }
     requires bad { IsInRange claims.circuit.now.max_var claims.bad }
     ensures says { (ls : List ALatch) (gs : List AGate) → Reads (S.leaves from.old) (S.leaves from.new) (λ ys zs. FindsWith (λ p found. IsProvedOver claims.entry.circuit.now claims.entry.bad (evidence_of ls gs claims.entry.invariant.now p) found) (proofs_at (length claims.entry.invariant.now) (reader.old.held ++ ys)) result reader.new.held zs) }
-    ensures device { IsErrOf result Device ↔ (S.failed from.new ≡ S.failed from.old + 1) }
-    ensures others { (IsErrOf result Device → ⊥) → S.failed from.new ≡ S.failed from.old }
+    ensures device { FailsOnce result Device (S.failed from.old) (S.failed from.new) }
 {
     if let Some(clause) = first_outside(claims.circuit, claims.invariant) {
         skip_proofs(alloc, claims.invariant.len() as u32, reader, from)?;
@@ -60,8 +59,7 @@ fn check_clauses<S: Source>(
     requires source { S.failed from.old < 2 ^ 64 - 1 }
     requires bad { IsInRange circuit.now.max_var bad }
     ensures says { (ls : List ALatch) (gs : List AGate) → Reads (S.leaves from.old) (S.leaves from.new) (λ ys zs. FindsWith (IsProvedOver circuit.now bad) (clauses_at ls gs (reader.old.held ++ ys)) result reader.new.held zs) }
-    ensures device { IsErrOf result Device ↔ (S.failed from.new ≡ S.failed from.old + 1) }
-    ensures others { (IsErrOf result Device → ⊥) → S.failed from.new ≡ S.failed from.old }
+    ensures device { FailsOnce result Device (S.failed from.old) (S.failed from.new) }
 {
     let count = reader.count(alloc, from)?;
     let invariant = read_clauses(alloc, count, reader, from)?;
@@ -83,8 +81,7 @@ fn refuse_growth<S: Source>(
 ) -> Result<Option<CheckError>, ReaderError>
     requires source { S.failed from.old < 2 ^ 64 - 1 }
     ensures says { (m : AParts) (a : ALit) (ls : List ALatch) (gs : List AGate) → IsNoGrowth m ls gs error → Reads (S.leaves from.old) (S.leaves from.new) (λ ys zs. FindsWith (IsJudgedFor m a) (clauses_at ls gs (reader.old.held ++ ys)) result reader.new.held zs) }
-    ensures device { IsErrOf result Device ↔ (S.failed from.new ≡ S.failed from.old + 1) }
-    ensures others { (IsErrOf result Device → ⊥) → S.failed from.new ≡ S.failed from.old }
+    ensures device { FailsOnce result Device (S.failed from.old) (S.failed from.new) }
 {
     match error {
         GrowError::OutOfMemory(refused) => Err(ReaderError::from(refused)),
@@ -107,8 +104,7 @@ pub fn check_evidence<S: Source>(
     requires source { S.failed from.old < 2 ^ 64 - 1 }
     requires bad { IsInRange circuit.now.max_var bad }
     ensures says { Reads (S.leaves from.old) (S.leaves from.new) (λ ys zs. FindsWith (IsJudgedFor circuit.now bad) (evidence_at (reader.old.held ++ ys)) result reader.new.held zs) }
-    ensures device { IsErrOf result Device ↔ (S.failed from.new ≡ S.failed from.old + 1) }
-    ensures others { (IsErrOf result Device → ⊥) → S.failed from.new ≡ S.failed from.old }
+    ensures device { FailsOnce result Device (S.failed from.old) (S.failed from.new) }
 {
     let sizes = reader.line::<SizesLine, S>(alloc, (), from)?;
     let latches = read_latches(alloc, sizes.latches, reader, from)?;

@@ -1,7 +1,7 @@
 //! The three sections, checked while they are read.
 
-ghost use Rattle.std.specs.Prelude.{◌≡◌, ◌+◌, ◌-◌, ◌<◌, ◌≤◌, ◌^◌, ◌↔◌, ◌++◌, All, map, length, None, IfOk, IsErrOf};
-ghost use Rattle.base.specs.Devices.{Reads};
+ghost use Rattle.std.specs.Prelude.{◌≡◌, ◌+◌, ◌-◌, ◌<◌, ◌≤◌, ◌^◌, ◌++◌, All, map, length, None, IfOk};
+ghost use Rattle.base.specs.Devices.{Reads, FailsOnce};
 ghost use Rattle.lrat.specs.Courses.{at_formula};
 ghost use Rattle.lrat.specs.declared.formula.Formula.{Formula as AFormula};
 ghost use Rattle.cnf.specs.Clauses.{literal};
@@ -82,8 +82,7 @@ fn check_shown<S: Source>(
     requires over { All (All (IsInRange timed.time.max_var)) timed.clauses.now }
     requires few { length timed.clauses.now ≤ 4194303 }
     ensures says { (f : AFormula) → refuter.old ≡ at_formula f → Reads (S.leaves from.old) (S.leaves from.new) (λ ys zs. FindsWith (IsDerived f (map (map (literal timed.entry.time.max_var timed.entry.time.offset)) timed.entry.clauses.now)) (shown_at (letter_of kind) (length timed.entry.clauses.now) (reader.old.held ++ ys)) result reader.new.held zs) }
-    ensures device { IsErrOf result Device ↔ (S.failed from.new ≡ S.failed from.old + 1) }
-    ensures others { (IsErrOf result Device → ⊥) → S.failed from.new ≡ S.failed from.old }
+    ensures device { FailsOnce result Device (S.failed from.old) (S.failed from.new) }
 {
     let found = feed_section(alloc, kind, refuter, reader, from)?;
     if let Some(fault) = found {
@@ -104,8 +103,7 @@ fn check_first<S: Source>(
     requires over { All (IsOverAll claims.circuit.now) claims.invariant.now }
     requires few { length claims.invariant.now ≤ 4194303 }
     ensures says { Reads (S.leaves from.old) (S.leaves from.new) (λ ys zs. FindsWith (HoldsFirst claims.entry.circuit.now claims.entry.invariant.now) (shown_at 105 (length claims.entry.invariant.now) (reader.old.held ++ ys)) result reader.new.held zs) }
-    ensures device { IsErrOf result Device ↔ (S.failed from.new ≡ S.failed from.old + 1) }
-    ensures others { (IsErrOf result Device → ⊥) → S.failed from.new ≡ S.failed from.old }
+    ensures device { FailsOnce result Device (S.failed from.old) (S.failed from.new) }
 {
     claims.circuit.well_formed();
     let timed = Timed {
@@ -134,8 +132,7 @@ fn check_step<S: Source>(
     requires over { All (IsOverAll claims.circuit.now) claims.invariant.now }
     requires few { length claims.invariant.now ≤ 4194303 }
     ensures says { Reads (S.leaves from.old) (S.leaves from.new) (λ ys zs. FindsWith (HoldsNext claims.entry.circuit.now claims.entry.invariant.now) (shown_at 115 (length claims.entry.invariant.now) (reader.old.held ++ ys)) result reader.new.held zs) }
-    ensures device { IsErrOf result Device ↔ (S.failed from.new ≡ S.failed from.old + 1) }
-    ensures others { (IsErrOf result Device → ⊥) → S.failed from.new ≡ S.failed from.old }
+    ensures device { FailsOnce result Device (S.failed from.old) (S.failed from.new) }
 {
     claims.circuit.well_formed();
     let timed = Timed {
@@ -156,8 +153,7 @@ fn check_refuted<S: Source>(
     requires source { S.failed from.old < 2 ^ 64 - 1 }
     requires fresh { refuter.old.refusal ≡ None }
     ensures says { (f : AFormula) → refuter.old ≡ at_formula f → Reads (S.leaves from.old) (S.leaves from.new) (λ ys zs. FindsWith (IsRefuted f) (section_at 98 (reader.old.held ++ ys)) result reader.new.held zs) }
-    ensures device { IsErrOf result Device ↔ (S.failed from.new ≡ S.failed from.old + 1) }
-    ensures others { (IsErrOf result Device → ⊥) → S.failed from.new ≡ S.failed from.old }
+    ensures device { FailsOnce result Device (S.failed from.old) (S.failed from.new) }
 {
     let found = feed_section(alloc, SectionKind::Bad, refuter, reader, from)?;
     if let Some(fault) = found {
@@ -181,8 +177,7 @@ fn check_later<S: Source>(
     requires few { length claims.invariant.now ≤ 4194303 }
     requires bad { IsInRange claims.circuit.now.max_var claims.bad }
     ensures says { Reads (S.leaves from.old) (S.leaves from.new) (λ ys zs. FindsWith (HasLater claims.entry.circuit.now claims.entry.bad claims.entry.invariant.now) (later_at (length claims.entry.invariant.now) (reader.old.held ++ ys)) result reader.new.held zs) }
-    ensures device { IsErrOf result Device ↔ (S.failed from.new ≡ S.failed from.old + 1) }
-    ensures others { (IsErrOf result Device → ⊥) → S.failed from.new ≡ S.failed from.old }
+    ensures device { FailsOnce result Device (S.failed from.old) (S.failed from.new) }
 {
     let found = check_step(alloc, claims, reader, from)?;
     if let Some(fault) = found {
@@ -206,8 +201,7 @@ pub fn check_proofs<S: Source>(
     requires few { length claims.invariant.now ≤ 4194303 }
     requires bad { IsInRange claims.circuit.now.max_var claims.bad }
     ensures says { Reads (S.leaves from.old) (S.leaves from.new) (λ ys zs. FindsWith (HasProofs claims.entry.circuit.now claims.entry.bad claims.entry.invariant.now) (proofs_at (length claims.entry.invariant.now) (reader.old.held ++ ys)) result reader.new.held zs) }
-    ensures device { IsErrOf result Device ↔ (S.failed from.new ≡ S.failed from.old + 1) }
-    ensures others { (IsErrOf result Device → ⊥) → S.failed from.new ≡ S.failed from.old }
+    ensures device { FailsOnce result Device (S.failed from.old) (S.failed from.new) }
 {
     let found = check_first(alloc, claims, reader, from)?;
     if let Some(fault) = found {

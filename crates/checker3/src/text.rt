@@ -1,7 +1,7 @@
 //! A certificate's text, checked while it is read.
 
-ghost use Rattle.std.specs.Prelude.{◌≡◌, ◌+◌, ◌-◌, ◌<◌, ◌≤◌, ◌^◌, ◌↔◌, ◌++◌, length, None, IfOk, IfNone, IfSome, IsErrOf, MatchResult};
-ghost use Rattle.base.specs.Devices.{IsAtEnd, Reads};
+ghost use Rattle.std.specs.Prelude.{◌≡◌, ◌-◌, ◌<◌, ◌≤◌, ◌^◌, ◌++◌, length, None, IfOk, IfNone, IfSome, MatchResult};
+ghost use Rattle.base.specs.Devices.{IsAtEnd, Reads, FailsOnce};
 ghost use Rattle.graph.specs.Circuits.{HasProperty, IsUpheld};
 ghost use Rattle.graph.specs.declared.circuit.Property.TheVariants.{Justice};
 ghost use Rattle.certificate.specs.Streams.{FindsWith, ForText};
@@ -60,8 +60,7 @@ fn check_justice<S: Source>(
     requires there { HasProperty circuit.now claim.property }
     requires few { claim.rounds ≤ 2 ^ length circuit.now.latches }
     ensures says { Reads (S.leaves from.old) (S.leaves from.new) (λ ys zs. FindsWith (λ e found. IsJudged circuit.now (record { claim = claim; evidence = e }) found) (evidence_at (reader.old.held ++ ys)) result reader.new.held zs) }
-    ensures device { IsErrOf result Device ↔ (S.failed from.new ≡ S.failed from.old + 1) }
-    ensures others { (IsErrOf result Device → ⊥) → S.failed from.new ≡ S.failed from.old }
+    ensures device { FailsOnce result Device (S.failed from.old) (S.failed from.new) }
 {
     match count_rounds(alloc, circuit, position, claim.rounds) {
         Ok(counter) => {
@@ -88,8 +87,7 @@ fn check_claim<S: Source>(
 ) -> Result<Option<CheckError>, ReaderError>
     requires source { S.failed from.old < 2 ^ 64 - 1 }
     ensures says { Reads (S.leaves from.old) (S.leaves from.new) (λ ys zs. FindsWith (λ e found. IsJudged circuit.now (record { claim = claim; evidence = e }) found) (evidence_at (reader.old.held ++ ys)) result reader.new.held zs) }
-    ensures device { IsErrOf result Device ↔ (S.failed from.new ≡ S.failed from.old + 1) }
-    ensures others { (IsErrOf result Device → ⊥) → S.failed from.new ≡ S.failed from.old }
+    ensures device { FailsOnce result Device (S.failed from.old) (S.failed from.new) }
 {
     circuit.well_formed();
     if let Some(refusal) = unshowable(circuit, claim) {
@@ -114,8 +112,7 @@ pub fn check_behind<S: Source>(
 ) -> Result<Outcome, ReaderError>
     requires source { S.failed from.old < 2 ^ 64 - 1 }
     ensures says { Reads (S.leaves from.old) (S.leaves from.new) (λ ys zs. FindsWith (λ c found. (found.claim ≡ c.claim) × IsJudged circuit.now c found.refusal) (behind_at (reader.old.held ++ ys)) result reader.new.held zs) }
-    ensures device { IsErrOf result Device ↔ (S.failed from.new ≡ S.failed from.old + 1) }
-    ensures others { (IsErrOf result Device → ⊥) → S.failed from.new ≡ S.failed from.old }
+    ensures device { FailsOnce result Device (S.failed from.old) (S.failed from.new) }
 {
     let claim = reader.line::<ClaimLine, S>(alloc, (), from)?;
     let refusal = check_claim(alloc, circuit, claim, reader, from)?;
@@ -131,8 +128,7 @@ fn check_text<S: Source>(
 ) -> Result<Outcome, ReaderError>
     requires source { S.failed from.old < 2 ^ 64 - 1 }
     ensures says { Reads (S.leaves from.old) (S.leaves from.new) (λ ys zs. FindsWith (λ c found. (found.claim ≡ c.claim) × IsJudged circuit.now c found.refusal) (certificate_at (reader.old.held ++ ys)) result reader.new.held zs) }
-    ensures device { IsErrOf result Device ↔ (S.failed from.new ≡ S.failed from.old + 1) }
-    ensures others { (IsErrOf result Device → ⊥) → S.failed from.new ≡ S.failed from.old }
+    ensures device { FailsOnce result Device (S.failed from.old) (S.failed from.new) }
 {
     reader.line::<FirstLine, S>(alloc, (), from)?;
     check_behind(alloc, circuit, reader, from)
@@ -154,8 +150,7 @@ pub fn check_source<S: Source>(
     // Where something is, the bytes spell no certificate that is accepted.
     ensures refused { Reads (S.leaves from.old) (S.leaves from.new) (λ ys zs. IfOk result (λ found. IfSome found.refusal (λ _. (c : ACertificate) → SpellsCertificate ys c → IsAcceptedCertificate circuit.now c.claim.property c.claim.rounds c.evidence → ⊥))) }
     ensures ended { IfOk result (λ _. IsAtEnd (S.leaves from.new)) }
-    ensures device { IsErrOf result Device ↔ (S.failed from.new ≡ S.failed from.old + 1) }
-    ensures others { (IsErrOf result Device → ⊥) → S.failed from.new ≡ S.failed from.old }
+    ensures device { FailsOnce result Device (S.failed from.old) (S.failed from.new) }
 {
     circuit.well_formed();
     accepted_law();

@@ -1,7 +1,7 @@
 //! The pieces of a text that comes from a source.
 
-ghost use Rattle.std.specs.Prelude.{◌≡◌, ◌+◌, ◌-◌, ◌^◌, ◌<◌, ◌≤◌, [], ◌↔◌, IfOk, IfSome, MatchOption, IsErrOf, length, take, drop};
-ghost use Rattle.base.specs.Devices.{Reads};
+ghost use Rattle.std.specs.Prelude.{◌≡◌, ◌+◌, ◌-◌, ◌^◌, ◌<◌, ◌≤◌, [], IfOk, IfSome, MatchOption, length, take, drop};
+ghost use Rattle.base.specs.Devices.{Reads, FailsOnce};
 ghost use Rattle.pieces.specs.Pieces.{GoesOn, IsReady, Lies};
 ghost use Rattle.pieces.specs.declared.pieces.PieceError.TheVariants.{Device};
 
@@ -35,8 +35,7 @@ fn gather<S: Source>(
     ensures ready { IfOk result (λ end. IfSome end (λ n. IsReady held.new.items n)) }
     ensures reads { Reads (S.leaves from.old) (S.leaves from.new) (λ ys zs. IfOk result (λ end. MatchOption end (Lies held.old.items ys held.new.items zs (length held.new.items)) (λ n. Lies held.old.items ys held.new.items zs n))) }
     ensures moves { IfOk result (λ _. length held.new.items + S.most from.new ≡ length held.old.items + S.most from.old) }
-    ensures device { IsErrOf result Device ↔ (S.failed from.new ≡ S.failed from.old + 1) }
-    ensures others { (IsErrOf result Device → ⊥) → S.failed from.new ≡ S.failed from.old }
+    ensures device { FailsOnce result Device (S.failed from.old) (S.failed from.new) }
 {
     'gathering: loop {
         let n = match from.take(chunk) {
@@ -114,8 +113,7 @@ impl Pieces {
         ensures reads { Reads (S.leaves from.old) (S.leaves from.new) (λ ys zs. IfOk result (λ n. Lies self.old ys self.new zs n)) }
         ensures within { IfOk result (λ n. n ≤ length self.new) }
         ensures moves { IfOk result (λ n. length self.new + S.most from.new ≡ length self.old + S.most from.old) }
-        ensures device { IsErrOf result Device ↔ (S.failed from.new ≡ S.failed from.old + 1) }
-        ensures others { (IsErrOf result Device → ⊥) → S.failed from.new ≡ S.failed from.old }
+        ensures device { FailsOnce result Device (S.failed from.old) (S.failed from.new) }
     {
         if self.start < self.ready {
             return Ok(self.ready - self.start);
@@ -130,8 +128,7 @@ impl Pieces {
         ensures reads { Reads (S.leaves from.old) (S.leaves from.new) (λ ys zs. IfOk result (λ n. Lies self.old ys self.new zs n)) }
         ensures within { IfOk result (λ n. n ≤ length self.new) }
         ensures moves { IfOk result (λ n. length self.new + S.most from.new ≡ length self.old + S.most from.old) }
-        ensures device { IsErrOf result Device ↔ (S.failed from.new ≡ S.failed from.old + 1) }
-        ensures others { (IsErrOf result Device → ⊥) → S.failed from.new ≡ S.failed from.old }
+        ensures device { FailsOnce result Device (S.failed from.old) (S.failed from.new) }
     {
         if let Some(end) = last_end(&self.held[self.start..]) {
             self.ready = self.start + end;

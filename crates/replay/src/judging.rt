@@ -1,7 +1,7 @@
 //! A stimulus, judged while it is read.
 
-ghost use Rattle.std.specs.Prelude.{◌≡◌, ◌+◌, ◌-◌, ◌^◌, ◌<◌, ◌≤◌, ◌↔◌, ◌++◌, IfOk, IsErrOf, MatchResult};
-ghost use Rattle.base.specs.Devices.{IsAtEnd, Reads};
+ghost use Rattle.std.specs.Prelude.{◌≡◌, ◌-◌, ◌^◌, ◌<◌, ◌≤◌, ◌++◌, IfOk, MatchResult};
+ghost use Rattle.base.specs.Devices.{IsAtEnd, Reads, FailsOnce};
 ghost use Rattle.graph.specs.Circuits.{IsWatched, variable};
 ghost use Rattle.graph.specs.declared.circuit.Property.{Property as AProperty};
 ghost use Rattle.graph.specs.declared.circuit.Property.TheVariants.{Justice};
@@ -41,8 +41,7 @@ fn judge_bad<S: Source>(
     requires source { S.failed from.old < 2 ^ 64 - 1 }
     requires in_range { variable bad ≤ circuit.now.max_var }
     ensures says { Reads (S.leaves from.old) (S.leaves from.new) (λ ys zs. (p : AProperty) → IsWatched circuit.now p bad → FindsWith (AreFound circuit.now p initial.now) (items_at line_at (reader.old ++ ys)) result reader.new zs) }
-    ensures device { IsErrOf result Device ↔ (S.failed from.new ≡ S.failed from.old + 1) }
-    ensures others { (IsErrOf result Device → ⊥) → S.failed from.new ≡ S.failed from.old }
+    ensures device { FailsOnce result Device (S.failed from.old) (S.failed from.new) }
 {
     let parts = circuit.parts();
     if initial.len() != parts.latches.len() {
@@ -97,8 +96,7 @@ fn judge_justice<S: Source>(
 ) -> Result<Option<u8>, TextError>
     requires source { S.failed from.old < 2 ^ 64 - 1 }
     ensures says { Reads (S.leaves from.old) (S.leaves from.new) (λ ys zs. FindsWith (AreFound circuit.now (Justice j) initial) (items_at line_at (reader.old ++ ys)) result reader.new zs) }
-    ensures device { IsErrOf result Device ↔ (S.failed from.new ≡ S.failed from.old + 1) }
-    ensures others { (IsErrOf result Device → ⊥) → S.failed from.new ≡ S.failed from.old }
+    ensures device { FailsOnce result Device (S.failed from.old) (S.failed from.new) }
 {
     let inputs = read_lines(alloc, line, reader, from)?;
     let violated = Stimulus::Violated {
@@ -121,8 +119,7 @@ fn judge_lines<S: Source>(
 ) -> Result<Option<u8>, TextError>
     requires source { S.failed from.old < 2 ^ 64 - 1 }
     ensures says { Reads (S.leaves from.old) (S.leaves from.new) (λ ys zs. FindsWith (AreFound circuit.now property initial) (items_at line_at (reader.old ++ ys)) result reader.new zs) }
-    ensures device { IsErrOf result Device ↔ (S.failed from.new ≡ S.failed from.old + 1) }
-    ensures others { (IsErrOf result Device → ⊥) → S.failed from.new ≡ S.failed from.old }
+    ensures device { FailsOnce result Device (S.failed from.old) (S.failed from.new) }
 {
     circuit.well_formed();
     if !circuit.parts().has_property(property) {
@@ -159,8 +156,7 @@ fn judge_run<S: Source>(
 ) -> Result<Option<u8>, TextError>
     requires source { S.failed from.old < 2 ^ 64 - 1 }
     ensures says { Reads (S.leaves from.old) (S.leaves from.new) (λ ys zs. FindsWith (IsFound circuit.now) (run_at property (reader.old ++ ys)) result reader.new zs) }
-    ensures device { IsErrOf result Device ↔ (S.failed from.new ≡ S.failed from.old + 1) }
-    ensures others { (IsErrOf result Device → ⊥) → S.failed from.new ≡ S.failed from.old }
+    ensures device { FailsOnce result Device (S.failed from.old) (S.failed from.new) }
 {
     let mut initial = Vec::new(alloc);
     reader.values_into(alloc, &mut initial, from)?;
@@ -184,8 +180,7 @@ fn refuse_concluded<S: Source>(
 ) -> Result<Option<u8>, TextError>
     requires source { S.failed from.old < 2 ^ 64 - 1 }
     ensures says { Reads (S.leaves from.old) (S.leaves from.new) (λ ys zs. (m : AParts) (s : AStatus) (p : AProperty) → IsConclusion s → FindsWith (IsFound m) (body_at s p (reader.old ++ ys)) result reader.new zs) }
-    ensures device { IsErrOf result Device ↔ (S.failed from.new ≡ S.failed from.old + 1) }
-    ensures others { (IsErrOf result Device → ⊥) → S.failed from.new ≡ S.failed from.old }
+    ensures device { FailsOnce result Device (S.failed from.old) (S.failed from.new) }
 {
     reader.dot(alloc, from)?;
     Ok(Some(NOT_VIOLATED))
@@ -202,8 +197,7 @@ fn judge_body<S: Source>(
 ) -> Result<Option<u8>, TextError>
     requires source { S.failed from.old < 2 ^ 64 - 1 }
     ensures says { Reads (S.leaves from.old) (S.leaves from.new) (λ ys zs. FindsWith (IsFound circuit.now) (body_at status property (reader.old ++ ys)) result reader.new zs) }
-    ensures device { IsErrOf result Device ↔ (S.failed from.new ≡ S.failed from.old + 1) }
-    ensures others { (IsErrOf result Device → ⊥) → S.failed from.new ≡ S.failed from.old }
+    ensures device { FailsOnce result Device (S.failed from.old) (S.failed from.new) }
 {
     match status {
         Status::Violated => judge_run(alloc, circuit, property, reader, from),
@@ -230,8 +224,7 @@ fn judge_text<S: Source>(
 ) -> Result<Outcome, TextError>
     requires source { S.failed from.old < 2 ^ 64 - 1 }
     ensures says { Reads (S.leaves from.old) (S.leaves from.new) (λ ys zs. FindsWith (IsOutcome circuit.now) (stimulus_at (reader.old ++ ys)) result reader.new zs) }
-    ensures device { IsErrOf result Device ↔ (S.failed from.new ≡ S.failed from.old + 1) }
-    ensures others { (IsErrOf result Device → ⊥) → S.failed from.new ≡ S.failed from.old }
+    ensures device { FailsOnce result Device (S.failed from.old) (S.failed from.new) }
 {
     let status = reader.status(alloc, from)?;
     let property = reader.property(alloc, from)?;
@@ -251,8 +244,7 @@ pub fn judge_source<S: Source>(
     requires source { S.failed from.old < 2 ^ 64 - 1 }
     ensures says { Reads (S.leaves from.old) (S.leaves from.new) (λ ys zs. MatchResult result (λ found. (s : AStimulus) × SpellsStimulus ys s × (found.property ≡ property_of s) × IsFound circuit.now s found.refusal) (λ e. ForText e ((s : AStimulus) → SpellsStimulus ys s → ⊥))) }
     ensures ended { IfOk result (λ _. IsAtEnd (S.leaves from.new)) }
-    ensures device { IsErrOf result Device ↔ (S.failed from.new ≡ S.failed from.old + 1) }
-    ensures others { (IsErrOf result Device → ⊥) → S.failed from.new ≡ S.failed from.old }
+    ensures device { FailsOnce result Device (S.failed from.old) (S.failed from.new) }
 {
     let mut reader = LineReader::new(alloc)?;
     let outcome = judge_text(alloc, circuit, &mut reader, from)?;

@@ -1,7 +1,7 @@
 //! The input lines of a stimulus that is refused, and those that are kept.
 
-ghost use Rattle.std.specs.Prelude.{◌≡◌, ◌+◌, ◌-◌, ◌^◌, ◌<◌, ◌↔◌, ℕ, Bool, List, [], ◌∷◌, ◌++◌, length, Some, IsErrOf, IsTrue};
-ghost use Rattle.base.specs.Devices.{Reads};
+ghost use Rattle.std.specs.Prelude.{◌≡◌, ◌-◌, ◌^◌, ◌<◌, ◌↔◌, ℕ, Bool, List, [], ◌∷◌, ◌++◌, length, Some, IsTrue};
+ghost use Rattle.base.specs.Devices.{Reads, FailsOnce};
 ghost use Rattle.scan.specs.Lists.{items_at};
 ghost use Rattle.stimulus.specs.Reading.{line_at};
 ghost use Rattle.replay.specs.Found.{AreOfLengths, AreRefused, cause_by};
@@ -59,8 +59,7 @@ pub fn skip_lines<S: Source>(
 ) -> Result<Option<u8>, TextError>
     requires source { S.failed from.old < 2 ^ 64 - 1 }
     ensures says { Reads (S.leaves from.old) (S.leaves from.new) (λ ys zs. FindsWith (λ lines found. found ≡ Some number) (items_at line_at (reader.old ++ ys)) result reader.new zs) }
-    ensures device { IsErrOf result Device ↔ (S.failed from.new ≡ S.failed from.old + 1) }
-    ensures others { (IsErrOf result Device → ⊥) → S.failed from.new ≡ S.failed from.old }
+    ensures device { FailsOnce result Device (S.failed from.old) (S.failed from.new) }
 {
     'skipping: loop {
         let there = reader.line_into(alloc, line, from)?;
@@ -83,8 +82,7 @@ pub fn refuse_lines<S: Source>(
 ) -> Result<Option<u8>, TextError>
     requires source { S.failed from.old < 2 ^ 64 - 1 }
     ensures says { Reads (S.leaves from.old) (S.leaves from.new) (λ ys zs. (front : List (List Bool)) → AreOfLengths long front before → FindsWith (λ more found. AreRefused number long (front ++ more) found) (items_at line_at (reader.old ++ ys)) result reader.new zs) }
-    ensures device { IsErrOf result Device ↔ (S.failed from.new ≡ S.failed from.old + 1) }
-    ensures others { (IsErrOf result Device → ⊥) → S.failed from.new ≡ S.failed from.old }
+    ensures device { FailsOnce result Device (S.failed from.old) (S.failed from.new) }
 {
     let mut lengths = before;
     'measuring: loop {
@@ -105,8 +103,7 @@ pub fn read_lines<S: Source>(
 ) -> Result<Seq<Seq<bool>>, TextError>
     requires source { S.failed from.old < 2 ^ 64 - 1 }
     ensures says { Reads (S.leaves from.old) (S.leaves from.new) (λ ys zs. Finds (items_at line_at (reader.old ++ ys)) result reader.new zs) }
-    ensures device { IsErrOf result Device ↔ (S.failed from.new ≡ S.failed from.old + 1) }
-    ensures others { (IsErrOf result Device → ⊥) → S.failed from.new ≡ S.failed from.old }
+    ensures device { FailsOnce result Device (S.failed from.old) (S.failed from.new) }
 {
     let mut lines = Vec::new(alloc);
     'reading: loop {

@@ -1,7 +1,7 @@
 //! Input lines, replayed while they are read.
 
-ghost use Rattle.std.specs.Prelude.{◌≡◌, ◌+◌, ◌-◌, ◌^◌, ◌<◌, ◌≤◌, ◌↔◌, Bool, List, ◌++◌, All, length, true, IsTrue, IsSome, Some, IsErrOf};
-ghost use Rattle.base.specs.Devices.{Reads};
+ghost use Rattle.std.specs.Prelude.{◌≡◌, ◌-◌, ◌^◌, ◌<◌, ◌≤◌, ◌↔◌, Bool, List, ◌++◌, All, length, true, IsTrue, IsSome, Some};
+ghost use Rattle.base.specs.Devices.{Reads, FailsOnce};
 ghost use Rattle.graph.specs.Circuits.{IsWatched, Valuation, value_of, variable};
 ghost use Rattle.graph.specs.declared.circuit.Property.{Property as AProperty};
 ghost use Rattle.graph.specs.declared.parts.Parts.{Parts as AParts};
@@ -80,8 +80,7 @@ pub fn play_lines<S: Source>(
     requires in_range { All (λ a. variable a ≤ replay.old.circuit.max_var) watched.constraints.now }
     requires bad { variable watched.bad ≤ replay.old.circuit.max_var }
     ensures says { Reads (S.leaves from.old) (S.leaves from.new) (λ ys zs. (p : AProperty) (initial : List Bool) → IsWatched replay.old.circuit p watched.entry.bad → replay.old ≡ begun replay.old.circuit initial → Starts replay.old.circuit.latches initial → length initial ≡ length replay.old.circuit.latches → FindsWith (AreFound replay.old.circuit p initial) (items_at line_at (reader.old ++ ys)) result reader.new zs) }
-    ensures device { IsErrOf result Device ↔ (S.failed from.new ≡ S.failed from.old + 1) }
-    ensures others { (IsErrOf result Device → ⊥) → S.failed from.new ≡ S.failed from.old }
+    ensures device { FailsOnce result Device (S.failed from.old) (S.failed from.new) }
 {
     let mut some = false;
     'playing: loop {

@@ -1,7 +1,7 @@
 //! The text of a stimulus, read line by line.
 
-ghost use Rattle.std.specs.Prelude.{◌≡◌, ◌+◌, ◌-◌, ◌^◌, ◌<◌, ◌↔◌, ℕ, List, [], ◌++◌, IfOk, IsErrOf, length};
-ghost use Rattle.base.specs.Devices.{Reads};
+ghost use Rattle.std.specs.Prelude.{◌≡◌, ◌+◌, ◌-◌, ◌^◌, ◌<◌, ℕ, List, [], ◌++◌, IfOk, length};
+ghost use Rattle.base.specs.Devices.{Reads, FailsOnce};
 ghost use Rattle.scan.specs.Lists.{items_at};
 ghost use Rattle.stimulus.specs.Reading.{line_at, property_at, value_at};
 ghost use Rattle.replay.specs.Lines.{IsOfLine};
@@ -31,8 +31,7 @@ fn line_from<L: LineKind<Fault = StimFault>, S: Source>(
     requires line { IsOfLine (L.at context) }
     requires source { S.failed from.old < 2 ^ 64 - 1 }
     ensures says { Reads (S.leaves from.old) (S.leaves from.new) (λ ys zs. Finds (L.at context (pieces.old ++ ys)) result pieces.new zs) }
-    ensures device { IsErrOf result Device ↔ (S.failed from.new ≡ S.failed from.old + 1) }
-    ensures others { (IsErrOf result Device → ⊥) → S.failed from.new ≡ S.failed from.old }
+    ensures device { FailsOnce result Device (S.failed from.old) (S.failed from.new) }
 {
     let n = pieces.next(from)?;
     let (item, left) = match L::line(alloc, pieces.first(n), context) {
@@ -55,8 +54,7 @@ fn values_from<S: Source>(
 ) -> Result<(), TextError>
     requires source { S.failed from.old < 2 ^ 64 - 1 }
     ensures says { Reads (S.leaves from.old) (S.leaves from.new) (λ ys zs. Finds (items_at value_at (pieces.old ++ ys)) (with_values result line.new.items) pieces.new zs) }
-    ensures device { IsErrOf result Device ↔ (S.failed from.new ≡ S.failed from.old + 1) }
-    ensures others { (IsErrOf result Device → ⊥) → S.failed from.new ≡ S.failed from.old }
+    ensures device { FailsOnce result Device (S.failed from.old) (S.failed from.new) }
 {
     let n = pieces.next(from)?;
     let left = match items_into::<Values>(alloc, line, pieces.first(n), ()) {
@@ -80,8 +78,7 @@ fn input_from<S: Source>(
     requires source { S.failed from.old < 2 ^ 64 - 1 }
     ensures says { Reads (S.leaves from.old) (S.leaves from.new) (λ ys zs. Finds (line_at (pieces.old ++ ys)) (with_line result line.new.items) pieces.new zs) }
     ensures moves { IfOk result (λ _. length pieces.new + S.most from.new < length pieces.old + S.most from.old) }
-    ensures device { IsErrOf result Device ↔ (S.failed from.new ≡ S.failed from.old + 1) }
-    ensures others { (IsErrOf result Device → ⊥) → S.failed from.new ≡ S.failed from.old }
+    ensures device { FailsOnce result Device (S.failed from.old) (S.failed from.new) }
 {
     let n = pieces.next(from)?;
     let (there, left) = match line_or_end(alloc, line, pieces.first(n)) {
@@ -132,8 +129,7 @@ impl LineReader {
     pub fn status<S: Source>(&mut self, alloc: Global, from: &mut S) -> Result<Status, TextError>
         requires source { S.failed from.old < 2 ^ 64 - 1 }
         ensures says { Reads (S.leaves from.old) (S.leaves from.new) (λ ys zs. Finds (status_at (self.old ++ ys)) result self.new zs) }
-        ensures device { IsErrOf result Device ↔ (S.failed from.new ≡ S.failed from.old + 1) }
-        ensures others { (IsErrOf result Device → ⊥) → S.failed from.new ≡ S.failed from.old }
+        ensures device { FailsOnce result Device (S.failed from.old) (S.failed from.new) }
     {
         line_from::<StatusLine, S>(alloc, &mut self.pieces, &mut self.before, (), from)
     }
@@ -147,8 +143,7 @@ impl LineReader {
     ) -> Result<Property, TextError>
         requires source { S.failed from.old < 2 ^ 64 - 1 }
         ensures says { Reads (S.leaves from.old) (S.leaves from.new) (λ ys zs. Finds (property_at (self.old ++ ys)) result self.new zs) }
-        ensures device { IsErrOf result Device ↔ (S.failed from.new ≡ S.failed from.old + 1) }
-        ensures others { (IsErrOf result Device → ⊥) → S.failed from.new ≡ S.failed from.old }
+        ensures device { FailsOnce result Device (S.failed from.old) (S.failed from.new) }
     {
         line_from::<PropertyLine, S>(alloc, &mut self.pieces, &mut self.before, (), from)
     }
@@ -158,8 +153,7 @@ impl LineReader {
     pub fn dot<S: Source>(&mut self, alloc: Global, from: &mut S) -> Result<(), TextError>
         requires source { S.failed from.old < 2 ^ 64 - 1 }
         ensures says { Reads (S.leaves from.old) (S.leaves from.new) (λ ys zs. Finds (dot_at (self.old ++ ys)) result self.new zs) }
-        ensures device { IsErrOf result Device ↔ (S.failed from.new ≡ S.failed from.old + 1) }
-        ensures others { (IsErrOf result Device → ⊥) → S.failed from.new ≡ S.failed from.old }
+        ensures device { FailsOnce result Device (S.failed from.old) (S.failed from.new) }
     {
         line_from::<DotLine, S>(alloc, &mut self.pieces, &mut self.before, (), from)
     }
@@ -174,8 +168,7 @@ impl LineReader {
     ) -> Result<(), TextError>
         requires source { S.failed from.old < 2 ^ 64 - 1 }
         ensures says { Reads (S.leaves from.old) (S.leaves from.new) (λ ys zs. Finds (items_at value_at (self.old ++ ys)) (with_values result line.new.items) self.new zs) }
-        ensures device { IsErrOf result Device ↔ (S.failed from.new ≡ S.failed from.old + 1) }
-        ensures others { (IsErrOf result Device → ⊥) → S.failed from.new ≡ S.failed from.old }
+        ensures device { FailsOnce result Device (S.failed from.old) (S.failed from.new) }
     {
         values_from::<S>(alloc, &mut self.pieces, &mut self.before, line, from)
     }
@@ -192,8 +185,7 @@ impl LineReader {
         requires source { S.failed from.old < 2 ^ 64 - 1 }
         ensures says { Reads (S.leaves from.old) (S.leaves from.new) (λ ys zs. Finds (line_at (self.old ++ ys)) (with_line result line.new.items) self.new zs) }
         ensures moves { IfOk result (λ _. length self.new + S.most from.new < length self.old + S.most from.old) }
-        ensures device { IsErrOf result Device ↔ (S.failed from.new ≡ S.failed from.old + 1) }
-        ensures others { (IsErrOf result Device → ⊥) → S.failed from.new ≡ S.failed from.old }
+        ensures device { FailsOnce result Device (S.failed from.old) (S.failed from.new) }
     {
         input_from::<S>(alloc, &mut self.pieces, &mut self.before, line, from)
     }
@@ -202,8 +194,7 @@ impl LineReader {
     pub fn end<S: Source>(&mut self, from: &mut S) -> Result<(), TextError>
         requires source { S.failed from.old < 2 ^ 64 - 1 }
         ensures says { Reads (S.leaves from.old) (S.leaves from.new) (λ ys zs. Finds (end_at (self.old ++ ys)) result self.new zs) }
-        ensures device { IsErrOf result Device ↔ (S.failed from.new ≡ S.failed from.old + 1) }
-        ensures others { (IsErrOf result Device → ⊥) → S.failed from.new ≡ S.failed from.old }
+        ensures device { FailsOnce result Device (S.failed from.old) (S.failed from.new) }
     {
         let n = self.pieces.next(from)?;
         if n > 0 {

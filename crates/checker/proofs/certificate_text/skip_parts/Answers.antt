@@ -20,7 +20,6 @@ returns-in_err-skip_lemmas-in_default g c = record {
             (lemmas_stop c.args.version p c.args.count inv bytes e refused),
       );
   device = search rules;
-  others = search rules;
 }
 
 pub returns-in_err-skip_cases-in_default : goal.returns-in_err-skip_cases-in_default
@@ -38,7 +37,6 @@ returns-in_err-skip_cases-in_default g c = record {
             (sections_stop p c.args.count inv l (c.skip_lemmas.new.reader.held ++ zs) e refused)),
       );
   device = search rules;
-  others = search rules;
 }
 
 pub returns-in_ok-skip_cases-in_default : goal.returns-in_ok-skip_cases-in_default
@@ -57,5 +55,4 @@ returns-in_ok-skip_cases-in_default g c = record {
             (ss, is, refl)),
       );
   device = search rules;
-  others = search rules;
 }
