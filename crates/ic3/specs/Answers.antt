@@ -13,12 +13,12 @@ use Rattle.engine.specs.declared.finding.Reason.TheVariants.{Budget, Depth, NoEv
 use Rattle.states.specs.declared.state_lit.StateLit.{StateLit}
 use Rattle.ic3_step.specs.declared.step.Consecution.{Consecution}
 use Rattle.ic3_step.specs.declared.step.Consecution.TheVariants.{Held, Broken, Spent}
-use Rattle.states.specs.States.{Denies, IsPartOf, IsSet, IsTime}
+use Rattle.states.specs.States.{Denies, Holds, IsPartOf, IsSet, IsTime}
 use Rattle.ic3_step.specs.States.{IsAt}
 use Rattle.ic3_step.specs.Steps.{denials_of}
 use Rattle.ic3_frames.specs.declared.frames.Entry.{Entry}
 use Rattle.ic3_frames.specs.Clauses.{IsResetLit}
-use Rattle.ic3_frames.specs.Frames.{IsFalseAfter, IsStateClause, HoldsInitially, HoldsAfter, HoldsToward, HoldsOnward, Excludes, AreFrames, Levels}
+use Rattle.ic3_frames.specs.Frames.{InFrame, IsFalseAfter, IsStateClause, HoldsInitially, HoldsAfter, HoldsToward, HoldsOnward, Excludes, AreFrames, Levels}
 use Rattle.ic3.specs.declared.bad.AtBad.{AtBad}
 use Rattle.ic3.specs.declared.bad.AtBad.TheVariants.{Set, Excluded, Spent}
 use Rattle.ic3.specs.declared.blocking.Blocking.{Blocking}
@@ -113,12 +113,12 @@ pub record AreObligations (m : Parts) (os : List Obligation) : Type 0 where
 abbrev pub IsWay : Parts → Obligation → List (List Bool) → Type 0
 IsWay m o lines = (os : List Obligation) × (lines ≡ map (λ p. p.inputs) (o ∷ os)) × All (IsObligation m) (o ∷ os) × ReachBad m (o ∷ os)
 
--- the states in which the clause is false are blocked, or no reset excludes all of them, or this time leads to one of them
-abbrev pub IsBlocking : Parts → List StateLit → Steps → Blocking → Type 0
-IsBlocking m c after Blocked = Unit {0}
-IsBlocking m c after Initial = All (λ a. IsResetLit m.latches a → ⊥) c
-IsBlocking m c after (Predecessor t) = (w : Valuation) × IsAt m (denials_of m.latches c) w t × Denies (next_state m w) c
-IsBlocking m c after Spent = after.left ≡ 0
+-- frame k excludes the states in which the clause is false, but the first frame; or no reset excludes all of them, or this time leads to one of them
+abbrev pub IsBlocking : Parts → List Entry → ℕ → List StateLit → Steps → Blocking → Type 0
+IsBlocking m entries k c after Blocked = 0 < k → (s : List Bool) → InFrame entries k s → Holds s c
+IsBlocking m entries k c after Initial = All (λ a. IsResetLit m.latches a → ⊥) c
+IsBlocking m entries k c after (Predecessor t) = (w : Valuation) × IsAt m (denials_of m.latches c) w t × Denies (next_state m w) c
+IsBlocking m entries k c after Spent = after.left ≡ 0
 
 -- a time in frame k at which the bad literal is true, or that there is none
 abbrev pub IsAtBad : Parts → List Entry → ℕ → Steps → AtBad → Type 0

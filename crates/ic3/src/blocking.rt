@@ -6,7 +6,6 @@ ghost use Rattle.states.specs.States.{Holds, IsPartOf};
 ghost use Rattle.ic3_frames.specs.Frames.{InFrame, IsStateClause};
 ghost use Rattle.ic3.specs.Sound.{IsSound};
 ghost use Rattle.ic3.specs.Answers.{IsBefore, IsBlocking, IsInductiveFrom, IsLearned};
-ghost use Rattle.ic3.specs.declared.blocking.Blocking.TheVariants.{Blocked};
 
 use crate::frame_solver::FrameSolver;
 use crate::reset::reset_literal;
@@ -93,8 +92,7 @@ impl<S: PartSat> FrameSolver<S> {
         ensures top { frames.new.top ≡ frames.old.top }
         ensures spends { Spends budget.old budget.new }
         ensures sound { OnOk result (IsSound circuit.now self.new frames.new) }
-        ensures lawful { IfOk result (IsBlocking circuit.now clause.now budget.new) }
-        ensures blocked { IfOk result (λ r. r ≡ Blocked → 0 < level → (s : List Bool) → InFrame frames.new.entries level s → Holds s clause.now) }
+        ensures lawful { IfOk result (IsBlocking circuit.now frames.new.entries level clause.now budget.new) }
     {
         let Some(first) = reset_literal(circuit.latches(), clause) else {
             return Ok(Blocking::Initial);

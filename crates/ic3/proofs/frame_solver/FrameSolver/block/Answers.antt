@@ -8,7 +8,7 @@ learn-requires-clause-part g c =
     let law = subst (IsInductiveAnswer c.args.circuit.now c.args.frames.now.entries (c.args.level - 1) c.args.clause.now c.inductive.new.budget) c.in-Held.is c.in_ok-part.ensures.lawful in
     law.1
 
-pub returns-in_ok-learn-in-Held-clause-blocked : goal.returns-in_ok-learn-in-Held-clause-blocked
-returns-in_ok-learn-in-Held-clause-blocked g c = λ same pos s inside.
+pub returns-in_ok-learn-in-Held-clause-lawful : goal.returns-in_ok-learn-in-Held-clause-lawful
+returns-in_ok-learn-in-Held-clause-lawful g c = λ pos s inside.
     let back : c.args.level ≡ c.args.level - 1 + 1 = omega (arith, pos) in
     c.in_ok-learn-in-Held.ensures.held s (subst (λ n. InFrame c.learn.new.frames.entries n s) back inside)

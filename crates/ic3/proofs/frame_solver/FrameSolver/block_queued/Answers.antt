@@ -21,4 +21,7 @@ add_before-requires-clause-at g c = λ d.
     let a = c.index.result.now in
     let same : a ≡ get_or os index d = c.index.ensures ∙ get_or_default os index a d c.requires.index in
     let clause : c.as_slice-clause.result.now ≡ (get_or os index d).clause = c.as_slice-clause.ensures ∙ ap (λ (o : Obligation). o.clause) same in
-    subst (λ (cs : List StateLit). IsBlocking m cs c.block.new.budget (Predecessor c.in-Predecessor.time)) clause (subst (IsBlocking m c.as_slice-clause.result.now c.block.new.budget) c.in-Predecessor.is c.in_ok-block.ensures.lawful)
+    let entries = c.block.new.frames.entries in
+    let level = c.args.queued.0 in
+    subst (λ (cs : List StateLit). IsBlocking m entries level cs c.block.new.budget (Predecessor c.in-Predecessor.time)) clause
+    (subst (IsBlocking m entries level c.as_slice-clause.result.now c.block.new.budget) c.in-Predecessor.is c.in_ok-block.ensures.lawful)
