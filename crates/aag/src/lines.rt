@@ -45,7 +45,11 @@ fn literal<K: Copy>(
 /// A literal that defines its variable, and what follows the byte behind it.
 #[tactic(auto, unfolding(crate::specs::Lines::literal_at, scan::specs::Words::field_at))]
 #[inline(always)]
-fn defining(text: &[u8], max_var: u32, end: u8) -> Result<(Lit, &[u8]), Fault<ReadFault<NotDefining>>>
+fn defining(
+    text: &[u8],
+    max_var: u32,
+    end: u8,
+) -> Result<(Lit, &[u8]), Fault<ReadFault<NotDefining>>>
     requires { max_var ≤ GREATEST }
     ensures { Gives (λ x. (x.0, x.1.now)) result (literal_at max_var defines end text.now) }
 {

@@ -72,7 +72,12 @@ pub fn read_uses<L: Copy>(
     };
     let (outputs, rest) = lines::<UseLine<ReadFault<L>>>(alloc, header.outputs, text, line)?;
     let (bad, rest) = lines::<UseLine<ReadFault<L>>>(alloc, header.bad, rest, line)?;
-    let (constraints, rest) = lines::<UseLine<ReadFault<L>>>(alloc, header.constraints, rest, line)?;
+    let (constraints, rest) = lines::<UseLine<ReadFault<L>>>(
+        alloc,
+        header.constraints,
+        rest,
+        line,
+    )?;
     let (justice, rest) = justice(alloc, line, header.justice, rest)?;
     let (fairness, rest) = lines::<UseLine<ReadFault<L>>>(alloc, header.fairness, rest, line)?;
     let uses = Uses {

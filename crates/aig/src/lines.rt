@@ -16,7 +16,11 @@ impl DefinitionKind for Input {
 
     ghost at = { λ _. input_at };
 
-    fn item(text: &[u8], _max_var: u32, own: Lit) -> Result<(Lit, &[u8]), Fault<ReadFault<NoDelta>>> {
+    fn item(
+        text: &[u8],
+        _max_var: u32,
+        own: Lit,
+    ) -> Result<(Lit, &[u8]), Fault<ReadFault<NoDelta>>> {
         Ok((own, text))
     }
 }

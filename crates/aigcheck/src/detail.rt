@@ -1,7 +1,7 @@
 //! What standard error says beside the line of an answer or a fault.
 
-use crate::judging::Names;
 use crate::exit_error::{ExitError, Role, given};
+use crate::judging::Names;
 use checker::RunError;
 use explanations::{Printable, is_at_byte, meaning, other_format, position_behind};
 use graph::{AigerFile, Property, ReadError};

@@ -4,8 +4,8 @@ ghost use Rattle.std.specs.Prelude.{◌≡◌, None, IfSome, false};
 
 use crate::counts::{Counts, Shown};
 use crate::detail::{number_of, put_line, tell_circuit, tell_meaning, tell_symbol};
-use crate::judging::{Names, answer_in_memory, judge, text_of};
 use crate::exit_error::{ExitError, Role, given, opened};
+use crate::judging::{Names, answer_in_memory, judge, text_of};
 use crate::reporting::{Said, put_shown};
 use crate::status::FAULT;
 use aiger::read;

@@ -32,9 +32,9 @@
 
 mod counts;
 mod detail;
+mod exit_error;
 mod folder;
 mod judging;
-mod exit_error;
 mod reporting;
 mod status;
 mod words;
@@ -43,11 +43,11 @@ use base::push;
 use clap::error::ErrorKind;
 use clap::{ArgMatches, Error};
 use detail::tell_file;
+use exit_error::{ExitError, fault, given};
 use explanations::explained;
 use folder::all;
 use inputs::is_standard;
 use judging::{Names, Question};
-use exit_error::{ExitError, fault, given};
 use properties::Evidence;
 use property_names::{Asked, asked_by};
 use status::{FAULT, YES, status_of};

@@ -1,6 +1,6 @@
 //! The second line of a fault: which file it is about, and why.
 
-use aigmc_files::{DEVICE, Has, NO_HEADER, Role, ExitError, is_terminal};
+use aigmc_files::{DEVICE, ExitError, Has, NO_HEADER, Role, is_terminal};
 use arguments::{Asked, Request};
 use base::{FromRead, read_to_end};
 use explanations::{is_at_byte, meaning, other_format, position_behind};

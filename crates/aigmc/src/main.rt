@@ -89,7 +89,7 @@ use aigmc_circuits::{
     Pair, extract, make_fitting, make_shadow, make_witness, make_witness_circuit, trace,
 };
 use aigmc_commands::{begin, certify_clauses, check, check_all, check_miter, cover};
-use aigmc_files::{DONE, FAULT, ExitError, circuit, finished, print_table, stimulus_of, tell};
+use aigmc_files::{DONE, ExitError, FAULT, circuit, finished, print_table, stimulus_of, tell};
 use arguments::{AskedLayout, Request, Search, UsageError, parse};
 use base::push;
 use detail::tell_detail;

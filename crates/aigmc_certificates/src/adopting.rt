@@ -4,8 +4,8 @@ use crate::counterexample::tell_counterexample;
 use crate::extending::claimed_over;
 use crate::third::{NO_INVARIANT, kept};
 use aigmc_files::{
-    DONE, EvidenceFile, Role, ExitError, UNKNOWN, about, asked_for, circuit, circuit_of, is_taken, keep,
-    property_in, read_of, read_text,
+    DONE, EvidenceFile, ExitError, Role, UNKNOWN, about, asked_for, circuit, circuit_of, is_taken,
+    keep, property_in, read_of, read_text,
 };
 use arguments::Claim;
 use base::{Budget, Seq};

@@ -1,6 +1,6 @@
 //! The latches and gates that a circuit has beyond another one.
 
-use aigmc_files::{Claimed, Role, ExitError, about, listed};
+use aigmc_files::{Claimed, ExitError, Role, about, listed};
 use base::{Refused, Seq};
 use certificate3::{Claim, Format};
 use graph::{Lit, Model, Property};

@@ -6,7 +6,7 @@ ghost use Rattle.certify3.specs.declared.counterexample.Case.TheVariants.{First,
 
 use crate::counterexample::{Values, tell_case};
 pub use aigmc_files::UNKNOWN;
-use aigmc_files::{Claimed, DONE, Role, ExitError, about, make_bytes};
+use aigmc_files::{Claimed, DONE, ExitError, Role, about, make_bytes};
 use base::{Budget, Refused, Seq};
 use certify::Case as EarlierCase;
 use certify3::{Case, Certified, Counterexample, Extension, certify};

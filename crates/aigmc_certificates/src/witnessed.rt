@@ -4,7 +4,7 @@ use crate::conditions::first_failing;
 use crate::counterexample::{Values, tell_inputs, tell_state, tell_step};
 use crate::third::{NO_INVARIANT, Outcome, UNKNOWN, outcome_of, values_of};
 use aigmc_files::{
-    Claimed, DONE, Role, ExitError, about, asked_for, circuit, circuit_of, is_taken, property_in,
+    Claimed, DONE, ExitError, Role, about, asked_for, circuit, circuit_of, is_taken, property_in,
 };
 use arguments::Adoption;
 use base::{Budget, Refused, Seq};

@@ -2,8 +2,8 @@
 
 use aiger::Layout;
 use aigmc_files::{
-    Claimed, DONE, Fitted, Role, ExitError, about, circuit, claimed_in, expect_safety, fitted_witness,
-    is_same, make, path_of, refused_text,
+    Claimed, DONE, ExitError, Fitted, Role, about, circuit, claimed_in, expect_safety,
+    fitted_witness, is_same, make, path_of, refused_text,
 };
 use arguments::WitnessCircuit;
 use base::FromBytes;
@@ -104,13 +104,22 @@ fn witness_in(
 }
 
 /// The same of the circuit and the certificate in the files that are named.
-fn witness_of(rt: &HostRuntime, asked: WitnessCircuit<'_>, layout: Layout) -> Result<Fitted, ExitError> {
+fn witness_of(
+    rt: &HostRuntime,
+    asked: WitnessCircuit<'_>,
+    layout: Layout,
+) -> Result<Fitted, ExitError> {
     let file = circuit(rt, asked.file)?;
     witness_in(rt, asked.certificate, file.model(), layout)
 }
 
 /// Makes the file of that name with the witness circuit.
-fn keep_witness(rt: &HostRuntime, out: &str, fitted: &Fitted, layout: Layout) -> Result<u8, ExitError> {
+fn keep_witness(
+    rt: &HostRuntime,
+    out: &str,
+    fitted: &Fitted,
+    layout: Layout,
+) -> Result<u8, ExitError> {
     make(rt, out, &fitted.file, layout)?;
     Ok(DONE)
 }

@@ -2,7 +2,7 @@
 
 use aiger::Layout;
 use aigmc_files::{
-    Role, ExitError, at, circuit, circuit_of, expect_folder, is_taken, is_terminal, make,
+    ExitError, Role, at, circuit, circuit_of, expect_folder, is_taken, is_terminal, make,
 };
 use graph::{AigerFile, Model, Property};
 use inputs::is_standard;
@@ -51,7 +51,12 @@ impl Pair<'_> {
     }
 
     /// Refuses two circuits of which the inputs, outputs or bad literals are not as many, or that have nothing to compare.
-    fn expect_comparable(self, rt: &HostRuntime, one: &Model, other: &Model) -> Result<(), ExitError> {
+    fn expect_comparable(
+        self,
+        rt: &HostRuntime,
+        one: &Model,
+        other: &Model,
+    ) -> Result<(), ExitError> {
         self.expect_same(rt, "inputs", one.inputs().len(), other.inputs().len())?;
         self.expect_same(rt, "outputs", one.outputs().len(), other.outputs().len())?;
         self.expect_same(rt, "bad literals", one.bad().len(), other.bad().len())?;

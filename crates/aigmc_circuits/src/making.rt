@@ -2,7 +2,7 @@
 
 use aiger::Layout;
 use aigmc_files::{
-    DONE, Fitted, Role, ExitError, about, asked_for, circuit, fault_of, is_same, make, path_of,
+    DONE, ExitError, Fitted, Role, about, asked_for, circuit, fault_of, is_same, make, path_of,
     property_in,
 };
 use arguments::{Extraction, Shadow};
@@ -102,7 +102,11 @@ fn part_asked(
 }
 
 /// The same of the circuit in the file that is named.
-fn part_in(rt: &HostRuntime, asked: Extraction<'_>, word: Asked<'_>) -> Result<AigerFile, ExitError> {
+fn part_in(
+    rt: &HostRuntime,
+    asked: Extraction<'_>,
+    word: Asked<'_>,
+) -> Result<AigerFile, ExitError> {
     let file = circuit(rt, asked.file)?;
     part_asked(rt, asked, word, &file)
 }

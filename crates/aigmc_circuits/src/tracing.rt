@@ -1,6 +1,8 @@
 //! The command `trace`.
 
-use aigmc_files::{DONE, ExitError, circuit, is_same, make_waveform, path_of, print_trace, shown_of};
+use aigmc_files::{
+    DONE, ExitError, circuit, is_same, make_waveform, path_of, print_trace, shown_of,
+};
 use graph::AigerFile;
 use inputs::is_standard;
 

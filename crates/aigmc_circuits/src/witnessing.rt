@@ -1,8 +1,8 @@
 //! The command `witness`: a counterexample of another tool becomes a strict stimulus.
 
 use aigmc_files::{
-    DONE, Role, ExitError, about, asked_for, circuit, finished, is_taken, make_bytes, make_stimulus,
-    property_in, read_of, read_text,
+    DONE, ExitError, Role, about, asked_for, circuit, finished, is_taken, make_bytes,
+    make_stimulus, property_in, read_of, read_text,
 };
 use arguments::Counterexample;
 use graph::{AigerFile, Model, Property};

@@ -6,9 +6,9 @@ ghost use Rattle.portfolio.specs.Conclusions.{status_in};
 use crate::showing::Found;
 use crate::timing::{ask, begin, is_vacuous, now};
 use aigmc_files::{
-    CommandError, DONE, EvidenceFile, Fitted, Role, ExitError, UNKNOWN, VIOLATED, about, asked_for, at,
-    circuit, expect_folder, expect_safety, expect_witness_file, fault_of, is_taken, property_in,
-    witness_in,
+    CommandError, DONE, EvidenceFile, ExitError, Fitted, Role, UNKNOWN, VIOLATED, about, asked_for,
+    at, circuit, expect_folder, expect_safety, expect_witness_file, fault_of, is_taken,
+    property_in, witness_in,
 };
 use arguments::{Kept, Search};
 use base::Seq;
@@ -386,7 +386,11 @@ fn check_next(
 
 /// Looks for evidence about each of these properties in turn, and answers the status of all. Where there are none,
 /// standard error says so.
-fn check_each(rt: &HostRuntime, whole: Whole<'_>, properties: &[Property]) -> Result<u8, ExitError> {
+fn check_each(
+    rt: &HostRuntime,
+    whole: Whole<'_>,
+    properties: &[Property],
+) -> Result<u8, ExitError> {
     let mut clauses = Seq::new(rt.alloc());
     let mut status = first_status(properties);
     if properties.is_empty() {

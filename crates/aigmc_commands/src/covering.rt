@@ -2,7 +2,7 @@
 
 use crate::telling::Why;
 use crate::timing::{ask, begin};
-use aigmc_files::{DONE, Role, ExitError, UNKNOWN, about, circuit, print_stimulus};
+use aigmc_files::{DONE, ExitError, Role, UNKNOWN, about, circuit, print_stimulus};
 use arguments::Search;
 use base::Seq;
 use engine::Reason;

@@ -6,8 +6,8 @@ ghost use Rattle.aigmc_commands.specs.Words.{checked_word, verdict_word};
 
 use crate::telling::{CountedWhy, Why, conclude, tell_counters};
 use aigmc_files::{
-    DONE, EvidenceFile, ExitError, UNKNOWN, finished, keep, keep_and_print, make_bytes, print_alone,
-    print_status, status_of,
+    DONE, EvidenceFile, ExitError, UNKNOWN, finished, keep, keep_and_print, make_bytes,
+    print_alone, print_status, status_of,
 };
 use arguments::Search;
 use engine::Counter;

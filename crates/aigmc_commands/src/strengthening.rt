@@ -3,7 +3,7 @@
 use crate::telling::conclude;
 use crate::timing::{ask, begin};
 use aigmc_certificates::{Adopted, NO_INVARIANT};
-use aigmc_files::{DONE, EvidenceFile, Role, ExitError, UNKNOWN, about, keep};
+use aigmc_files::{DONE, EvidenceFile, ExitError, Role, UNKNOWN, about, keep};
 use arguments::{Claim, EngineKind, Search};
 use base::Seq;
 use graph::{AigerFile, Lit, Property};

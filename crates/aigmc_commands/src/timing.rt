@@ -1,7 +1,7 @@
 //! How a command looks at a question.
 
 use crate::vacuity;
-use aigmc_files::{CommandError, Role, ExitError, about, finished, is_terminal};
+use aigmc_files::{CommandError, ExitError, Role, about, finished, is_terminal};
 use arguments::Search;
 use base::Seq;
 use graph::{Lit, Model};

@@ -1,7 +1,7 @@
 //! What a certificate of any version claims.
 
+use crate::exit_error::{ExitError, Role, about, read_of};
 use crate::files::read_text;
-use crate::exit_error::{Role, ExitError, about, read_of};
 use base::{FromBytes, Lists, Refused, Seq};
 use certificate::{Reader, ReaderError, read_clauses};
 use certificate3::{

@@ -276,7 +276,9 @@ impl ExitError {
             ExitError::Refused(error) if is_of_text(error.number()) => {
                 refused_at(role, error.number(), error.place())
             }
-            ExitError::Fault { number, place } if is_of_text(number) => refused_at(role, number, place),
+            ExitError::Fault { number, place } if is_of_text(number) => refused_at(
+                role, number, place,
+            ),
             stop => stop,
         }
     }

@@ -4,9 +4,9 @@ ghost use Rattle.std.specs.Prelude.{◌≡◌, ◌≢◌, IfOk, Ok, codes};
 ghost use Rattle.verdict.specs.Verdicts.{status_of as wanted_status};
 
 use crate::command_error::CommandError;
+use crate::exit_error::{DONE, ExitError, Role, about, at, finished, read_of};
 use crate::fitted::EvidenceFile;
 use crate::making::{Making, is_same};
-use crate::exit_error::{DONE, Role, ExitError, about, at, finished, read_of};
 use aiger::{Layout, load, put_file};
 use base::{FromRead, ReadAllError, Refused, Seq, ToWrite, buffered, read_all};
 use graph::{AigerFile, Model, Property};
@@ -179,7 +179,12 @@ fn write_circuit<W: Write + Drop>(
 }
 
 /// Makes the file of this name with the circuit's text.
-pub fn make(rt: &HostRuntime, name: &str, file: &AigerFile, layout: Layout) -> Result<(), ExitError> {
+pub fn make(
+    rt: &HostRuntime,
+    name: &str,
+    file: &AigerFile,
+    layout: Layout,
+) -> Result<(), ExitError> {
     if is_standard(name) {
         return write_circuit(rt, io::writer(rt), file, layout);
     }
@@ -224,7 +229,11 @@ pub fn keep(
 }
 
 /// Writes the stimulus's text.
-fn write_stimulus<W: Write + Drop>(rt: &HostRuntime, out: W, shown: &Stimulus) -> Result<(), ExitError> {
+fn write_stimulus<W: Write + Drop>(
+    rt: &HostRuntime,
+    out: W,
+    shown: &Stimulus,
+) -> Result<(), ExitError> {
     let out = buffered(rt.alloc(), out)?;
     let mut out = ToWrite::new(out);
     let put = stimulus::write(shown, &mut out).map_err(|_| CommandError::Device);
@@ -251,7 +260,11 @@ pub fn make_bytes(rt: &HostRuntime, name: &str, bytes: &[u8]) -> Result<(), Exit
 }
 
 /// Prints the values in the replay of a stimulus.
-pub fn print_table(rt: &HostRuntime, file: &AigerFile, stimulus: &Stimulus) -> Result<(), ExitError> {
+pub fn print_table(
+    rt: &HostRuntime,
+    file: &AigerFile,
+    stimulus: &Stimulus,
+) -> Result<(), ExitError> {
     let out = buffered(rt.alloc(), io::writer(rt))?;
     let mut out = ToWrite::new(out);
     let put = put_table(rt.alloc(), file.model(), stimulus, &mut out).map_err(CommandError::from);

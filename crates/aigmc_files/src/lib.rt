@@ -6,17 +6,21 @@
 
 mod claimed;
 mod command_error;
+mod exit_error;
 mod files;
 mod fitted;
 mod making;
 mod missing;
 mod naming;
-mod exit_error;
 mod terminal;
 mod witnessing;
 
 pub use claimed::{Claimed, claimed_in, listed, refused_text};
 pub use command_error::CommandError;
+pub use exit_error::{
+    DEVICE, DONE, ExitError, FAULT, Has, NO_HEADER, NO_PROPERTY, Role, about, at, finished,
+    read_of, tell,
+};
 pub use files::{
     Shown, UNKNOWN, VIOLATED, circuit, circuit_of, is_taken, keep, keep_and_print, make,
     make_bytes, make_stimulus, make_waveform, path_of, print_alone, print_status, print_stimulus,
@@ -26,9 +30,5 @@ pub use fitted::{EvidenceFile, Fitted};
 pub use making::{expect_folder, is_same};
 pub use missing::fault_of;
 pub use naming::{asked_for, property_in};
-pub use exit_error::{
-    DEVICE, DONE, FAULT, Has, NO_HEADER, NO_PROPERTY, Role, ExitError, about, at, finished, read_of,
-    tell,
-};
 pub use terminal::is_terminal;
 pub use witnessing::{expect_safety, expect_witness_file, fitted_witness, witness_in};

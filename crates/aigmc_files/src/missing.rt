@@ -1,6 +1,6 @@
 //! The fault of a property that a circuit does not have.
 
-use crate::exit_error::{Has, NO_PROPERTY, ExitError};
+use crate::exit_error::{ExitError, Has, NO_PROPERTY};
 use graph::{Model, Property};
 use properties::all_properties;
 use std::alloc::Global;

@@ -1,9 +1,9 @@
 //! The witness circuits of what shows a property.
 
 use crate::claimed::listed;
+use crate::exit_error::{ExitError, Role, about};
 use crate::files::is_taken;
 use crate::fitted::Fitted;
-use crate::exit_error::{Role, ExitError, about};
 use aiger::Layout;
 use base::{Lists, Seq};
 use graph::{Gate, Latch, Lit, Model, Property};

@@ -8,12 +8,12 @@ mod adopting;
 mod grammar;
 mod layouts;
 mod request;
+mod usage_error;
 mod witnessing;
 mod words;
-mod usage_error;
 
 pub use adopting::{Adoption, Claim, Extraction, Recertification, Shadow, WitnessCircuit};
 pub use layouts::AskedLayout;
 pub use request::{Asked, EngineKind, Kept, Request, Search, parse};
-pub use witnessing::Counterexample;
 pub use usage_error::UsageError;
+pub use witnessing::Counterexample;

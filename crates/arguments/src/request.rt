@@ -12,9 +12,9 @@ use crate::adopting::{
 };
 use crate::grammar::command;
 use crate::layouts::{AskedLayout, asked_layout};
+use crate::usage_error::UsageError;
 use crate::witnessing::{Counterexample, asked_witness};
 use crate::words::{STEPS, word};
-use crate::usage_error::UsageError;
 use clap::ArgMatches;
 use std::alloc::Global;
 

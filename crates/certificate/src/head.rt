@@ -3,7 +3,7 @@
 ghost use Rattle.scan.specs.Reading.{Gives};
 ghost use Rattle.certificate.specs.Reading.{first_line_at, version_at, property_at, spaced_at, literals_at, clause_at};
 
-use crate::cert_fault::{IN_LINE, IN_PROPERTY, IN_VERSION, CertFault};
+use crate::cert_fault::{CertFault, IN_LINE, IN_PROPERTY, IN_VERSION};
 use base::Seq;
 use graph::{Lit, MOST_VARIABLES, Property};
 use scan::{Fault, LineKind, byte, field, lines_into, number, tag};
@@ -134,7 +134,11 @@ impl LineKind for ClauseLine {
 
     ghost at = { λ _ bytes. clause_at bytes };
 
-    fn line(alloc: Global, text: &[u8], _context: ()) -> Result<(Seq<Lit>, &[u8]), Fault<CertFault>> {
+    fn line(
+        alloc: Global,
+        text: &[u8],
+        _context: (),
+    ) -> Result<(Seq<Lit>, &[u8]), Fault<CertFault>> {
         let mut clause = Vec::new(alloc);
         let rest = clause_into(alloc, &mut clause, text)?;
         Ok((Seq::from_vec(clause), rest))

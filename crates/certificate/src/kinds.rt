@@ -5,8 +5,8 @@ ghost use Rattle.scan.specs.Words.{any, field_at};
 ghost use Rattle.certificate.specs.Reading.{first_line_at, greatest, property_at};
 ghost use Rattle.certificate.specs.Streams.{letter_at, letter_of};
 
+use crate::cert_fault::{CertFault, IN_LETTER, IN_LINE};
 use crate::head::{GREATEST, Version, first_line, property};
-use crate::cert_fault::{IN_LETTER, IN_LINE, CertFault};
 use graph::Property;
 use scan::{Fault, LineKind, byte, field};
 use std::alloc::Global;
@@ -52,7 +52,11 @@ impl LineKind for FirstLine {
 
     ghost at = { λ _ bytes. first_line_at bytes };
 
-    fn line(_alloc: Global, text: &[u8], _context: ()) -> Result<(Version, &[u8]), Fault<CertFault>> {
+    fn line(
+        _alloc: Global,
+        text: &[u8],
+        _context: (),
+    ) -> Result<(Version, &[u8]), Fault<CertFault>> {
         first_line(text)
     }
 }
@@ -114,7 +118,11 @@ impl LineKind for LetterLine {
     ghost at = { letter_at };
 
     #[tactic(auto, unfolding(crate::specs::Streams::letter_at))]
-    fn line(_alloc: Global, text: &[u8], kind: SectionKind) -> Result<((), &[u8]), Fault<CertFault>> {
+    fn line(
+        _alloc: Global,
+        text: &[u8],
+        kind: SectionKind,
+    ) -> Result<((), &[u8]), Fault<CertFault>> {
         let rest = byte(text, kind.letter(), IN_LETTER)?;
         let rest = byte(rest, b'\n', IN_LINE)?;
         Ok(((), rest))

@@ -18,6 +18,7 @@
 #![tactic(auto)]
 
 mod cert_error;
+mod cert_fault;
 mod cert_write_error;
 mod certificate;
 mod head;
@@ -26,12 +27,12 @@ mod limits;
 mod reader;
 mod reader_error;
 mod reading;
-mod cert_fault;
 mod sections;
 mod streaming;
 mod writing;
 
 pub use cert_error::CertError;
+pub use cert_fault::{CertFault, IN_LINE, IN_PROPERTY, IN_VERSION};
 pub use cert_write_error::CertWriteError;
 pub use certificate::Certificate;
 pub use head::{GREATEST, Version};
@@ -39,6 +40,5 @@ pub use kinds::SectionKind;
 pub use reader::Reader;
 pub use reader_error::ReaderError;
 pub use reading::read;
-pub use cert_fault::{IN_LINE, IN_PROPERTY, IN_VERSION, CertFault};
 pub use streaming::{read_clauses, skip_lines, skip_section, skip_sections};
 pub use writing::{put_clause, put_number, put_property, put_section, write};

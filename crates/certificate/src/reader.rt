@@ -12,10 +12,10 @@ ghost use Rattle.certificate.specs.Streams.{Finds, end_at, letter_at, with_line,
 ghost use Rattle.certificate.specs.declared.reader_error.ReaderError.TheVariants.{Device, Refused as IsRefused};
 
 use crate::cert_error::CertError;
+use crate::cert_fault::{CertFault, error};
 use crate::head::{Version, clause_into};
 use crate::kinds::{CountLine, FirstLine, LetterLine, PropertyLine, SectionKind};
 use crate::reader_error::ReaderError;
-use crate::cert_fault::{CertFault, error};
 use crate::sections::line_into;
 use base::{Refused, Source};
 use graph::{Lit, Property};

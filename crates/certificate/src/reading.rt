@@ -7,9 +7,9 @@ ghost use Rattle.certificate.specs.Texts.{IsRead, SpellsCertificate};
 ghost use Rattle.certificate.specs.declared.certificate.Certificate.{Certificate as Spelled};
 
 use crate::cert_error::CertError;
+use crate::cert_fault::{CertFault, IN_LINE, error};
 use crate::certificate::Certificate;
 use crate::head::{ClauseLine, GREATEST, first_line, property};
-use crate::cert_fault::{IN_LINE, CertFault, error};
 use crate::sections::{lemmas, sections};
 use base::Seq;
 use scan::{Fault, field, lines};

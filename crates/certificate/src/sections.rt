@@ -5,8 +5,8 @@ ghost use Rattle.scan.specs.Reading.{Gives};
 ghost use Rattle.scan.specs.Lists.{items_at};
 ghost use Rattle.certificate.specs.Reading.{item_at, lemmas_at, line_where, section_at, sections_at};
 
+use crate::cert_fault::{CertFault, IN_LETTER, IN_LINE};
 use crate::head::Version;
-use crate::cert_fault::{IN_LETTER, IN_LINE, CertFault};
 use base::{Refused, Seq, push};
 use lrat::{Line, LineBuffer, Proof, next_line};
 use scan::{Fault, LineKind, byte, lines};

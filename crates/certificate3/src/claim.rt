@@ -3,7 +3,7 @@
 ghost use Rattle.scan.specs.Reading.{Gives};
 ghost use Rattle.certificate3.specs.Reading.{claim_at};
 
-use certificate::{IN_PROPERTY, CertFault};
+use certificate::{CertFault, IN_PROPERTY};
 use graph::Property;
 use scan::{Fault, byte, field};
 

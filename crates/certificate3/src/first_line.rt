@@ -3,7 +3,7 @@
 ghost use Rattle.scan.specs.Reading.{Gives};
 ghost use Rattle.certificate3.specs.Formats.{digit_at, format_at};
 
-use certificate::{IN_VERSION, CertFault, Version};
+use certificate::{CertFault, IN_VERSION, Version};
 use scan::{Fault, LineKind, byte, tag};
 use std::alloc::Global;
 
@@ -46,7 +46,11 @@ impl LineKind for AnyFirstLine {
     ghost at = { λ _ bytes. format_at bytes };
 
     #[tactic(auto, unfolding(crate::specs::Formats::format_at))]
-    fn line(_alloc: Global, text: &[u8], _context: ()) -> Result<(Format, &[u8]), Fault<CertFault>> {
+    fn line(
+        _alloc: Global,
+        text: &[u8],
+        _context: (),
+    ) -> Result<(Format, &[u8]), Fault<CertFault>> {
         let rest = tag(text, b"aigcert ", IN_VERSION)?;
         let (format, rest) = digit(rest)?;
         let rest = byte(rest, b'\n', IN_VERSION)?;

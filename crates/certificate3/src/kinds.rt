@@ -6,7 +6,7 @@ ghost use Rattle.certificate3.specs.Reading.{claim_at, first_line_at, gate_at, h
 use crate::claim::{Claim, read_claim};
 use crate::sizes::Sizes;
 use base::Seq;
-use certificate::{GREATEST, IN_LINE, IN_VERSION, CertFault};
+use certificate::{CertFault, GREATEST, IN_LINE, IN_VERSION};
 use graph::{Gate, Latch, Lit};
 use scan::{Fault, LineKind, byte, field, lines, number, tag};
 use std::alloc::Global;
@@ -175,7 +175,11 @@ impl LineKind for HintsLine {
     ghost at = { λ _ bytes. hints_at bytes };
 
     #[tactic(auto, unfolding(crate::specs::Reading::hints_at))]
-    fn line(alloc: Global, text: &[u8], _context: ()) -> Result<(Seq<u32>, &[u8]), Fault<CertFault>> {
+    fn line(
+        alloc: Global,
+        text: &[u8],
+        _context: (),
+    ) -> Result<(Seq<u32>, &[u8]), Fault<CertFault>> {
         let (count, rest) = number(text, GREATEST, IN_LINE)?;
         ids(alloc, count, rest)
     }

@@ -8,8 +8,8 @@ ghost use Rattle.certify3.specs.ProveErrors.{IsProveError};
 
 use crate::counterexample::{Case, Counterexample};
 use crate::formulas::{bad_formula, begin_formula, pair_formula};
-use crate::prove_error::ProveError;
 use crate::numbering::Numbering;
+use crate::prove_error::ProveError;
 use crate::showing::{Kind, Timed, show};
 use crate::subject::Subject;
 use base::{Budget, Lists};

@@ -11,10 +11,10 @@ ghost use Rattle.cdcl_log.specs.Logged.{with_units};
 ghost use Rattle.certify3.specs.ProveErrors.{IsProveErrorAt, IsProveErrorOf, case_of};
 
 use crate::counterexample::{Case, Counterexample};
-use crate::prove_error::ProveError;
 use crate::hinting::Known;
 use crate::near::Nearby;
 use crate::numbering::Numbering;
+use crate::prove_error::ProveError;
 use crate::sweeping::sweep_pairs;
 use base::{Budget, Lists, Refused, Seq, push};
 use cdcl::{Closing, Refuter, Shown as Found};

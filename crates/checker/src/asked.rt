@@ -10,7 +10,10 @@ use graph::Property;
 const ANOTHER_PROPERTY: u8 = 30;
 
 /// The answer to a question about this property: a yes to another one becomes a no.
-pub fn about(property: Property, answer: Result<Property, AnswerError>) -> Result<Property, AnswerError>
+pub fn about(
+    property: Property,
+    answer: Result<Property, AnswerError>,
+) -> Result<Property, AnswerError>
     ensures says { MatchResult result (λ p. (p ≡ property) × (answer ≡ Ok p)) (λ s. (answer ≡ Err s) ⊎ ((s ≡ No 30) × IsOkAnd answer (λ p. p ≢ property))) }
     ensures device { (result ≡ Err Device) ↔ (answer ≡ Err Device) }
 {

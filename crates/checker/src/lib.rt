@@ -29,6 +29,7 @@
 #![tactic(auto)]
 
 mod acceptance;
+mod answer_error;
 mod asked;
 mod case_text;
 mod certificate_text;
@@ -42,7 +43,6 @@ mod replayed;
 mod run_error;
 mod section_text;
 mod sections;
-mod answer_error;
 
 pub use acceptance::check;
 pub use certified::{run_safe, run_safe_for};

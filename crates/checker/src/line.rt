@@ -6,8 +6,8 @@ ghost use Rattle.checker.specs.Lines.{BeginsToTell, Tells, yes_line as yes_text,
 ghost use Rattle.checker.specs.declared.answer_error.AnswerError.TheVariants.{Device as Failure};
 ghost use Rattle.checker.specs.declared.run_error.RunError.TheVariants.{Device};
 
-use crate::run_error::RunError;
 use crate::answer_error::AnswerError;
+use crate::run_error::RunError;
 use base::{Refused, Sink, extend, push, put_all};
 use graph::Property;
 use itoa::Buffer;

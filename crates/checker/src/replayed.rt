@@ -14,10 +14,10 @@ ghost use Rattle.checker.specs.declared.line.Question.TheVariants.{Run};
 ghost use Rattle.checker.specs.declared.answer_error.AnswerError.TheVariants.{Device as Failure};
 ghost use Rattle.checker.specs.declared.run_error.RunError.TheVariants.{Device};
 
+use crate::answer_error::AnswerError;
 use crate::asked::about;
 use crate::line::{Question, tell};
 use crate::run_error::RunError;
-use crate::answer_error::AnswerError;
 use aiger::load;
 use base::{Sink, Source};
 use graph::{AigerFile, Property};

@@ -12,9 +12,9 @@ ghost use Rattle.certificate.specs.declared.reader_error.ReaderError.TheVariants
 ghost use Rattle.certificate3.specs.Reading.{clauses_at, evidence_at, evidence_of, proofs_at};
 ghost use Rattle.checker3.specs.Judged.{IsJudgedFor, IsNoGrowth, IsProvedOver};
 
+use crate::check_error::CheckError;
 use crate::clauses::first_outside;
 use crate::growing::{GrowError, grow};
-use crate::check_error::CheckError;
 use crate::sections::{Claims, check_proofs};
 use base::Source;
 use certificate::{Reader, ReaderError, read_clauses};

@@ -9,15 +9,15 @@
 //!   Beside the circuit it holds the extended one, the clauses, those of one section, and one line.
 #![tactic(auto)]
 
+mod check_error;
 mod clauses;
 mod evidence;
 mod growing;
 mod laws;
 mod lines;
-mod check_error;
 mod sections;
 mod text;
 
-pub use laws::refused_law;
 pub use check_error::CheckError;
+pub use laws::refused_law;
 pub use text::{Outcome, check_behind, check_source};

@@ -12,8 +12,8 @@ ghost use Rattle.certificate3.specs.Reading.{certificate_at, evidence_at};
 ghost use Rattle.certificate3.specs.Texts.{Certificate as ACertificate, SpellsCertificate};
 ghost use Rattle.checker3.specs.Judged.{IsJudged, IsUnshowable};
 
-use crate::evidence::check_evidence;
 use crate::check_error::CheckError;
+use crate::evidence::check_evidence;
 use base::Source;
 use certificate::{Reader, ReaderError};
 use certificate3::{Claim, ClaimLine, FirstLine, skip_evidence};

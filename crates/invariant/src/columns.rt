@@ -7,8 +7,8 @@ ghost use Rattle.graph.specs.Symbols.{index_of};
 ghost use Rattle.invariant.specs.Plas.{columns_at, named_from, symbol_name};
 ghost use Rattle.invariant.specs.PlaReading.{is_symbol_of, name_by};
 
-use crate::names::{behind, behind_latch, own_name};
 use crate::invariant_fault::{IN_LINE, InvariantFault};
+use crate::names::{behind, behind_latch, own_name};
 use base::{Refused, copied, filled_like, push};
 use graph::{AigerFile, Latch, Symbol, SymbolKind};
 use scan::{Fault, tag};

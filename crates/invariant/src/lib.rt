@@ -13,11 +13,11 @@
 
 mod columns;
 mod invariant_error;
+mod invariant_fault;
 mod lines;
 mod names;
 mod pla;
 mod reading;
-mod invariant_fault;
 mod rows;
 
 pub use invariant_error::InvariantError;

@@ -8,8 +8,8 @@ ghost use Rattle.invariant.specs.Reading.{begins_certificate};
 ghost use Rattle.invariant.specs.Texts.{IsRead, OfCertificate, SpellsClauses, SpellsInvariant};
 
 use crate::invariant_error::InvariantError;
-use crate::lines::clauses;
 use crate::invariant_fault::error;
+use crate::lines::clauses;
 use base::Seq;
 use graph::Lit;
 use std::alloc::Global;

@@ -9,6 +9,7 @@ use arguments::EngineKind;
 use base::{Budget, Refused, Seq, boxed, push};
 use bmc::Bmc;
 use cdcl::Cdcl;
+use cone_of_influence::ConeOfInfluence;
 use correspondence::Corresponding;
 use engine::{Counters, Engine};
 use engine_random::Random;
@@ -141,14 +142,20 @@ impl Question<'_> {
         if search.engine.has_bounded() {
             let bounded = Bmc::new(timing.solver(alloc), depth);
             let bounded = bounded.with_progress(Reporter::new(rt, timing.shown));
-            let engine: Box<dyn Engine> = boxed(alloc, bounded)?;
+            let engine: Box<dyn Engine> = boxed(alloc, ConeOfInfluence::new(bounded))?;
             push(&mut engines, engine)?;
         }
         if search.engine.has_inductive() {
+            let is_whole = !candidates.is_empty();
             let inductive = Ic3::with_candidates(timing.solver(alloc), candidates);
             let inductive = inductive.with_progress(Reporter::new(rt, timing.shown));
-            let engine: Box<dyn Engine> = boxed(alloc, inductive)?;
-            push(&mut engines, engine)?;
+            if is_whole {
+                let engine: Box<dyn Engine> = boxed(alloc, inductive)?;
+                push(&mut engines, engine)?;
+            } else {
+                let engine: Box<dyn Engine> = boxed(alloc, ConeOfInfluence::new(inductive))?;
+                push(&mut engines, engine)?;
+            }
         }
         if search.engine == EngineKind::Random {
             let random = Random::new(search.seed, depth).with_watch(timing.deadline);

@@ -48,7 +48,11 @@ impl LineKind for StatusLine {
     ghost at = { λ _ bytes. status_at bytes };
 
     #[tactic(auto, unfolding(crate::specs::Reading::status_at))]
-    fn line(_alloc: Global, text: &[u8], _context: ()) -> Result<(Status, &[u8]), Fault<StimFault>> {
+    fn line(
+        _alloc: Global,
+        text: &[u8],
+        _context: (),
+    ) -> Result<(Status, &[u8]), Fault<StimFault>> {
         let (status, rest) = digit(text)?;
         let rest = byte(rest, b'\n', IN_STATUS)?;
         Ok((status, rest))

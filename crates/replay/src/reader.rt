@@ -17,7 +17,7 @@ use pieces::Pieces;
 use scan::{LineKind, items_into};
 use std::alloc::Global;
 use std::marker::Model;
-use stimulus::{StimFault, StimError, Values, text_error};
+use stimulus::{StimError, StimFault, Values, text_error};
 
 /// Reads the next line, of one kind.
 fn line_from<L: LineKind<Fault = StimFault>, S: Source>(

@@ -16,7 +16,7 @@ use Rattle.graph.proofs.Evaluation.{All-unmap}
 use Rattle.graph.proofs.Tabled.{holds_of_used}
 use Rattle.cnf.proofs.Safety.{watched_used}
 use Rattle.cones.specs.Marks.{IsMarked, IsKnown, AgreesOn, ConeLaw, ExistenceLaw}
-use Rattle.transforms.specs.Cones.{IsConeOf}
+use Rattle.sequential_cones.specs.Cones.{IsConeOf}
 use Rattle.transforms.specs.Extracted.{kept_latch, first_of, extract, AreAlike, StandsFor}
 use Rattle.transforms.proofs.Over.{filter_has}
 use Rattle.transforms.proofs.Followed.{MovesAlike, Follows, Pairs, Carried, same_value, pairs_map, pairs_all, carry}

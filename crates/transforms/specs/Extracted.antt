@@ -8,7 +8,7 @@ use Rattle.graph.specs.declared.parts.Parts.{Parts}
 use Rattle.graph.specs.Circuits.{at, IsWatched, position_of, IsRun, KeepsConstraints, IsSafe, Valuation, variable, place, value_of, state_of, inputs_of}
 use Rattle.transforms.specs.declared.error.TransformError.{TransformError}
 use Rattle.transforms.specs.declared.error.TransformError.TheVariants.{NoProperty, Circuit, Shadow, OutOfMemory, Name}
-use Rattle.transforms.specs.Cones.{IsConeOf}
+use Rattle.sequential_cones.specs.Cones.{IsConeOf}
 
 -- the latch where it is marked, and else one that keeps its value
 abbrev pub kept_latch : List Bool → Latch → Latch

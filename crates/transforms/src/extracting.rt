@@ -5,13 +5,13 @@ ghost use Rattle.graph.specs.declared.circuit.Lit.{Lit};
 ghost use Rattle.graph.specs.Circuits.{IsWatched, position_of, variable, place};
 ghost use Rattle.transforms.specs.Extracted.{HasCause, IsPartOf, IsUnmade, StandsFor, bad_of, extract, kept_latch, outputs_of};
 
-use crate::cone::{cone_of, is_marked};
 use crate::error::TransformError;
 use crate::symbols::{add, name_others};
 use base::{Refused, Seq};
 use cones::value_laws;
 use graph::{AigerFile, Gate, Latch, Lit, Model, Parts, Property, ReadError, Symbol, SymbolKind};
 use property_names::symbol_of;
+use sequential_cones::{cone_of, is_marked};
 use std::alloc::Global;
 
 /// The literal that a property watches, where the circuit has that bad literal, or that output as one.

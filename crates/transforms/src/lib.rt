@@ -7,7 +7,6 @@
 //! - `relevant_clauses` are those over latches on which a property rests.
 #![tactic(auto)]
 
-mod cone;
 mod counting;
 mod covering;
 mod error;

@@ -2,11 +2,12 @@
 
 ghost use Rattle.std.specs.Prelude.{◌≡◌, [], IfOk, Some, None, filter};
 ghost use Rattle.graph.specs.declared.circuit.Lit.{Lit};
-ghost use Rattle.transforms.specs.Cones.{AreOverCone, is_over as is_over_of, literal_of};
+ghost use Rattle.sequential_cones.specs.Cones.{is_over as is_over_of};
+ghost use Rattle.transforms.specs.Cones.{AreOverCone, literal_of};
 
-use crate::cone::{cone_of, is_over};
 use base::{Refused, Seq};
 use graph::{Lit, Model, Property};
+use sequential_cones::{cone_of, is_over};
 use std::alloc::Global;
 
 /// The literal at the property's position among those of its kind.

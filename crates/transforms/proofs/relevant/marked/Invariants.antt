@@ -1,5 +1,5 @@
 use Rattle.std.proofs.Common.{◌≡◌, filter, take}
-use Rattle.transforms.specs.Cones.{is_over}
+use Rattle.sequential_cones.specs.Cones.{is_over}
 use Rattle.transforms.proofs.relevant.marked.Given as goal
 
 abbrev pub invariant-choosing : goal.invariant-choosing

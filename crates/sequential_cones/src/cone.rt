@@ -3,7 +3,7 @@
 ghost use Rattle.std.specs.Prelude.{◌≡◌, ◌≤◌, ◌↔◌, All, IfOk, IsTrue};
 ghost use Rattle.graph.specs.Circuits.{variable as variable_of, place};
 ghost use Rattle.cones.specs.Marks.{IsMarked};
-ghost use Rattle.transforms.specs.Cones.{IsConeOf, is_over as is_over_of};
+ghost use Rattle.sequential_cones.specs.Cones.{IsConeOf, is_over as is_over_of};
 
 use base::{Refused, filled, push};
 use graph::{Gate, Latch, Lit, Model};
@@ -87,9 +87,10 @@ impl Search {
     }
 }
 
-/// Marks what the literal and the constraints rest on.
+/// Marks the constant, and what the literal and the constraints rest on.
 fn searched(alloc: Global, circuit: &Model, watched: Lit) -> Result<Vec<bool>, Refused> {
     let mut search = Search::new(alloc, circuit)?;
+    search.mark(0)?;
     search.mark(watched.variable())?;
     search.mark_all(circuit.constraints())?;
     search.close()?;
@@ -154,17 +155,18 @@ fn are_closed_over(marks: &[bool], latches: &[Latch]) -> bool
     latches.iter().all(|latch| is_closed_over(marks, *latch))
 }
 
-/// Whether the literal, the constraints, and what the marked variables rest on are marked.
+/// Whether the constant, the literal, the constraints, and what the marked variables rest on are marked.
 fn is_cone(circuit: &Model, watched: Lit, marks: &[bool]) -> bool
     ensures { IsTrue result → IsConeOf circuit.now watched marks.now }
 {
-    is_marked(marks, watched.variable())
+    is_marked(marks, 0)
+        && is_marked(marks, watched.variable())
         && are_marked(marks, circuit.constraints())
         && are_closed_at(marks, circuit.gates())
         && are_closed_over(marks, circuit.latches())
 }
 
-/// The variables on which the literal and the constraints rest, at any time. It costs the circuit.
+/// The constant, and the variables on which the literal and the constraints rest, at any time. It costs the circuit.
 pub fn cone_of(alloc: Global, circuit: &Model, watched: Lit) -> Result<Vec<bool>, Refused>
     requires { variable_of watched ≤ circuit.now.max_var }
     ensures { IfOk result (λ marks. IsConeOf circuit.now watched marks.items) }

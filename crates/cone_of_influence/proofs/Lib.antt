@@ -1,0 +1,9 @@
+pub mod Numbered
+pub mod Valued
+pub mod Runs
+pub mod Filled
+pub mod Cases
+pub mod Laws
+pub mod Filling
+pub mod Kept
+pub mod Formed

@@ -1,0 +1,4 @@
+pub mod Numbers
+pub mod Reduced
+pub mod Laws
+pub mod Answered
