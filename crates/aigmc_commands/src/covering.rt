@@ -7,7 +7,7 @@ use arguments::Search;
 use base::Seq;
 use engine::Reason;
 use graph::{Model, Property};
-use portfolio::{Question, Timing};
+use portfolio::{Conclusion, Question, Timing};
 use stimulus::Stimulus;
 use transforms::{bad_behind, no_bad};
 use verdict::Verdict;
@@ -46,17 +46,25 @@ fn tell_unknown(rt: &HostRuntime, reason: Reason, is_over: bool) -> u8 {
     UNKNOWN
 }
 
+/// What is known of the circuit's first bad literal.
+fn verdict_on(rt: &HostRuntime, circuit: &Model, timing: Timing) -> Result<Verdict, ExitError> {
+    let question = Question {
+        circuit,
+        property: Property::Bad(0),
+        timing,
+    };
+    match ask(rt, question, Seq::new(rt.alloc()))?.conclusion {
+        Conclusion::Decided(verdict) => Ok(verdict),
+        // no rounds are counted of a bad literal
+        Conclusion::Counted(_) => unreachable!(),
+    }
+}
+
 /// What is known of the bad literal that is set behind so many steps.
 fn verdict_behind(rt: &HostRuntime, circuit: &Model, timing: Timing) -> Result<Verdict, ExitError> {
     let made = bad_behind(rt.alloc(), circuit, timing.search.depth).map_err(ExitError::from);
     let made = about(Role::Circuit, made)?;
-    let question = Question {
-        circuit: made.model(),
-        property: Property::Bad(0),
-        timing,
-    };
-    let answered = about(Role::Circuit, ask(rt, question, Seq::new(rt.alloc())))?;
-    Ok(answered.conclusion.into_verdict())
+    about(Role::Circuit, verdict_on(rt, made.model(), timing))
 }
 
 /// Prints a run of the circuit that keeps the constraints, as long as the search is deep.

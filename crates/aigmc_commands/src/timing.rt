@@ -1,5 +1,8 @@
 //! How a command looks at a question.
 
+ghost use Rattle.std.specs.Prelude.{IfOk};
+ghost use Rattle.portfolio.specs.Conclusions.{IsConcluded};
+
 use crate::vacuity;
 use aigmc_files::{CommandError, ExitError, Role, about, finished, is_terminal};
 use arguments::Search;
@@ -35,7 +38,9 @@ pub fn ask(
     rt: &HostRuntime,
     question: Question<'_>,
     candidates: Seq<Seq<Lit>>,
-) -> Result<Answered, ExitError> {
+) -> Result<Answered, ExitError>
+    ensures { IfOk result (λ a. IsConcluded question.circuit.now question.property a.conclusion) }
+{
     let answered = question.ask(rt, candidates).map_err(CommandError::from)?;
     Ok(answered)
 }

@@ -1,17 +1,18 @@
 -- What a conclusion says.
-use Rattle.std.specs.Prelude.{ℕ}
-use Rattle.engine.specs.declared.finding.Reason.TheVariants.{NoEvidence}
-use Rattle.verdict.specs.declared.verdict.Verdict.{Verdict}
-use Rattle.verdict.specs.declared.verdict.Verdict.TheVariants as verdict
-use Rattle.verdict.specs.Verdicts.{status_of}
+use Rattle.std.specs.Prelude.{◌≡◌, ℕ}
+use Rattle.graph.specs.declared.circuit.Property.{Property}
+use Rattle.graph.specs.declared.circuit.Property.TheVariants.{Justice}
+use Rattle.graph.specs.declared.parts.Parts.{Parts}
+use Rattle.verdict.specs.Verdicts.{IsBacked, status_of}
+use Rattle.rounds.specs.Counted.{IsBacked as AreBacked}
 use Rattle.rounds.specs.declared.counted.Counted.TheVariants as counted
 use Rattle.portfolio.specs.declared.conclusion.Conclusion.{Conclusion}
 use Rattle.portfolio.specs.declared.conclusion.Conclusion.TheVariants.{Decided, Counted}
 
--- the verdict, where no rounds were counted
-abbrev pub verdict_in : Conclusion → Verdict
-verdict_in (Decided v) = v
-verdict_in (Counted c) = verdict.Unknown NoEvidence
+-- what is known has its evidence, and rounds are those of a justice property
+abbrev pub IsConcluded : Parts → Property → Conclusion → Type 0
+IsConcluded m p (Decided v) = IsBacked m p v
+IsConcluded m p (Counted c) = (j : ℕ) × (p ≡ Justice j) × AreBacked m j c
 
 -- 0 where the property holds, 1 for a violation, 2 where nothing is known
 abbrev pub status_in : Conclusion → ℕ

@@ -1,2 +1,3 @@
 pub mod Conclusions
 pub mod Searched
+pub mod Shares

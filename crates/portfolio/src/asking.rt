@@ -1,13 +1,19 @@
 //! What the engines say of a property.
 
+ghost use Rattle.std.specs.Prelude.{◌≡◌, ◌≤◌, IfOk, IfSome};
+ghost use Rattle.portfolio.specs.Conclusions.{IsConcluded};
+ghost use Rattle.portfolio.specs.declared.conclusion.Conclusion.TheVariants as conclusion;
+ghost use Rattle.rounds.specs.Counted.{IsBacked as AreBacked};
+ghost use Rattle.verdict.specs.Verdicts.{IsBacked};
+
+use crate::beginning::Beginning;
 use crate::conclusion::Conclusion;
-use crate::merging::Merging;
+use crate::merging::{Merging, bounded_by};
 use crate::reporter::Reporter;
 use crate::timed::{Deadline, Timed};
 use crate::timing::Timing;
 use arguments::EngineKind;
 use base::{Budget, Refused, Seq, boxed, push};
-use bmc::Bmc;
 use cdcl::Cdcl;
 use cone_of_influence::ConeOfInfluence;
 use correspondence::Corresponding;
@@ -20,10 +26,16 @@ use std::alloc::Global;
 use verdict::{DecideError, Verdict, decide};
 
 /// Bounded search and IC3 are asked first with one of so many parts of the budget.
-const FIRST_PARTS: u64 = 16;
+const FIRST_PARTS: u64 = 8;
 
 /// How many steps they may take at most then.
-const FIRST_STEPS: u64 = 200_000;
+const FIRST_STEPS: u64 = 400_000;
+
+/// A shadow circuit has so many variables more for each latch.
+const SHADOWS: u64 = 8;
+
+/// So many variables the times that deeper bounded search looks at may have together.
+const VARIABLES: u64 = 1_000_000;
 
 /// The rounds of a justice property are counted then with one of so many parts of what is left.
 const ROUNDS_PARTS: u64 = 4;
@@ -71,62 +83,101 @@ fn count_all(engines: &[Box<dyn Engine>], counters: &mut Counters) -> Result<(),
 }
 
 impl Question<'_> {
+    /// How many steps bounded search looks through behind IC3: more than at first, where the times do not have too many
+    /// variables together.
+    fn last_depth(self) -> u8
+        ensures { self.entry.timing.search.depth ≤ result }
+    {
+        let mut variables = u64::from(self.circuit.max_var()).saturating_add(1);
+        if let Property::Justice(_) = self.property {
+            let latches = self.circuit.latches().len() as u64;
+            variables = variables.saturating_add(latches.saturating_mul(SHADOWS));
+        }
+        let times = u8::try_from(VARIABLES / variables.max(1)).unwrap_or(u8::MAX);
+        times.max(self.timing.search.depth)
+    }
+
     /// What register correspondence says, and bounded search behind it.
     fn corresponded(
         self,
         rt: &HostRuntime,
-        depth: u8,
         steps: u64,
         counters: &mut Counters,
-    ) -> Result<(Verdict, u64), DecideError> {
+    ) -> Result<(Verdict, u64), DecideError>
+        ensures backed { IfOk result (λ r. IsBacked self.entry.circuit.now self.entry.property r.0) }
+        ensures left { IfOk result (λ r. r.1 ≤ steps) }
+    {
         let (alloc, timing) = (rt.alloc(), self.timing);
         let mut engines: Vec<Box<dyn Engine>> = Vec::new(alloc);
-        let bounded = Bmc::new(timing.solver(alloc), u32::from(depth));
-        let bounded = bounded.with_progress(Reporter::new(rt, timing.shown));
+        let bounded = bounded_by(rt, timing, timing.search.depth);
         let engine = Corresponding::new(timing.solver(alloc), bounded);
         let engine = engine.with_progress(Reporter::new(rt, timing.shown));
         let engine: Box<dyn Engine> = boxed(alloc, engine)?;
         push(&mut engines, engine)?;
         let mut budget = self.timing.budget(steps);
-        let verdict = decide(
-            alloc,
-            self.circuit,
-            self.property,
-            engines.as_mut_slice(),
-            &mut budget,
-        )?;
-        count_all(engines.as_slice(), counters)?;
+        let engines = engines.as_mut_slice();
+        let verdict = decide(alloc, self.circuit, self.property, engines, &mut budget)?;
+        count_all(engines, counters)?;
         Ok((verdict, budget.left()))
     }
 
-    /// What register correspondence says, and bounded search and IC3 behind it.
+    /// What register correspondence says, and bounded search, IC3 and deeper bounded search behind it.
     fn merged(
         self,
         rt: &HostRuntime,
         candidates: Seq<Seq<Lit>>,
-        depth: u8,
+        first: u8,
+        last: u8,
         steps: u64,
         counters: &mut Counters,
-    ) -> Result<(Verdict, u64), DecideError> {
+    ) -> Result<(Verdict, u64), DecideError>
+        ensures backed { IfOk result (λ r. IsBacked self.entry.circuit.now self.entry.property r.0) }
+        ensures left { IfOk result (λ r. r.1 ≤ steps) }
+    {
         let alloc = rt.alloc();
         let mut engines: Vec<Box<dyn Engine>> = Vec::new(alloc);
-        let engine = Merging::new(rt, self.timing, depth, candidates);
+        let engine = Merging::new(rt, self.timing, first, last, candidates)?;
         let engine: Box<dyn Engine> = boxed(alloc, engine)?;
         push(&mut engines, engine)?;
         let mut budget = self.timing.budget(steps);
-        let verdict = decide(
-            alloc,
-            self.circuit,
-            self.property,
-            engines.as_mut_slice(),
-            &mut budget,
-        )?;
-        count_all(engines.as_slice(), counters)?;
+        let engines = engines.as_mut_slice();
+        let verdict = decide(alloc, self.circuit, self.property, engines, &mut budget)?;
+        count_all(engines, counters)?;
         Ok((verdict, budget.left()))
     }
 
-    /// What the engines that are asked for say, but register correspondence. IC3 tries these clauses first. Answers how many
-    /// steps are left too.
+    /// What bounded search says with at most half of so many steps, and IC3 and deeper bounded search with the others.
+    fn begun(
+        self,
+        rt: &HostRuntime,
+        candidates: Seq<Seq<Lit>>,
+        first: u8,
+        last: u8,
+        steps: u64,
+        counters: &mut Counters,
+    ) -> Result<(Verdict, u64), DecideError>
+        ensures backed { IfOk result (λ r. IsBacked self.entry.circuit.now self.entry.property r.0) }
+        ensures left { IfOk result (λ r. r.1 ≤ steps) }
+    {
+        let alloc = rt.alloc();
+        let mut engines: Vec<Box<dyn Engine>> = Vec::new(alloc);
+        let is_whole = !candidates.is_empty();
+        let engine = Beginning::new(rt, self.timing, first, last, candidates)?;
+        if is_whole {
+            let engine: Box<dyn Engine> = boxed(alloc, engine)?;
+            push(&mut engines, engine)?;
+        } else {
+            let engine: Box<dyn Engine> = boxed(alloc, ConeOfInfluence::new(engine))?;
+            push(&mut engines, engine)?;
+        }
+        let mut budget = self.timing.budget(steps);
+        let engines = engines.as_mut_slice();
+        let verdict = decide(alloc, self.circuit, self.property, engines, &mut budget)?;
+        count_all(engines, counters)?;
+        Ok((verdict, budget.left()))
+    }
+
+    /// What bounded search, IC3 or random simulation says. IC3 tries these clauses first. Answers how many steps are left too.
     fn searched(
         self,
         rt: &HostRuntime,
@@ -134,14 +185,15 @@ impl Question<'_> {
         depth: u8,
         steps: u64,
         counters: &mut Counters,
-    ) -> Result<(Verdict, u64), DecideError> {
+    ) -> Result<(Verdict, u64), DecideError>
+        ensures backed { IfOk result (λ r. IsBacked self.entry.circuit.now self.entry.property r.0) }
+        ensures left { IfOk result (λ r. r.1 ≤ steps) }
+    {
         let (alloc, timing) = (rt.alloc(), self.timing);
         let search = timing.search;
-        let depth = u32::from(depth);
         let mut engines: Vec<Box<dyn Engine>> = Vec::new(alloc);
         if search.engine.has_bounded() {
-            let bounded = Bmc::new(timing.solver(alloc), depth);
-            let bounded = bounded.with_progress(Reporter::new(rt, timing.shown));
+            let bounded = bounded_by(rt, timing, depth);
             let engine: Box<dyn Engine> = boxed(alloc, ConeOfInfluence::new(bounded))?;
             push(&mut engines, engine)?;
         }
@@ -158,36 +210,36 @@ impl Question<'_> {
             }
         }
         if search.engine == EngineKind::Random {
-            let random = Random::new(search.seed, depth).with_watch(timing.deadline);
+            let random = Random::new(search.seed, u32::from(depth)).with_watch(timing.deadline);
             let engine: Box<dyn Engine> = boxed(alloc, random)?;
             push(&mut engines, engine)?;
         }
         let mut budget = self.timing.budget(steps);
-        let verdict = decide(
-            alloc,
-            self.circuit,
-            self.property,
-            engines.as_mut_slice(),
-            &mut budget,
-        )?;
-        count_all(engines.as_slice(), counters)?;
+        let engines = engines.as_mut_slice();
+        let verdict = decide(alloc, self.circuit, self.property, engines, &mut budget)?;
+        count_all(engines, counters)?;
         Ok((verdict, budget.left()))
     }
 
-    /// What the engine comes to about the circuits that count rounds of the justice property at the position. Answers how many
-    /// steps are left too.
-    fn counted_by<E: Engine>(
+    /// What IC3 comes to about the circuits that count rounds of the justice property at the position. Answers how many steps
+    /// are left too.
+    fn counted(
         self,
         rt: &HostRuntime,
-        mut engine: E,
         position: u32,
         steps: u64,
         counters: &mut Counters,
-    ) -> Result<(Counted, u64), DecideError> {
-        let mut progress = Reporter::new(rt, self.timing.shown);
-        let mut budget = self.timing.budget(steps);
+    ) -> Result<(Counted, u64), DecideError>
+        ensures backed { IfOk result (λ r. AreBacked self.entry.circuit.now position r.0) }
+        ensures left { IfOk result (λ r. r.1 ≤ steps) }
+    {
+        let (alloc, timing) = (rt.alloc(), self.timing);
+        let engine = Ic3::new(timing.solver(alloc));
+        let mut engine = engine.with_progress(Reporter::new(rt, timing.shown));
+        let mut progress = Reporter::new(rt, timing.shown);
+        let mut budget = timing.budget(steps);
         let counted = decide_rounds(
-            rt.alloc(),
+            alloc,
             self.circuit,
             position,
             &mut engine,
@@ -198,39 +250,53 @@ impl Question<'_> {
         Ok((counted, budget.left()))
     }
 
-    /// The same of IC3.
-    fn counted(
+    /// The bound that counting the rounds comes to with a part of so many steps, where the property is a justice property. Answers
+    /// how many steps are left too.
+    fn rounds_bound(
         self,
         rt: &HostRuntime,
-        position: u32,
         steps: u64,
         counters: &mut Counters,
-    ) -> Result<(Counted, u64), DecideError> {
-        let engine = Ic3::new(self.timing.solver(rt.alloc()));
-        let engine = engine.with_progress(Reporter::new(rt, self.timing.shown));
-        self.counted_by(rt, engine, position, steps, counters)
+    ) -> Result<(Option<Counted>, u64), DecideError>
+        ensures concluded { IfOk result (λ r. IfSome r.0 (λ c. IsConcluded self.entry.circuit.now self.entry.property (conclusion.Counted c))) }
+        ensures left { IfOk result (λ r. r.1 ≤ steps) }
+    {
+        let Property::Justice(position) = self.property else {
+            return Ok((None, steps));
+        };
+        let part = steps / ROUNDS_PARTS;
+        let (counted, left) = self.counted(rt, position, part, counters)?;
+        let rest = steps.saturating_sub(part.saturating_sub(left));
+        match counted {
+            Counted::Bounded { .. } => Ok((Some(counted), rest)),
+            Counted::Unknown { .. } => Ok((None, rest)),
+        }
     }
 
-    /// What counting the rounds comes to with a part of so many steps, where the property is a justice property, and else
-    /// register correspondence and bounded search and IC3 behind it.
+    /// What counting the rounds comes to, where the property is a justice property and it comes to a bound, and else register
+    /// correspondence and the engines behind it.
     fn counted_or_merged(
         self,
         rt: &HostRuntime,
         candidates: Seq<Seq<Lit>>,
         steps: u64,
         counters: &mut Counters,
-    ) -> Result<(Conclusion, u64), DecideError> {
-        let mut rest = steps;
-        if let Property::Justice(position) = self.property {
-            let part = steps / ROUNDS_PARTS;
-            let (counted, left) = self.counted(rt, position, part, counters)?;
-            rest = steps.saturating_sub(part.saturating_sub(left));
-            if let Counted::Bounded { .. } = counted {
-                return Ok((Conclusion::Counted(counted), rest));
-            }
+    ) -> Result<(Conclusion, u64), DecideError>
+        ensures concluded { IfOk result (λ r. IsConcluded self.entry.circuit.now self.entry.property r.0) }
+        ensures left { IfOk result (λ r. r.1 ≤ steps) }
+    {
+        let (bound, rest) = self.rounds_bound(rt, steps, counters)?;
+        if let Some(counted) = bound {
+            return Ok((Conclusion::Counted(counted), rest));
         }
-        let depth = self.timing.search.depth;
-        let (verdict, left) = self.merged(rt, candidates, depth, rest, counters)?;
+        let (verdict, left) = self.merged(
+            rt,
+            candidates,
+            self.timing.search.depth,
+            self.last_depth(),
+            rest,
+            counters,
+        )?;
         Ok((Conclusion::Decided(verdict), left))
     }
 
@@ -241,25 +307,38 @@ impl Question<'_> {
         rt: &HostRuntime,
         candidates: Seq<Seq<Lit>>,
         counters: &mut Counters,
-    ) -> Result<(Conclusion, u64), DecideError> {
-        let (all, depth) = (self.timing.search.budget, self.timing.search.depth);
+    ) -> Result<(Conclusion, u64), DecideError>
+        ensures concluded { IfOk result (λ r. IsConcluded self.entry.circuit.now self.entry.property r.0) }
+        ensures left { IfOk result (λ r. r.1 ≤ self.entry.timing.search.budget) }
+    {
+        let all = self.timing.search.budget;
         let few = (all / FIRST_PARTS).min(FIRST_STEPS);
         let first = copied(rt.alloc(), candidates.as_slice())?;
-        let (verdict, left) = self.searched(rt, first, depth, few, counters)?;
+        let (verdict, left) = self.begun(
+            rt,
+            first,
+            self.timing.search.depth,
+            self.last_depth(),
+            few,
+            counters,
+        )?;
         let rest = all.saturating_sub(few.saturating_sub(left));
-        if !matches!(verdict, Verdict::Unknown(_)) {
-            return Ok((Conclusion::Decided(verdict), rest));
+        match verdict {
+            Verdict::Unknown(_) => self.counted_or_merged(rt, candidates, rest, counters),
+            found => Ok((Conclusion::Decided(found), rest)),
         }
-        self.counted_or_merged(rt, candidates, rest, counters)
     }
 
     /// What the counting of rounds comes to. Of another property than a justice property nothing is known so.
     fn rounds_alone(
         self,
         rt: &HostRuntime,
-        steps: u64,
         counters: &mut Counters,
-    ) -> Result<(Conclusion, u64), DecideError> {
+    ) -> Result<(Conclusion, u64), DecideError>
+        ensures concluded { IfOk result (λ r. IsConcluded self.entry.circuit.now self.entry.property r.0) }
+        ensures left { IfOk result (λ r. r.1 ≤ self.entry.timing.search.budget) }
+    {
+        let steps = self.timing.search.budget;
         let Property::Justice(position) = self.property else {
             let none = Seq::new(rt.alloc());
             let (verdict, left) = self.searched(rt, none, 0, steps, counters)?;
@@ -275,20 +354,27 @@ impl Question<'_> {
         rt: &HostRuntime,
         candidates: Seq<Seq<Lit>>,
         counters: &mut Counters,
-    ) -> Result<(Conclusion, u64), DecideError> {
-        let (budget, depth) = (self.timing.search.budget, self.timing.search.depth);
+    ) -> Result<(Conclusion, u64), DecideError>
+        ensures concluded { IfOk result (λ r. IsConcluded self.entry.circuit.now self.entry.property r.0) }
+        ensures left { IfOk result (λ r. r.1 ≤ self.entry.timing.search.budget) }
+    {
+        let budget = self.timing.search.budget;
         let (verdict, left) = match self.timing.search.engine {
             EngineKind::All => return self.staged(rt, candidates, counters),
-            EngineKind::Rounds => return self.rounds_alone(rt, budget, counters),
-            EngineKind::Corresponding => self.corresponded(rt, depth, budget, counters)?,
-            _ => self.searched(rt, candidates, depth, budget, counters)?,
+            EngineKind::Rounds => return self.rounds_alone(rt, counters),
+            EngineKind::Corresponding => self.corresponded(rt, budget, counters)?,
+            _ => self.searched(rt, candidates, self.timing.search.depth, budget, counters)?,
         };
         Ok((Conclusion::Decided(verdict), left))
     }
 
     /// Asks the engines for evidence about the property. IC3 tries these clauses first. Where it is asked for, or standard
     /// error is a terminal, that says how far they are.
-    pub fn ask(self, rt: &HostRuntime, candidates: Seq<Seq<Lit>>) -> Result<Answered, DecideError> {
+    pub fn ask(self, rt: &HostRuntime, candidates: Seq<Seq<Lit>>) -> Result<Answered, DecideError>
+        // Whatever the engines answered, what is known has its evidence.
+        ensures concluded { IfOk result (λ a. IsConcluded self.entry.circuit.now self.entry.property a.conclusion) }
+        ensures few { IfOk result (λ a. a.steps ≤ self.entry.timing.search.budget) }
+    {
         let mut counters = Counters::new(rt.alloc());
         let answer = self.concluded(rt, candidates, &mut counters);
         self.timing.shown.wipe(rt);

@@ -1,9 +1,5 @@
 //! What is known of a property when the engines were asked.
 
-ghost use Rattle.std.specs.Prelude.{◌≡◌};
-ghost use Rattle.portfolio.specs.Conclusions.{verdict_in};
-
-use engine::Reason;
 use rounds::Counted;
 use verdict::Verdict;
 
@@ -14,16 +10,4 @@ pub enum Conclusion {
     Decided(Verdict),
     /// what counting the rounds of a justice property came to
     Counted(Counted),
-}
-
-impl Conclusion {
-    /// The verdict, where no rounds were counted; else nothing is known.
-    pub fn into_verdict(self) -> Verdict
-        ensures { result ≡ verdict_in self }
-    {
-        match self {
-            Conclusion::Decided(verdict) => verdict,
-            Conclusion::Counted(_) => Verdict::Unknown(Reason::NoEvidence),
-        }
-    }
 }

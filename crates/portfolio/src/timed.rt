@@ -63,7 +63,7 @@ impl Watch for Deadline {
 }
 
 /// Spends what is left.
-fn exhaust(budget: &mut Budget)
+pub fn exhaust(budget: &mut Budget)
     ensures spends { Spends budget.old budget.new }
     ensures none { budget.new.left ≡ 0 }
 {

@@ -1,5 +1,7 @@
 //! A search with its end in time.
 
+ghost use Rattle.std.specs.Prelude.{◌≤◌};
+
 use crate::reporter::Shown;
 use crate::timed::{Deadline, Timed};
 use arguments::Search;
@@ -25,7 +27,9 @@ impl Timing {
     }
 
     /// So many steps: none where the time is over.
-    pub fn budget(self, steps: u64) -> Budget {
+    pub fn budget(self, steps: u64) -> Budget
+        ensures { result.left ≤ steps }
+    {
         Budget::new(if self.deadline.is_over() { 0 } else { steps })
     }
 }
