@@ -1,23 +1,20 @@
 -- Lines are read from the piece that comes next.
-use Rattle.std.proofs.Common.{◌≡◌, ℕ, suc, ◌-◌, ◌<◌, ◌≤◌, Bool, true, ◌&&◌, List, [], ◌∷◌, ◌++◌, length, take, drop, get_or, Option, Some, None, All, ℤ, pos, negsuc, refl, sym, ap, ◌∙◌, append_assoc, arith, unsigned_abs}
+use Rattle.std.proofs.Common.{◌≡◌, ℕ, suc, ◌<◌, true, List, [], ◌∷◌, ◌++◌, length, Option, Some, None, All, ℤ, pos, negsuc, refl, ◌∙◌, append_assoc, arith, unsigned_abs}
 use Rattle.std.specs.Prelude.{decimal, codes, flat_map}
 use Rattle.std.specs.Fmt.{signed_decimal}
-use Rattle.std.proofs.Math.Seq.{drop-append_seam}
-use Rattle.std.proofs.lemmas.Bool.{and_parts}
-use Rattle.std.proofs.lemmas.List.Elements.{All-head, All-tail}
-use Rattle.std.proofs.lemmas.List.{length-append, length-drop, length-take-le, take-append-drop}
-use Rattle.std.proofs.lemmas.Option.{none-some, same_Some}
-use Rattle.scan.specs.Reading.{◌>>=◌, Read, ended}
+use Rattle.scan.specs.Reading.{ended}
 use Rattle.scan.specs.Words.{any, field_at, IsField}
-use Rattle.scan.proofs.Toolbox.{Reads, reads_as, reads_nothing, reads_after, skips_byte, ended_takes, ended_again}
+use Rattle.scan.proofs.Toolbox.{Reads, reads_as, reads_nothing, reads_after, skips_byte, ended_takes}
 use Rattle.scan.proofs.WordLaws.{field_reads}
 use Rattle.graph.specs.declared.circuit.Lit.{Lit}
 use Rattle.graph.specs.declared.circuit.Property.{Property as AProperty}
 use Rattle.graph.specs.declared.circuit.Property.TheVariants.{Bad, Justice, Output}
 use Rattle.graph.specs.Circuits.{position_of, property_text}
-use Rattle.pieces.specs.Pieces.{is_inner, piece_at, GoesOn}
-use Rattle.pieces.proofs.LineTexts.{IsLineText, goes_decimal, piece_of_line}
-use Rattle.pieces.proofs.PieceLaws.{goes_nil, goes_one, goes_append, piece_whole}
+use Rattle.pieces.specs.Lines.{IsOfPiece}
+use Rattle.pieces.specs.Pieces.{is_inner, GoesOn}
+use Rattle.pieces.proofs.LineLaws.{of_piece}
+use Rattle.pieces.proofs.LineTexts.{IsLineText, goes_all, goes_decimal, goes_each, goes_number}
+use Rattle.pieces.proofs.PieceLaws.{goes_one, goes_append}
 use Rattle.lrat.specs.Limits.{IsId, IsHint, IsLine}
 use Rattle.lrat.specs.Literals.{IsLiteral}
 use Rattle.lrat.specs.Texts.{SpellsLine, spaced}
@@ -27,7 +24,6 @@ use Rattle.certificate.specs.declared.head.Version.{Version}
 use Rattle.certificate.specs.declared.head.Version.TheVariants as version
 use Rattle.certificate.specs.declared.kinds.SectionKind.{SectionKind}
 use Rattle.certificate.specs.declared.kinds.SectionKind.TheVariants as kind
-use Rattle.certificate.specs.Pieces.{IsOfPiece}
 use Rattle.certificate.specs.Reading.{greatest, first_line_at, property_at, clause_at, item_at}
 use Rattle.certificate.specs.Streams.{letter_at, letter_of}
 use Rattle.certificate.proofs.HeadLaws.{IsFirstLine, IsPropertyLine, IsClauseLine, first_line_reads, property_reads, clause_reads}
@@ -40,25 +36,13 @@ goes_signed : (z : ℤ) → unsigned_abs z < 4294967296 → GoesOn (signed_decim
 goes_signed (pos n) lt = goes_decimal n (omega (arith, lt))
 goes_signed (negsuc n) lt = goes_append (45 ∷ []) (decimal (suc n)) (goes_one 45 refl) (goes_decimal (suc n) (omega (arith, lt)))
 
-pub goes_each : {A : Type 0} (P : A → Type 0) (text : A → List ℕ) → ((x : A) → P x → GoesOn (text x)) → (xs : List A) → All P xs → GoesOn (flat_map text xs)
-goes_each P text goes [] all = goes_nil
-goes_each P text goes (x ∷ xs) all = goes_append (text x) (flat_map text xs) (goes x (All-head P x xs all)) (goes_each P text goes xs (All-tail P x xs all))
-
 goes_spaced : {A : Type 0} (P : A → Type 0) (text : A → List ℕ) → ((x : A) → P x → GoesOn (text x)) → (xs : List A) → All P xs → GoesOn (spaced text xs)
 goes_spaced P text goes xs all = goes_each P (λ x. text x ++ codes " ") (λ x p. goes_append (text x) (32 ∷ []) (goes x p) (goes_one 32 refl)) xs all
 
 pub goes_property : (p : AProperty) → position_of p < 4294967296 → GoesOn (property_text p)
-goes_property (Bad n) lt = goes_append (98 ∷ []) (decimal n) (goes_one 98 refl) (goes_decimal n (omega (arith, lt)))
-goes_property (Justice n) lt = goes_append (106 ∷ []) (decimal n) (goes_one 106 refl) (goes_decimal n (omega (arith, lt)))
-goes_property (Output n) lt = goes_append (111 ∷ []) (decimal n) (goes_one 111 refl) (goes_decimal n (omega (arith, lt)))
-
-abbrev all_inner : List ℕ → Bool
-all_inner [] = true
-all_inner (c ∷ cs) = is_inner c && all_inner cs
-
-pub goes_all : (cs : List ℕ) → all_inner cs ≡ true → GoesOn cs
-goes_all [] e = goes_nil
-goes_all (c ∷ cs) e = let p = and_parts (is_inner c) (all_inner cs) e in goes_append (c ∷ []) cs (goes_one c p.0) (goes_all cs p.1)
+goes_property (Bad n) lt = goes_number 98 n refl (omega (arith, lt))
+goes_property (Justice n) lt = goes_number 106 n refl (omega (arith, lt))
+goes_property (Output n) lt = goes_number 111 n refl (omega (arith, lt))
 
 version_is_line : (t : List ℕ) (v : Version) → IsFirstLine t v → IsLineText t
 version_is_line t version.One s = (codes "aigcert 1", goes_all (codes "aigcert 1") refl, s)
@@ -133,41 +117,6 @@ letter_is_line k t u s = (letter_of k ∷ [], goes_one (letter_of k) (letter_inn
 
 -- ---- a line is read from its piece
 
-by_cases : {A : Type 0} (o : Read A) (e : Option A) (rest : List ℕ) → ((x : A) (r : List ℕ) → o ≡ Some (x, r) → (e ≡ Some x) × (r ≡ rest)) → ((x : A) → e ≡ Some x → o ≡ Some (x, rest)) → o ≡ (e >>= λ x. Some (x, rest))
-by_cases (Some (x, r)) e rest f g = let q = f x r refl in rw (q.0, q.1) refl
-by_cases None (Some x) rest f g = g x refl
-by_cases None None rest f g = refl
-
--- what is a line is read from the piece that comes next
-piece_reads : {A : Type 0} {p : List ℕ → Read A} {R : List ℕ → A → Type 0} → Reads p R → ((t : List ℕ) (x : A) → R t x → IsLineText t) → (bytes : List ℕ) → p bytes ≡ (ended (p (piece_at bytes).0) >>= λ x. Some (x, (piece_at bytes).1))
-piece_reads {A} {p} {R} law lines bytes =
-    by_cases (p bytes) (ended (p (piece_at bytes).0)) (piece_at bytes).1
-    (λ x r e.
-    let (front, spelled, whole) = law.sound bytes x r e in
-    let (body, goes, is) = lines front x spelled in
-    let cut : piece_at bytes ≡ (front, r) = ap piece_at (whole ∙ ap (λ (w : List ℕ). w ++ r) is) ∙ piece_of_line body r goes ∙ ap (λ (w : List ℕ). (w, r)) (sym is) in
-    (ap (λ (w : List ℕ × List ℕ). ended (p w.0)) cut ∙ ended_again law front x spelled, sym (ap (λ (w : List ℕ × List ℕ). w.1) cut)))
-    (λ x e. ap p (sym (piece_whole bytes)) ∙ law.complete (piece_at bytes).0 x (piece_at bytes).1 (ended_takes law (piece_at bytes).0 x e))
-
-not_empty : (body : List ℕ) → [] ≡ body ++ 10 ∷ [] → ⊥
-not_empty [] e = absurd (let n = ap length e in omega (arith, n))
-not_empty (c ∷ cs) e = absurd (let n = ap length e in omega (arith, n))
-
-not_nought : (body : List ℕ) → 0 ∷ [] ≡ body ++ 10 ∷ [] → ⊥
-not_nought [] e = absurd (let n = ap (λ (w : List ℕ). get_or w 0 0) e in omega (arith, n))
-not_nought (c ∷ cs) e = absurd (let n = ap length e in omega (arith, n, length-append cs (10 ∷ [])))
-
-none_of : {A : Type 0} (o : Option A) → ((x : A) → o ≡ Some x → ⊥) → o ≡ None
-none_of None f = refl
-none_of (Some x) f = absurd (f x refl)
-
-pub of_piece : {A : Type 0} {p : List ℕ → Read A} {R : List ℕ → A → Type 0} → Reads p R → ((t : List ℕ) (x : A) → R t x → IsLineText t) → IsOfPiece p
-of_piece {A} {p} {R} law lines = record {
-  from_piece = piece_reads law lines;
-  takes = none_of (ended (p [])) (λ x e. let (body, goes, is) = lines [] x (ended_takes law [] x e) in not_empty body is);
-  begins = none_of (ended (p (0 ∷ []))) (λ x e. let (body, goes, is) = lines (0 ∷ []) x (ended_takes law (0 ∷ []) x e) in not_nought body is);
-}
-
 pub version_of_piece : IsOfPiece first_line_at
 version_of_piece = of_piece first_line_reads version_is_line
 
@@ -185,53 +134,6 @@ letter_of_piece k = of_piece (letter_reads k) (letter_is_line k)
 
 pub line_of_piece : IsOfPiece item_at
 line_of_piece = of_piece item_reads item_is_line
-
--- ---- what is read of bytes that have the piece, and others behind it
-
-bound_some : {A : Type 0} (read : Read A) (o : Option A) (after rest : List ℕ) (x : A) → read ≡ (o >>= λ x. Some (x, after)) → read ≡ Some (x, rest) → (o ≡ Some x) × (after ≡ rest)
-bound_some read None after rest x is e = absurd (none-some (x, rest) (sym is ∙ e))
-bound_some {A} read (Some y) after rest x is e = let same = same_Some (y, after) (x, rest) (sym is ∙ e) in (ap (λ (w : A × List ℕ). Some w.0) same, ap (λ (w : A × List ℕ). w.1) same)
-
-bound_none : {A : Type 0} (read : Read A) (o : Option A) (after : List ℕ) → read ≡ (o >>= λ x. Some (x, after)) → read ≡ None → o ≡ None
-bound_none read None after is e = refl
-bound_none read (Some y) after is e = absurd (none-some (y, after) (sym e ∙ is))
-
--- it is read of the piece alone, and what follows is what follows the piece
-pub read_alone : {A : Type 0} {p : List ℕ → Read A} → IsOfPiece p → (bytes : List ℕ) (x : A) (rest : List ℕ) → p bytes ≡ Some (x, rest) → (ended (p (piece_at bytes).0) ≡ Some x) × ((piece_at bytes).1 ≡ rest)
-read_alone {A} {p} law bytes x rest e = bound_some (p bytes) (ended (p (piece_at bytes).0)) (piece_at bytes).1 rest x (law.from_piece bytes) e
-
-pub none_alone : {A : Type 0} {p : List ℕ → Read A} → IsOfPiece p → (bytes : List ℕ) → p bytes ≡ None → ended (p (piece_at bytes).0) ≡ None
-none_alone {A} {p} law bytes e = bound_none (p bytes) (ended (p (piece_at bytes).0)) (piece_at bytes).1 (law.from_piece bytes) e
-
--- what follows are the last bytes
-rest_behind : {A : Type 0} {p : List ℕ → Read A} → IsOfPiece p → (bytes : List ℕ) (x : A) (rest : List ℕ) → p bytes ≡ Some (x, rest) → (piece_at bytes).0 ++ rest ≡ bytes
-rest_behind law bytes x rest e = ap (λ (w : List ℕ). (piece_at bytes).0 ++ w) (sym (read_alone law bytes x rest e).1) ∙ piece_whole bytes
-
-some_front : {A : Type 0} {p : List ℕ → Read A} → IsOfPiece p → (front : List ℕ) (x : A) → ended (p front) ≡ Some x → 0 < length front
-some_front law [] x e = absurd (none-some x (sym law.takes ∙ e))
-some_front law (c ∷ cs) x e = omega arith
-
--- some byte was taken
-pub rest_shorter : {A : Type 0} {p : List ℕ → Read A} → IsOfPiece p → (bytes : List ℕ) (x : A) (rest : List ℕ) → p bytes ≡ Some (x, rest) → length rest < length bytes
-rest_shorter law bytes x rest e =
-    let some = some_front law (piece_at bytes).0 x (read_alone law bytes x rest e).0 in
-    omega (arith, some, ap length (rest_behind law bytes x rest e), length-append (piece_at bytes).0 rest)
-
-pub rest_within : {A : Type 0} {p : List ℕ → Read A} → IsOfPiece p → (later : List ℕ) (n : ℕ) (x : A) (rest : List ℕ) → n ≤ length later → p (take n later) ≡ Some (x, rest) → length rest < n
-rest_within law later n x rest within e = omega (arith, rest_shorter law (take n later) x rest e, length-take-le n later within)
-
--- where what was taken is skipped, less is left
-pub rest_less : {A : Type 0} {p : List ℕ → Read A} → IsOfPiece p → (later now : List ℕ) (n : ℕ) (x : A) (rest : List ℕ) → n ≤ length later → p (take n later) ≡ Some (x, rest) → now ≡ drop (n - length rest) later → length now < length later
-rest_less law later now n x rest within e is = omega (arith, rest_within law later n x rest within e, ap length is, length-drop (n - length rest) later, within)
-
--- and what follows is left
-pub rest_skipped : {A : Type 0} {p : List ℕ → Read A} → IsOfPiece p → (later : List ℕ) (n : ℕ) (x : A) (rest : List ℕ) → n ≤ length later → p (take n later) ≡ Some (x, rest) → drop (n - length rest) later ≡ rest ++ drop n later
-rest_skipped law later n x rest within e =
-    let front : List ℕ = (piece_at (take n later)).0 in
-    let behind : front ++ rest ≡ take n later = rest_behind law (take n later) x rest e in
-    let whole : later ≡ front ++ (rest ++ drop n later) = sym (take-append-drop n later) ∙ ap (λ (w : List ℕ). w ++ drop n later) (sym behind) ∙ append_assoc front rest (drop n later) in
-    let at : n - length rest ≡ length front = omega (arith, ap length behind, length-append front rest, length-take-le n later within) in
-    ap (λ k. drop k later) at ∙ ap (λ (w : List ℕ). drop (length front) w) whole ∙ drop-append_seam front (rest ++ drop n later)
 
 -- ---- what is read of a whole line
 

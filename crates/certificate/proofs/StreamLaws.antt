@@ -1,18 +1,23 @@
 -- A reader finds what the text says, however its source cuts it.
-use Rattle.std.specs.Prelude.{IsErrAnd}
+use Rattle.std.specs.Prelude.{IsErrAnd, IfOk, IfSome}
+use Rattle.base.specs.Devices.{FailsOnce}
 use Rattle.base.specs.Witness.{witness}
-use Rattle.std.proofs.Common.{◌≡◌, ℕ, zero, suc, ◌+◌, ◌-◌, ◌<◌, ◌≤◌, List, [], ◌∷◌, ◌++◌, length, take, drop, Option, Some, None, Result, Ok, Err, refl, sym, ap, subst, ◌∙◌, append_assoc, arith}
-use Rattle.std.proofs.lemmas.List.{append-nil, length-append, nil_from_length}
+use Rattle.std.proofs.Common.{◌≡◌, ℕ, suc, ◌+◌, ◌-◌, ◌<◌, ◌≤◌, Bool, true, false, List, [], ◌∷◌, ◌++◌, length, Option, Some, None, Result, Ok, Err, refl, sym, ap, subst, ◌∙◌, arith}
+use Rattle.std.proofs.lemmas.List.{append-nil}
 use Rattle.std.proofs.lemmas.Option.{none-some, same_Some}
-use Rattle.scan.specs.Reading.{◌>>=◌, Read, Fails, ended}
+use Rattle.scan.specs.Reading.{◌>>=◌, Read, ended}
 use Rattle.scan.specs.Bytes.{byte_at}
 use Rattle.scan.specs.Words.{any, field_at}
-use Rattle.scan.specs.Lists.{many_at, until_at, items_at, value_then}
-use Rattle.scan.proofs.Loops.{with_front, regroup, many_more, many_done}
-use Rattle.pieces.specs.Pieces.{piece_at, Lies}
-use Rattle.pieces.proofs.PieceLaws.{nil_piece, piece_nil}
+use Rattle.scan.specs.Lists.{many_at, items_at}
+use Rattle.scan.proofs.Loops.{with_front, many_more, many_done}
+use Rattle.pieces.specs.Pieces.{piece_at}
+use Rattle.pieces.specs.Lines.{IsOfPiece, end_at, with_buffer}
+use Rattle.pieces.specs.Lines as lines
+use Rattle.pieces.proofs.ItemLaws.{items_next, items_last, items_none}
+use Rattle.pieces.specs.declared.line_error.LineError.{LineError}
+use Rattle.pieces.specs.declared.line_error.LineError.TheVariants as line
+use Rattle.lrat.specs.Limits.{IsLine}
 use Rattle.lrat.specs.declared.line.Line.{Line as ALine}
-use Rattle.scan.specs.declared.fault.Fault.{Fault}
 use Rattle.scan.specs.declared.fault.Fault.TheVariants.{Memory, Text}
 use Rattle.certificate.specs.declared.reader_error.ReaderError.{ReaderError}
 use Rattle.certificate.specs.declared.reader_error.ReaderError.TheVariants.{Refused, Device}
@@ -20,33 +25,15 @@ use Rattle.certificate.specs.declared.cert_error.CertError.{CertError}
 use Rattle.certificate.specs.declared.cert_error.CertError.TheVariants as text
 use Rattle.certificate.specs.declared.cert_fault.CertFault.{CertFault}
 use Rattle.certificate.specs.declared.cert_fault.CertFault.TheVariants as kind
-use Rattle.certificate.specs.Pieces.{IsOfPiece}
-use Rattle.certificate.specs.Refusals.{error_of}
+use Rattle.certificate.specs.Refusals.{answer_of, of_line}
 use Rattle.certificate.specs.declared.kinds.SectionKind.{SectionKind}
 use Rattle.certificate.specs.declared.certificate.Certificate.{Certificate}
-use Rattle.certificate.specs.Reading.{greatest, first_line_at, property_at, clause_at, item_at, section_at, certificate_at}
-use Rattle.certificate.specs.Held.{Held, held_of}
-use Rattle.certificate.specs.Streams.{Finds, FindsWith, ForText, StillReads, end_at, letter_at, letter_of, parts_at}
+use Rattle.certificate.specs.Reading.{greatest, first_line_at, property_at, clause_at, item_at, line_where, section_at, certificate_at}
+use Rattle.certificate.specs.Held.{Held, held_of, refusal_of}
+use Rattle.certificate.specs.Streams.{Finds, FindsWith, ForText, StillReads, letter_at, letter_of, parts_at}
 use Rattle.certificate.specs.Texts.{SpellsCertificate}
 use Rattle.certificate.proofs.CertificateLaws.{certificate_reads}
-use Rattle.certificate.proofs.LineLaws.{none_alone, read_alone, rest_skipped}
-use Rattle.certificate.proofs.SectionLaws.{item_reads, item_takes}
-
--- the first bytes that are held have the next piece, so the whole text is read as they are
-whole_found : {A : Type 0} {p : List ℕ → Read A} → IsOfPiece p → (held ys later zs : List ℕ) (n : ℕ) (x : A) (rest : List ℕ) → Lies held ys later zs n → p (take n later) ≡ Some (x, rest) → p (held ++ ys) ≡ Some (x, rest ++ (drop n later ++ zs))
-whole_found {A} {p} law held ys later zs n x rest lies e =
-    let (alone, after) = read_alone law (take n later) x rest e in
-    law.from_piece (held ++ ys) ∙ ap (λ (w : List ℕ × List ℕ). ended (p w.0) >>= λ x. Some (x, w.1)) (ap piece_at lies.0 ∙ lies.1) ∙ ap (λ o. o >>= λ x. Some (x, (piece_at (take n later)).1 ++ (drop n later ++ zs))) alone ∙ ap (λ (w : List ℕ). Some (x, w ++ (drop n later ++ zs))) after
-
-pub moves_from : {A : Type 0} (p : List ℕ → Read A) → IsOfPiece p → (held later now ys zs : List ℕ) (n : ℕ) (x : A) (rest : List ℕ) → Lies held ys later zs n → n ≤ length later → p (take n later) ≡ Some (x, rest) → now ≡ drop (n - length rest) later → p (held ++ ys) ≡ Some (x, now ++ zs)
-moves_from p law held later now ys zs n x rest lies within e is =
-    let left : now ≡ rest ++ drop n later = is ∙ rest_skipped law later n x rest within e in
-    let behind : rest ++ (drop n later ++ zs) ≡ now ++ zs = sym (append_assoc rest (drop n later) zs) ∙ ap (λ (w : List ℕ). w ++ zs) (sym left) in
-    whole_found law held ys later zs n x rest lies e ∙ ap (λ (w : List ℕ). Some (x, w)) behind
-
-pub stuck_from : {A : Type 0} (p : List ℕ → Read A) → IsOfPiece p → (held later ys zs : List ℕ) (n : ℕ) → Lies held ys later zs n → p (take n later) ≡ None → p (held ++ ys) ≡ None
-stuck_from p law held later ys zs n lies e =
-    law.from_piece (held ++ ys) ∙ ap (λ (w : List ℕ × List ℕ). ended (p w.0) >>= λ x. Some (x, w.1)) (ap piece_at lies.0 ∙ lies.1) ∙ ap (λ o. o >>= λ x. Some (x, (piece_at (take n later)).1 ++ (drop n later ++ zs))) (none_alone law (take n later) e)
+use Rattle.certificate.proofs.LineLaws.{line_of_piece, line_within}
 
 -- no part begins with the byte that is left behind a refusal
 piece_nought : (ys : List ℕ) → piece_at (0 ∷ ys) ≡ (0 ∷ [], ys)
@@ -83,27 +70,93 @@ refused_again p law taken o e h ys is some = subst (λ (w : Held). ForText (Refu
 pub end_refused_again : (taken : List ℕ) (o : Option CertError) (e : CertError) (h : Held) (ys : List ℕ) → held_of taken o ≡ h → o ≡ Some e → ForText (Refused e) (end_at (h.held ++ ys) ≡ None)
 end_refused_again taken o e h ys is some = subst (λ (w : Held). ForText (Refused e) (end_at (w.held ++ ys) ≡ None)) (ap (held_of taken) (sym some) ∙ is) (end_again e ys)
 
--- a text refusal is reported only of a text from which nothing is read
-pub for_text : (total : ℕ) (fault : Fault CertFault) (P : Type 0) {A : Type 0} (o : Option A) → (o ≡ None → P) → Fails fault o → ForText (Refused (error_of total fault)) P
-for_text total (Memory refused) P o f none = tt
-for_text total (Text kind.Version left) P o f none = f none
-for_text total (Text kind.PropertyLine left) P o f none = f none
-for_text total (Text kind.Number left) P o f none = f none
-for_text total (Text kind.Section left) P o f none = f none
-for_text total (Text kind.Byte left) P o f none = f none
-for_text total (Text kind.Truncated left) P o f none = f none
+-- ---- what lines say
 
--- ---- the end of the text
+-- what holds of a refusal of lines holds of what it is for a reader
+for_text_of_line : (e : LineError CertFault) (P : Type 0) → lines.ForText e P → ForText (of_line e) P
+for_text_of_line (line.Refused total (Memory refused)) P p = tt
+for_text_of_line (line.Refused total (Text kind.Version left)) P p = p
+for_text_of_line (line.Refused total (Text kind.PropertyLine left)) P p = p
+for_text_of_line (line.Refused total (Text kind.Number left)) P p = p
+for_text_of_line (line.Refused total (Text kind.Section left)) P p = p
+for_text_of_line (line.Refused total (Text kind.Byte left)) P p = p
+for_text_of_line (line.Refused total (Text kind.Truncated left)) P p = p
+for_text_of_line line.Device P p = tt
 
--- no piece comes where no byte is left
-pub none_left : (held later ys zs : List ℕ) (n : ℕ) → n ≡ 0 → Lies held ys later zs n → held ++ ys ≡ []
-none_left held later ys zs n is lies =
-    lies.0 ∙ piece_nil (later ++ zs) (ap (λ (w : List ℕ × List ℕ). w.0) lies.1 ∙ ap (λ k. (piece_at (take k later)).0) is ∙ nil_piece)
+-- where no refusal is remembered, a reader holds what its lines hold
+pub held_open : (taken : List ℕ) (o : Option CertError) (h : Held) → held_of taken o ≡ h → o ≡ None → taken ≡ h.held
+held_open taken o h is none = ap (λ (w : Held). w.held) (ap (held_of taken) (sym none) ∙ is)
 
-pub some_left : (held later ys zs : List ℕ) (n : ℕ) → Lies held ys later zs n → n ≤ length later → held ++ ys ≡ [] → n ≡ 0
-some_left held later ys zs n lies within none =
-    let all = ap length (sym lies.0 ∙ none) in
-    omega (arith, within, all, length-append later zs)
+answer_found : {A : Type 0} (read : Read A) (r : Result A (LineError CertFault)) (taken later : List ℕ) (h : Held) → held_of taken (refusal_of (answer_of r)) ≡ h → lines.Finds read r taken later → Finds read (answer_of r) h.held later
+answer_found read (Ok x) taken later h held found = subst (λ (w : Held). read ≡ Some (x, w.held ++ later)) held found
+answer_found read (Err e) taken later h held found = for_text_of_line e (read ≡ None) found
+
+-- what lines found is found by a reader that remembers a refusal
+pub line_found : {A : Type 0} (p : List ℕ → Read A) (inside held taken ys later : List ℕ) (h : Held) (r : Result A (LineError CertFault)) (answer : Result A ReaderError) → inside ≡ held → answer ≡ answer_of r → held_of taken (refusal_of answer) ≡ h
+    → lines.Finds (p (inside ++ ys)) r taken later → Finds (p (held ++ ys)) answer h.held later
+line_found {A} p inside held taken ys later h r answer same is left found =
+    subst (λ (w : List ℕ). Finds (p (w ++ ys)) answer h.held later) same
+    (subst (λ (o : Result A ReaderError). Finds (p (inside ++ ys)) o h.held later) (sym is)
+    (answer_found (p (inside ++ ys)) r taken later h (ap (λ (o : Result A ReaderError). held_of taken (refusal_of o)) (sym is) ∙ left) found))
+
+buffer_answer_found : {A X B : Type 0} (seen : X → B → A) (read : Read A) (r : Result X (LineError CertFault)) (buffer : B) (taken later : List ℕ) (h : Held) → held_of taken (refusal_of (answer_of r)) ≡ h → lines.Finds read (with_buffer seen r buffer) taken later → Finds read (with_buffer seen (answer_of r) buffer) h.held later
+buffer_answer_found seen read (Ok x) buffer taken later h held found = subst (λ (w : Held). read ≡ Some (seen x buffer, w.held ++ later)) held found
+buffer_answer_found seen read (Err e) buffer taken later h held found = for_text_of_line e (read ≡ None) found
+
+-- the same of a line that was read into a buffer
+pub buffer_found : {A X B : Type 0} (seen : X → B → A) (p : List ℕ → Read A) (inside held taken ys later : List ℕ) (h : Held) (r : Result X (LineError CertFault)) (answer : Result X ReaderError) (buffer : B) → inside ≡ held → answer ≡ answer_of r → held_of taken (refusal_of answer) ≡ h
+    → lines.Finds (p (inside ++ ys)) (with_buffer seen r buffer) taken later → Finds (p (held ++ ys)) (with_buffer seen answer buffer) h.held later
+buffer_found {A} {X} seen p inside held taken ys later h r answer buffer same is left found =
+    subst (λ (w : List ℕ). Finds (p (w ++ ys)) (with_buffer seen answer buffer) h.held later) same
+    (subst (λ (o : Result X ReaderError). Finds (p (inside ++ ys)) (with_buffer seen o buffer) h.held later) (sym is)
+    (buffer_answer_found seen (p (inside ++ ys)) r buffer taken later h (ap (λ (o : Result X ReaderError). held_of taken (refusal_of o)) (sym is) ∙ left) found))
+
+ok_of : {A : Type 0} (P : A → Type 0) (r : Result A (LineError CertFault)) → IfOk r P → IfOk (answer_of r) P
+ok_of P (Ok x) p = p
+ok_of P (Err e) p = p
+
+-- what is true of a line that was read is true of the reader's answer
+pub ok_answer : {A : Type 0} (P : A → Type 0) (r : Result A (LineError CertFault)) (answer : Result A ReaderError) → answer ≡ answer_of r → IfOk r P → IfOk answer P
+ok_answer {A} P r answer is p = subst (λ (o : Result A ReaderError). IfOk o P) (sym is) (ok_of P r p)
+
+moved_of : {A : Type 0} (r : Result A (LineError CertFault)) (taken : List ℕ) (h : Held) (left most : ℕ) → held_of taken (refusal_of (answer_of r)) ≡ h → IfOk r (λ _. length taken + left < most) → IfOk (answer_of r) (λ _. length h.held + left < most)
+moved_of (Ok x) taken h left most held less = subst (λ (w : Held). length w.held + left < most) held less
+moved_of (Err e) taken h left most held less = less
+
+-- so less is left
+pub moved : {A : Type 0} (r : Result A (LineError CertFault)) (answer : Result A ReaderError) (inside held taken : List ℕ) (h : Held) (left most : ℕ) → inside ≡ held → answer ≡ answer_of r → held_of taken (refusal_of answer) ≡ h
+    → IfOk r (λ _. length taken + left < length inside + most) → IfOk answer (λ _. length h.held + left < length held + most)
+moved {A} r answer inside held taken h left most same is now less =
+    subst (λ (w : List ℕ). IfOk answer (λ _. length h.held + left < length w + most)) same
+    (subst (λ (o : Result A ReaderError). IfOk o (λ _. length h.held + left < length inside + most)) (sym is)
+    (moved_of r taken h left (length inside + most) (ap (λ (o : Result A ReaderError). held_of taken (refusal_of o)) (sym is) ∙ now) less))
+
+line_in_limits : (r : Result Bool (LineError CertFault)) (line : ALine) → IfOk (with_buffer line_where r line) (λ l. (text : List ℕ) × (ended (item_at text) ≡ Some l)) → IfOk (with_buffer line_where (answer_of r) line) (λ l. IfSome l IsLine)
+line_in_limits (Ok true) line (text, is) = line_within text line is
+line_in_limits (Ok false) line given = tt
+line_in_limits (Err e) line given = tt
+
+-- a line that was read is in its limits
+pub line_limited : (r : Result Bool (LineError CertFault)) (answer : Result Bool ReaderError) (line : ALine) → answer ≡ answer_of r → IfOk (with_buffer line_where r line) (λ l. (text : List ℕ) × (ended (item_at text) ≡ Some l))
+    → IfOk (with_buffer line_where answer line) (λ l. IfSome l IsLine)
+line_limited r answer line is given = subst (λ (o : Result Bool ReaderError). IfOk (with_buffer line_where o line) (λ l. IfSome l IsLine)) (sym is) (line_in_limits r line given)
+
+device_to : {A : Type 0} (r : Result A (LineError CertFault)) → answer_of r ≡ Err Device → r ≡ Err line.Device
+device_to (Ok x) is = absurd cc
+device_to (Err (line.Refused total fault)) is = absurd cc
+device_to (Err line.Device) is = refl
+
+fails_of : {A : Type 0} (r : Result A (LineError CertFault)) (before after : ℕ) → FailsOnce r line.Device before after → FailsOnce (answer_of r) Device before after
+fails_of {A} r before after once = record {
+  failed = (λ is. once.failed.0 (device_to r is), λ more. ap (λ (o : Result A (LineError CertFault)). answer_of o) (once.failed.1 more));
+  kept = λ other. once.kept (λ is. other (ap (λ (o : Result A (LineError CertFault)). answer_of o) is));
+}
+
+-- the source failed where it did for the lines
+pub fails_answer : {A : Type 0} (r : Result A (LineError CertFault)) (answer : Result A ReaderError) (before after : ℕ) → answer ≡ answer_of r → FailsOnce r line.Device before after → FailsOnce answer Device before after
+fails_answer {A} r answer before after is once = subst (λ (o : Result A ReaderError). FailsOnce o Device before after) (sym is) (fails_of r before after once)
+
+-- ---- refusals
 
 pub for_text_map : (e : ReaderError) (P Q : Type 0) → (P → Q) → ForText e P → ForText e Q
 for_text_map (Refused (text.OutOfMemory refused)) P Q f p = tt
@@ -158,32 +211,6 @@ same_finds P read other r held later same f = subst (λ o. FindsWith P o r held 
 
 -- ---- many values
 
-same_steps : {A : Type 0} (o : Read (Option A)) (f g : List ℕ → Read (List A)) → ((x : A) (rest : List ℕ) → o ≡ Some (Some x, rest) → f rest ≡ g rest) → (o >>= λ x. value_then x.0 x.1 (f x.1)) ≡ (o >>= λ x. value_then x.0 x.1 (g x.1))
-same_steps None f g same = refl
-same_steps (Some (None, rest)) f g same = refl
-same_steps (Some (Some x, rest)) f g same = ap (λ later. later >>= λ xs. Some (x ∷ xs.0, xs.1)) (same x rest refl)
-
-item_short : (bytes : List ℕ) (line : ALine) (rest : List ℕ) → item_at bytes ≡ Some (Some line, rest) → length rest < length bytes
-item_short bytes line rest e =
-    let (front, spelled, whole) = item_reads.sound bytes (Some line) rest e in
-    omega (arith, item_takes front line spelled, ap length whole, length-append front rest)
-
-until_same : (n m : ℕ) (bytes : List ℕ) → length bytes < n → length bytes < m → until_at item_at n bytes ≡ until_at item_at m bytes
-unfolding until_at
-until_same zero m bytes a b = absurd (omega (arith, a))
-until_same (suc n) zero bytes a b = absurd (omega (arith, b))
-until_same (suc n) (suc m) bytes a b =
-    same_steps (item_at bytes) (until_at item_at n) (until_at item_at m) (λ line rest e.
-    let shorter = item_short bytes line rest e in
-    until_same n m rest (omega (arith, shorter, a)) (omega (arith, shorter, b)))
-
-items_step : (bytes : List ℕ) → items_at item_at bytes ≡ (item_at bytes >>= λ x. value_then x.0 x.1 (items_at item_at x.1))
-unfolding until_at
-items_step bytes =
-    same_steps (item_at bytes) (until_at item_at (length bytes)) (items_at item_at) (λ line rest e.
-    let shorter = item_short bytes line rest e in
-    until_same (length bytes) (suc (length rest)) rest shorter (omega arith))
-
 none_of_step : {A : Type 0} (front : List A) (o : Read A) (q : List ℕ → Read (List A)) → o ≡ None → with_front front (o >>= λ first. (q first.1 >>= λ others. Some (first.0 ∷ others.0, others.1))) ≡ None
 none_of_step front o q none = rw none refl
 
@@ -213,29 +240,18 @@ many_read one read front count i held zs le so_far = many_done one front count i
 
 -- ---- values up to an end
 
-item_next : (read : Read (List ALine)) (front : List ALine) (bytes after : List ℕ) (line : ALine) → with_front front (items_at item_at bytes) ≡ read → item_at bytes ≡ Some (Some line, after) → with_front (front ++ line ∷ []) (items_at item_at after) ≡ read
-item_next read front bytes after line so_far is =
-    sym (regroup front line (items_at item_at after)) ∙ sym (ap (λ o. with_front front (o >>= λ x. value_then x.0 x.1 (items_at item_at x.1))) is) ∙ sym (ap (with_front front) (items_step bytes)) ∙ so_far
-
-item_last : (read : Read (List ALine)) (front : List ALine) (bytes after : List ℕ) → with_front front (items_at item_at bytes) ≡ read → item_at bytes ≡ Some (None, after) → read ≡ Some (front, after)
-item_last read front bytes after so_far is =
-    sym so_far ∙ ap (with_front front) (items_step bytes) ∙ ap (λ o. with_front front (o >>= λ x. value_then x.0 x.1 (items_at item_at x.1))) is ∙ ap (λ (w : List ALine). Some (w, after)) (append-nil front)
-
-item_none : (read : Read (List ALine)) (front : List ALine) (bytes : List ℕ) → with_front front (items_at item_at bytes) ≡ read → item_at bytes ≡ None → read ≡ None
-item_none read front bytes so_far none =
-    sym so_far ∙ ap (with_front front) (items_step bytes) ∙ ap (λ o. with_front front (o >>= λ x. value_then x.0 x.1 (items_at item_at x.1))) none
-
 pub items_go : (read : Read (List ALine)) (front : List ALine) (line : ALine) (held later zs ws : List ℕ) → StillReads read front (items_at item_at) held zs
     → Finds (item_at (held ++ zs)) (Ok (Some line)) later ws → StillReads read (front ++ line ∷ []) (items_at item_at) later ws
-items_go read front line held later zs ws so_far is = item_next read front (held ++ zs) (later ++ ws) line so_far is
+items_go read front line held later zs ws so_far is = items_next item_at line_of_piece read front line (held ++ zs) (later ++ ws) so_far is
 
 pub items_end : (read : Read (List ALine)) (front : List ALine) (held later zs ws : List ℕ) → StillReads read front (items_at item_at) held zs
     → Finds (item_at (held ++ zs)) (Ok None) later ws → Finds read (Ok front) later ws
-items_end read front held later zs ws so_far is = item_last read front (held ++ zs) (later ++ ws) so_far is
+items_end read front held later zs ws so_far is = items_last item_at line_of_piece read front (held ++ zs) (later ++ ws) so_far is
 
 pub items_refused : (read : Read (List ALine)) (front : List ALine) (e : ReaderError) (held zs : List ℕ) → StillReads read front (items_at item_at) held zs
     → ForText e (item_at (held ++ zs) ≡ None) → ForText e (read ≡ None)
-items_refused read front e held zs so_far next = for_text_map e (item_at (held ++ zs) ≡ None) (read ≡ None) (item_none read front (held ++ zs) so_far) next
+items_refused read front e held zs so_far next =
+    for_text_map e (item_at (held ++ zs) ≡ None) (read ≡ None) (items_none item_at line_of_piece read front (held ++ zs) so_far) next
 
 -- the others were read at once
 pub others_found : {A X : Type 0} (P Q : List A → X → Type 0) (read : Read (List A)) (front : List A) (f : List ℕ → Read (List A)) (held later zs ws : List ℕ) (r : Result X ReaderError)
@@ -271,44 +287,6 @@ pub section_finds : {X : Type 0} (P : List ALine → X → Type 0) (k : SectionK
     → Finds (letter_at k bytes) (Ok (tt {0})) held zs → FindsWith P (items_at item_at (held ++ zs)) r later ws → FindsWith P (section_at (letter_of k) bytes) r later ws
 section_finds P k bytes held later zs ws r first next =
     subst (λ o. FindsWith P o r later ws) (section_is k bytes) (then_finds P (letter_at k bytes) (λ u. items_at item_at) tt held later zs ws r first next)
-
--- ---- the end
-
-end_of : (bytes left : List ℕ) → bytes ≡ [] → left ≡ [] → end_at bytes ≡ Some (tt, left)
-unfolding end_at
-end_of bytes left none over = rw (none, over) refl
-
-pub end_found : (held later ys zs : List ℕ) (n : ℕ) → n ≡ 0 → Lies held ys later zs n → Finds (end_at (held ++ ys)) (Ok (tt {0})) later zs
-end_found held later ys zs n is lies =
-    let none = none_left held later ys zs n is lies in
-    end_of (held ++ ys) (later ++ zs) none (sym lies.0 ∙ none)
-
--- the text goes on
-no_end : (bytes : List ℕ) → (bytes ≡ [] → ⊥) → end_at bytes ≡ None
-unfolding end_at
-no_end [] some = absurd (some refl)
-no_end (c ∷ cs) some = refl
-
-pub end_missed : (held later ys zs : List ℕ) (n : ℕ) → Lies held ys later zs n → n ≤ length later → 0 < n → end_at (held ++ ys) ≡ None
-end_missed held later ys zs n lies within some = no_end (held ++ ys) (λ none. let nought = some_left held later ys zs n lies within none in omega (arith, nought, some))
-
--- behind the end nothing is left
-pub over : (bytes held later : List ℕ) → end_at bytes ≡ Some (tt {0}, held ++ later) → later ≡ []
-unfolding end_at
-over [] held later e =
-    let none : held ++ later ≡ [] = ap (λ (w : Unit {0} × List ℕ). w.1) (same_Some (tt {0}, held ++ later) (tt {0}, []) (sym e)) in
-    nil_from_length later (omega (arith, ap length none, length-append held later))
-over (c ∷ cs) held later e = absurd (none-some (tt {0}, held ++ later) e)
-
-pub at_end : (bytes rest : List ℕ) (u : Unit {0}) → end_at bytes ≡ Some (u, rest) → bytes ≡ []
-unfolding end_at
-at_end [] rest u e = refl
-at_end (c ∷ cs) rest u e = absurd (none-some (u, rest) e)
-
-pub not_at_end : (bytes : List ℕ) → end_at bytes ≡ None → bytes ≡ [] → ⊥
-unfolding end_at
-not_at_end [] e none = none-some (tt {0}, []) (sym e)
-not_at_end (c ∷ cs) e none = absurd cc
 
 -- ---- the whole text
 

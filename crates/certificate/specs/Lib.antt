@@ -1,7 +1,6 @@
 pub mod Held
 pub mod Numbers
 pub mod Texts
-pub mod Pieces
 pub mod Reading
 pub mod Refusals
 pub mod Streams

@@ -1,12 +1,12 @@
 -- What is reported of a text that is refused.
-use Rattle.std.specs.Prelude.{ℕ, ◌-◌}
+use Rattle.std.specs.Prelude.{ℕ, ◌-◌, Result, Ok, Err}
 use Rattle.base.specs.Witness.{witness}
 use Rattle.scan.specs.declared.fault.Fault.{Fault}
 use Rattle.scan.specs.declared.fault.Fault.TheVariants.{Memory, Text}
 use Rattle.certificate.specs.declared.cert_error.CertError.{CertError}
 use Rattle.certificate.specs.declared.cert_error.CertError.TheVariants as error
-use Rattle.pieces.specs.declared.pieces.PieceError.{PieceError}
-use Rattle.pieces.specs.declared.pieces.PieceError.TheVariants as piece
+use Rattle.pieces.specs.declared.line_error.LineError.{LineError}
+use Rattle.pieces.specs.declared.line_error.LineError.TheVariants as line
 use Rattle.certificate.specs.declared.reader_error.ReaderError.{ReaderError}
 use Rattle.certificate.specs.declared.reader_error.ReaderError.TheVariants.{Refused, Device}
 use Rattle.certificate.specs.declared.cert_fault.CertFault.{CertFault}
@@ -26,7 +26,12 @@ abbrev pub error_of : ℕ → Fault CertFault → CertError
 error_of length (Memory refused) = error.OutOfMemory witness
 error_of length (Text kind left) = at_byte kind (length - left)
 
--- what it is for a reader that no piece comes
-abbrev pub of_piece : PieceError → ReaderError
-of_piece (piece.OutOfMemory refused) = Refused (error.OutOfMemory witness)
-of_piece piece.Device = Device
+-- what it is for a reader that no line comes
+abbrev pub of_line : LineError CertFault → ReaderError
+of_line (line.Refused length fault) = Refused (error_of length fault)
+of_line line.Device = Device
+
+-- what an answer is for a reader
+abbrev pub answer_of : {A : Type 0} → Result A (LineError CertFault) → Result A ReaderError
+answer_of (Ok x) = Ok x
+answer_of (Err e) = Err (of_line e)

@@ -1,14 +1,13 @@
 -- What a reader over a source finds.
-use Rattle.std.specs.Prelude.{◌≡◌, ℕ, Bool, List, [], ◌∷◌, ◌++◌, Option, Some, None, Result, Ok, Err}
+use Rattle.std.specs.Prelude.{◌≡◌, ℕ, List, ◌++◌, Some, None, Result, Ok, Err}
 use Rattle.scan.specs.Reading.{◌>>=◌, Read}
 use Rattle.scan.specs.Bytes.{byte_at}
 use Rattle.graph.specs.declared.circuit.Lit.{Lit}
-use Rattle.lrat.specs.declared.line.Line.{Line}
 use Rattle.graph.specs.declared.circuit.Property.{Property as AProperty}
 use Rattle.certificate.specs.declared.cert_error.CertError.TheVariants.{OutOfMemory}
 use Rattle.certificate.specs.declared.certificate.Certificate.{Certificate}
 use Rattle.certificate.specs.declared.head.Version.{Version}
-use Rattle.certificate.specs.Reading.{lemmas_at, line_where, sections_at}
+use Rattle.certificate.specs.Reading.{lemmas_at, sections_at}
 use Rattle.certificate.specs.declared.kinds.SectionKind.{SectionKind}
 use Rattle.certificate.specs.declared.kinds.SectionKind.TheVariants.{Lemmas, Initial, Step, Bad}
 use Rattle.certificate.specs.declared.reader_error.ReaderError.{ReaderError}
@@ -33,16 +32,6 @@ Finds read (Err e) held later = ForText e (read ≡ None)
 
 -- ---- what is read of lines
 
--- an answer, with the line that was read into a buffer
-abbrev pub with_line : Result Bool ReaderError → Line → Result (Option Line) ReaderError
-with_line (Ok there) line = Ok (line_where there line)
-with_line (Err e) line = Err e
-
--- an answer, with the list that was read
-abbrev pub with_list : {A : Type 0} → Result (Unit {0}) ReaderError → List A → Result (List A) ReaderError
-with_list (Ok done) list = Ok list
-with_list (Err e) list = Err e
-
 -- the letter of a section
 abbrev pub letter_of : SectionKind → ℕ
 letter_of Lemmas = 108
@@ -60,11 +49,6 @@ parts_at version property count invariant bytes = do
   lemmas ← lemmas_at version bytes
   sections ← sections_at count lemmas.1
   Some (record { property = property; invariant = invariant; lemmas = lemmas.0; sections = sections.0 }, sections.1)
-
--- nothing more
-unfoldable pub end_at : List ℕ → Read (Unit {0})
-end_at [] = Some (tt, [])
-end_at (c ∷ cs) = None
 
 -- ---- lists that are read one value after the other
 

@@ -1,11 +1,14 @@
 //! The lines before the sections.
 
+ghost use Rattle.std.specs.Prelude.{List};
+ghost use Rattle.graph.specs.declared.circuit.Lit.{Lit as ALit};
 ghost use Rattle.scan.specs.Reading.{Gives};
 ghost use Rattle.certificate.specs.Reading.{first_line_at, version_at, property_at, spaced_at, literals_at, clause_at};
 
 use crate::cert_fault::{CertFault, IN_LINE, IN_PROPERTY, IN_VERSION};
 use base::Seq;
 use graph::{Lit, MOST_VARIABLES, Property};
+use pieces::BufferKind;
 use scan::{Fault, LineKind, byte, field, lines_into, number, tag};
 use std::alloc::Global;
 
@@ -109,7 +112,7 @@ fn literals_into<'t>(
 /// The literals of the clause of a line, put into a list that is emptied first and keeps its memory,
 /// and what follows the line.
 #[tactic(auto, unfolding(crate::specs::Reading::clause_at))]
-pub fn clause_into<'t>(
+fn clause_into<'t>(
     alloc: Global,
     clause: &mut Vec<Lit>,
     text: &'t [u8],
@@ -142,5 +145,33 @@ impl LineKind for ClauseLine {
         let mut clause = Vec::new(alloc);
         let rest = clause_into(alloc, &mut clause, text)?;
         Ok((Seq::from_vec(clause), rest))
+    }
+}
+
+impl BufferKind for ClauseLine {
+    type Buffer = Vec<Lit>;
+
+    type Item = ();
+
+    type Context = ();
+
+    type Fault = CertFault;
+
+    ghost Value = { List ALit };
+
+    ghost allows = { λ _. Unit {0} };
+
+    ghost at = { λ _ bytes. clause_at bytes };
+
+    ghost seen = { λ _ clause. clause.items };
+
+    fn line_into<'t>(
+        alloc: Global,
+        clause: &mut Vec<Lit>,
+        text: &'t [u8],
+        _context: (),
+    ) -> Result<((), &'t [u8]), Fault<CertFault>> {
+        let rest = clause_into(alloc, clause, text)?;
+        Ok(((), rest))
     }
 }

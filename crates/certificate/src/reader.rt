@@ -5,117 +5,35 @@ ghost use Rattle.base.specs.Devices.{Reads, FailsOnce};
 ghost use Rattle.scan.specs.Reading.{ended};
 ghost use Rattle.scan.specs.Words.{any, field_at};
 ghost use Rattle.lrat.specs.Limits.{IsLine};
-ghost use Rattle.certificate.specs.Pieces.{IsOfPiece};
-ghost use Rattle.certificate.specs.Reading.{clause_at, first_line_at, greatest, item_at, property_at};
+ghost use Rattle.pieces.specs.Lines.{IsOfPiece, end_at, with_buffer};
+ghost use Rattle.certificate.specs.Reading.{clause_at, first_line_at, greatest, item_at, line_where, property_at};
 ghost use Rattle.certificate.specs.Held.{Held, refusal_of};
-ghost use Rattle.certificate.specs.Streams.{Finds, end_at, letter_at, with_line, with_list};
+ghost use Rattle.certificate.specs.Refusals.{answer_of};
+ghost use Rattle.certificate.specs.Streams.{Finds, letter_at};
 ghost use Rattle.certificate.specs.declared.reader_error.ReaderError.TheVariants.{Device, Refused as IsRefused};
 
 use crate::cert_error::CertError;
-use crate::cert_fault::{CertFault, error};
-use crate::head::{Version, clause_into};
+use crate::cert_fault::CertFault;
+use crate::head::{ClauseLine, Version};
 use crate::kinds::{CountLine, FirstLine, LetterLine, PropertyLine, SectionKind};
 use crate::reader_error::ReaderError;
-use crate::sections::line_into;
+use crate::sections::ItemLine;
 use base::{Refused, Source};
 use graph::{Lit, Property};
 use lrat::LineBuffer;
-use pieces::Pieces;
+use pieces::{LineError, Lines};
 use scan::LineKind;
 use std::alloc::Global;
 use std::marker::Model;
 
-/// Reads the next line, of a kind that is read from one piece.
-#[tactic(auto, using(crate::proofs::LineLaws::rest_within))]
-fn line_from<L: LineKind<Fault = CertFault>, S: Source>(
-    alloc: Global,
-    pieces: &mut Pieces,
-    before: &mut usize,
-    context: L::Context,
-    from: &mut S,
-) -> Result<L::Item, ReaderError>
-    requires allows { L.allows context }
-    requires line { IsOfPiece (L.at context) }
-    requires source { S.failed from.old < 2 ^ 64 - 1 }
-    ensures says { Reads (S.leaves from.old) (S.leaves from.new) (λ ys zs. Finds (L.at context (pieces.old ++ ys)) result pieces.new zs) }
-    ensures given { IfOk result (λ x. (text : List ℕ) × (ended (L.at context text) ≡ Some x)) }
-    ensures moves { IfOk result (λ _. length pieces.new + S.most from.new < length pieces.old + S.most from.old) }
-    ensures device { FailsOnce result Device (S.failed from.old) (S.failed from.new) }
+/// What an answer is for a reader of certificates.
+fn answered<T>(answer: Result<T, LineError<CertFault>>) -> Result<T, ReaderError>
+    ensures { result ≡ answer_of answer }
 {
-    let n = pieces.next(from)?;
-    let (item, left) = match L::line(alloc, pieces.first(n), context) {
-        Ok((item, rest)) => (item, rest.len()),
-        Err(fault) => return Err(ReaderError::Refused(error(before.saturating_add(n), fault))),
-    };
-    let taken = n - left;
-    pieces.skip(taken);
-    *before = before.saturating_add(taken);
-    Ok(item)
-}
-
-/// Reads the clause of the next line into the list.
-#[tactic(auto, using(crate::proofs::LineLaws::clause_of_piece, crate::proofs::LineLaws::rest_within, crate::proofs::LineLaws::rest_less))]
-fn clause_from<S: Source>(
-    alloc: Global,
-    pieces: &mut Pieces,
-    before: &mut usize,
-    clause: &mut Vec<Lit>,
-    from: &mut S,
-) -> Result<(), ReaderError>
-    requires source { S.failed from.old < 2 ^ 64 - 1 }
-    ensures says { Reads (S.leaves from.old) (S.leaves from.new) (λ ys zs. Finds (clause_at (pieces.old ++ ys)) (with_list result clause.new.items) pieces.new zs) }
-    ensures device { FailsOnce result Device (S.failed from.old) (S.failed from.new) }
-{
-    let n = pieces.next(from)?;
-    let left = match clause_into(alloc, clause, pieces.first(n)) {
-        Ok(rest) => rest.len(),
-        Err(fault) => return Err(ReaderError::Refused(error(before.saturating_add(n), fault))),
-    };
-    let taken = n - left;
-    pieces.skip(taken);
-    *before = before.saturating_add(taken);
-    Ok(())
-}
-
-/// Reads the next line of a section into the buffer, and answers whether there is one.
-#[tactic(auto, using(crate::proofs::LineLaws::line_of_piece, crate::proofs::LineLaws::line_within, crate::proofs::LineLaws::rest_within, crate::proofs::LineLaws::rest_less))]
-fn item_from<S: Source>(
-    alloc: Global,
-    pieces: &mut Pieces,
-    before: &mut usize,
-    line: &mut LineBuffer,
-    from: &mut S,
-) -> Result<bool, ReaderError>
-    requires source { S.failed from.old < 2 ^ 64 - 1 }
-    ensures says { Reads (S.leaves from.old) (S.leaves from.new) (λ ys zs. Finds (item_at (pieces.old ++ ys)) (with_line result line.new) pieces.new zs) }
-    ensures line { IfOk (with_line result line.new) (λ l. IfSome l IsLine) }
-    ensures moves { IfOk result (λ _. length pieces.new + S.most from.new < length pieces.old + S.most from.old) }
-    ensures device { FailsOnce result Device (S.failed from.old) (S.failed from.new) }
-{
-    let n = pieces.next(from)?;
-    let (there, left) = match line_into(alloc, line, pieces.first(n)) {
-        Ok((there, rest)) => (there, rest.len()),
-        Err(fault) => return Err(ReaderError::Refused(error(before.saturating_add(n), fault))),
-    };
-    let taken = n - left;
-    pieces.skip(taken);
-    *before = before.saturating_add(taken);
-    Ok(there)
-}
-
-/// Says that nothing is left: the source must be at its end.
-fn end_from<S: Source>(pieces: &mut Pieces, before: usize, from: &mut S) -> Result<(), ReaderError>
-    requires source { S.failed from.old < 2 ^ 64 - 1 }
-    ensures says { Reads (S.leaves from.old) (S.leaves from.new) (λ ys zs. Finds (end_at (pieces.old ++ ys)) result pieces.new zs) }
-    ensures device { FailsOnce result Device (S.failed from.old) (S.failed from.new) }
-{
-    let n = pieces.next(from)?;
-    if n > 0 {
-        return Err(ReaderError::Refused(CertError::Section {
-            place: before as u64,
-        }));
+    match answer {
+        Ok(item) => Ok(item),
+        Err(e) => Err(ReaderError::from(e)),
     }
-    Ok(())
 }
 
 /// The refusal that an answer tells, if any.
@@ -138,10 +56,8 @@ fn told<T>(answer: &Result<T, ReaderError>) -> Option<CertError>
 /// source failed, the next call asks it again.
 #[derive(Drop)]
 pub struct Reader {
-    /// the bytes that were taken, in pieces
-    pieces: Pieces,
-    /// how many bytes were read
-    before: usize,
+    /// the lines of the bytes that were taken
+    lines: Lines,
     /// why the text is refused, once it is
     refusal: Option<CertError>,
 }
@@ -151,7 +67,7 @@ impl Model for Reader {
 
     ghost Value = { Held };
 
-    ghost view = { λ r. held_of r.pieces r.refusal };
+    ghost view = { λ r. held_of r.lines r.refusal };
 }
 
 impl Reader {
@@ -161,8 +77,7 @@ impl Reader {
         ensures refusal { IfOk result (λ r. r.refusal ≡ None) }
     {
         Ok(Reader {
-            pieces: Pieces::new(alloc)?,
-            before: 0,
+            lines: Lines::new(alloc)?,
             refusal: None,
         })
     }
@@ -220,6 +135,7 @@ impl Reader {
     }
 
     /// Reads the next clause into the list, which is emptied first and keeps its memory.
+    #[tactic(auto, using(crate::proofs::LineLaws::clause_of_piece))]
     pub fn clause_into<S: Source>(
         &mut self,
         alloc: Global,
@@ -227,7 +143,7 @@ impl Reader {
         from: &mut S,
     ) -> Result<(), ReaderError>
         requires source { S.failed from.old < 2 ^ 64 - 1 }
-        ensures says { Reads (S.leaves from.old) (S.leaves from.new) (λ ys zs. Finds (clause_at (self.old.held ++ ys)) (with_list result clause.new.items) self.new.held zs) }
+        ensures says { Reads (S.leaves from.old) (S.leaves from.new) (λ ys zs. Finds (clause_at (self.old.held ++ ys)) (with_buffer (λ _ c. c.items) result clause.new) self.new.held zs) }
         ensures device { FailsOnce result Device (S.failed from.old) (S.failed from.new) }
         ensures again { IfSome self.old.refusal (λ e. (result ≡ Err (IsRefused e)) × (from.new ≡ from.old)) }
         ensures remembers { self.new.refusal ≡ refusal_of result }
@@ -235,7 +151,10 @@ impl Reader {
         if let Some(refusal) = self.refusal {
             return Err(ReaderError::Refused(refusal));
         }
-        let answer = clause_from::<S>(alloc, &mut self.pieces, &mut self.before, clause, from);
+        let answer = answered(
+            self.lines
+                .line_into::<ClauseLine, S>(alloc, clause, (), from),
+        );
         self.refusal = told(&answer);
         answer
     }
@@ -259,7 +178,7 @@ impl Reader {
         if let Some(refusal) = self.refusal {
             return Err(ReaderError::Refused(refusal));
         }
-        let answer = line_from::<L, S>(alloc, &mut self.pieces, &mut self.before, context, from);
+        let answer = answered(self.lines.line::<L, S>(alloc, context, from));
         self.refusal = told(&answer);
         answer
     }
@@ -284,6 +203,7 @@ impl Reader {
     /// Reads the next line of a section's proof into the buffer, and answers whether there is one;
     /// else the proof is at its end. Memory is asked for only where a list of the line is longer
     /// than those before.
+    #[tactic(auto, using(crate::proofs::LineLaws::line_of_piece))]
     pub fn line_into<S: Source>(
         &mut self,
         alloc: Global,
@@ -291,8 +211,8 @@ impl Reader {
         from: &mut S,
     ) -> Result<bool, ReaderError>
         requires source { S.failed from.old < 2 ^ 64 - 1 }
-        ensures says { Reads (S.leaves from.old) (S.leaves from.new) (λ ys zs. Finds (item_at (self.old.held ++ ys)) (with_line result line.new) self.new.held zs) }
-        ensures line { IfOk (with_line result line.new) (λ l. IfSome l IsLine) }
+        ensures says { Reads (S.leaves from.old) (S.leaves from.new) (λ ys zs. Finds (item_at (self.old.held ++ ys)) (with_buffer line_where result line.new) self.new.held zs) }
+        ensures line { IfOk (with_buffer line_where result line.new) (λ l. IfSome l IsLine) }
         ensures moves { IfOk result (λ _. length self.new.held + S.most from.new < length self.old.held + S.most from.old) }
         ensures device { FailsOnce result Device (S.failed from.old) (S.failed from.new) }
         ensures again { IfSome self.old.refusal (λ e. (result ≡ Err (IsRefused e)) × (from.new ≡ from.old)) }
@@ -301,7 +221,7 @@ impl Reader {
         if let Some(refusal) = self.refusal {
             return Err(ReaderError::Refused(refusal));
         }
-        let answer = item_from::<S>(alloc, &mut self.pieces, &mut self.before, line, from);
+        let answer = answered(self.lines.line_into::<ItemLine, S>(alloc, line, (), from));
         self.refusal = told(&answer);
         answer
     }
@@ -317,7 +237,7 @@ impl Reader {
         if let Some(refusal) = self.refusal {
             return Err(ReaderError::Refused(refusal));
         }
-        let answer = end_from::<S>(&mut self.pieces, self.before, from);
+        let answer = answered(self.lines.end::<CertFault, S>(CertFault::Section, from));
         self.refusal = told(&answer);
         answer
     }

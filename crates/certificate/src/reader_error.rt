@@ -2,14 +2,15 @@
 
 ghost use Rattle.std.specs.Prelude.{◌≡◌};
 ghost use Rattle.certificate.specs.Numbers.{reader_number_of, reader_place_of};
-ghost use Rattle.certificate.specs.Refusals.{of_piece};
+ghost use Rattle.certificate.specs.Refusals.{of_line};
 ghost use Rattle.base.specs.Witness.{witness};
 ghost use Rattle.certificate.specs.declared.cert_error.CertError.TheVariants.{OutOfMemory};
 ghost use Rattle.certificate.specs.declared.reader_error.ReaderError.TheVariants.{Refused};
 
 use crate::cert_error::CertError;
+use crate::cert_fault::{CertFault, error};
 use base::Refused;
-use pieces::PieceError;
+use pieces::LineError;
 use thiserror::Error;
 
 /// Why the parts of a certificate's text are not read on.
@@ -31,15 +32,13 @@ impl From<Refused> for ReaderError {
     }
 }
 
-impl From<PieceError> for ReaderError {
-    ghost from_gives = { λ e r. r ≡ of_piece e };
+impl From<LineError<CertFault>> for ReaderError {
+    ghost from_gives = { λ e r. r ≡ of_line e };
 
-    fn from(e: PieceError) -> ReaderError {
+    fn from(e: LineError<CertFault>) -> ReaderError {
         match e {
-            PieceError::OutOfMemory(refused) => ReaderError::Refused(CertError::OutOfMemory(
-                refused,
-            )),
-            PieceError::Device => ReaderError::Device,
+            LineError::Refused { length, fault } => ReaderError::Refused(error(length, fault)),
+            LineError::Device => ReaderError::Device,
         }
     }
 }

@@ -1,14 +1,16 @@
 //! The sections.
 
-ghost use Rattle.std.specs.Prelude.{◌≡◌, ◌++◌, OnOk};
+ghost use Rattle.std.specs.Prelude.{◌≡◌, ◌++◌, Option, OnOk};
 ghost use Rattle.scan.specs.Reading.{Gives};
 ghost use Rattle.scan.specs.Lists.{items_at};
+ghost use Rattle.lrat.specs.declared.line.Line.{Line as ALine};
 ghost use Rattle.certificate.specs.Reading.{item_at, lemmas_at, line_where, section_at, sections_at};
 
 use crate::cert_fault::{CertFault, IN_LETTER, IN_LINE};
 use crate::head::Version;
 use base::{Refused, Seq, push};
 use lrat::{Line, LineBuffer, Proof, next_line};
+use pieces::BufferKind;
 use scan::{Fault, LineKind, byte, lines};
 use std::alloc::Global;
 
@@ -29,25 +31,44 @@ fn line_or_end(alloc: Global, text: &[u8]) -> Result<(Option<Line>, &[u8]), Faul
     }
 }
 
-/// Reads a line of a section into the buffer, and answers whether there is one; else a line with a
-/// dot ends the section. What follows comes with the answer.
-#[tactic(auto, unfolding(crate::specs::Reading::item_at))]
-#[inline(always)]
-pub fn line_into<'t>(
-    alloc: Global,
-    line: &mut LineBuffer,
-    text: &'t [u8],
-) -> Result<(bool, &'t [u8]), Fault<CertFault>>
-    ensures { Gives (λ x. (line_where x.0 line.new, x.1.now)) result (item_at text.now) }
-{
-    match text {
-        [b'.', behind @ ..] => {
-            let rest = byte(behind, b'\n', IN_LINE)?;
-            Ok((false, rest))
-        }
-        _ => {
-            let rest = line.read(alloc, text, IN_LINE)?;
-            Ok((true, rest))
+/// A line of a section, which is read into a buffer; the answer is whether there is one, else a line
+/// with a dot ends the section.
+pub struct ItemLine;
+
+impl BufferKind for ItemLine {
+    type Buffer = LineBuffer;
+
+    type Item = bool;
+
+    type Context = ();
+
+    type Fault = CertFault;
+
+    ghost Value = { Option ALine };
+
+    ghost allows = { λ _. Unit {0} };
+
+    ghost at = { λ _ bytes. item_at bytes };
+
+    ghost seen = { line_where };
+
+    #[tactic(auto, unfolding(crate::specs::Reading::item_at))]
+    #[inline(always)]
+    fn line_into<'t>(
+        alloc: Global,
+        line: &mut LineBuffer,
+        text: &'t [u8],
+        _context: (),
+    ) -> Result<(bool, &'t [u8]), Fault<CertFault>> {
+        match text {
+            [b'.', behind @ ..] => {
+                let rest = byte(behind, b'\n', IN_LINE)?;
+                Ok((false, rest))
+            }
+            _ => {
+                let rest = line.read(alloc, text, IN_LINE)?;
+                Ok((true, rest))
+            }
         }
     }
 }

@@ -7,7 +7,8 @@ use Rattle.scan.specs.Spelling.{Nothing, Then, After}
 use Rattle.scan.specs.Words.{any, field_at}
 use Rattle.scan.specs.Lists.{many_at}
 use Rattle.scan.proofs.Toolbox.{Reads, NeverBegins, bind_some, reads_as, reads_nothing, reads_then, reads_after, reads_choice, skips_byte, skips_tag}
-use Rattle.certificate.specs.Pieces.{IsOfPiece}
+use Rattle.pieces.specs.Lines.{IsOfPiece}
+use Rattle.pieces.proofs.LineLaws.{of_piece}
 use Rattle.certificate.specs.declared.certificate.Certificate.{Certificate as AnEarlier}
 use Rattle.certificate.specs.declared.head.Version.{Version}
 use Rattle.certificate.specs.declared.head.Version.TheVariants.{One, Two}
@@ -15,8 +16,7 @@ use Rattle.certificate.specs.Reading.{greatest, property_at, clause_at, certific
 use Rattle.certificate.specs.Streams.{parts_at}
 use Rattle.certificate.proofs.CertificateLaws.{certificate_reads as earlier_reads}
 use Rattle.certificate.proofs.HeadLaws.{line_of, first_line_reads as earlier_line_reads}
-use Rattle.pieces.proofs.LineTexts.{IsLineText}
-use Rattle.certificate.proofs.LineLaws.{goes_all, of_piece}
+use Rattle.pieces.proofs.LineTexts.{IsLineText, goes_all}
 use Rattle.certificate.proofs.StreamLaws.{certificate_is}
 use Rattle.certificate3.specs.declared.first_line.Format.{Format}
 use Rattle.certificate3.specs.declared.first_line.Format.TheVariants.{Earlier, Three}

@@ -8,9 +8,10 @@ use Rattle.graph.specs.declared.circuit.Property.TheVariants.{Bad, Justice, Outp
 use Rattle.graph.specs.Circuits.{position_of, property_text}
 use Rattle.pieces.specs.Pieces.{GoesOn}
 use Rattle.pieces.proofs.PieceLaws.{goes_one, goes_append}
-use Rattle.certificate.specs.Pieces.{IsOfPiece}
-use Rattle.pieces.proofs.LineTexts.{IsLineText, goes_decimal}
-use Rattle.certificate.proofs.LineLaws.{goes_each, goes_property, of_piece, goes_all}
+use Rattle.pieces.specs.Lines.{IsOfPiece}
+use Rattle.pieces.proofs.LineLaws.{of_piece}
+use Rattle.pieces.proofs.LineTexts.{IsLineText, goes_all, goes_decimal, goes_each}
+use Rattle.certificate.proofs.LineLaws.{goes_property}
 use Rattle.certificate3.specs.declared.claim.Claim.{Claim}
 use Rattle.certificate3.specs.declared.sizes.Sizes.{Sizes}
 use Rattle.certificate3.specs.Reading.{first_line_at, claim_at, sizes_at, latch_at, gate_at, hints_at}

@@ -4,8 +4,10 @@ use Rattle.std.proofs.Common.{◌≡◌, ℕ, List, [], ◌++◌, Some, None, Re
 use Rattle.std.proofs.lemmas.List.{append-nil}
 use Rattle.std.proofs.lemmas.Option.{none-some, same_Some}
 use Rattle.certificate.specs.declared.reader_error.ReaderError.{ReaderError}
-use Rattle.certificate.specs.Streams.{Finds, FindsWith, ForText, end_at}
-use Rattle.certificate.proofs.StreamLaws.{at_end, for_text_map, not_at_end}
+use Rattle.pieces.specs.Lines.{end_at}
+use Rattle.pieces.proofs.LineLaws.{at_end, not_at_end}
+use Rattle.certificate.specs.Streams.{Finds, FindsWith, ForText}
+use Rattle.certificate.proofs.StreamLaws.{for_text_map}
 use Rattle.certificate3.specs.Reading.{certificate_at}
 use Rattle.certificate3.specs.Texts.{Certificate, SpellsCertificate}
 use Rattle.certificate3.proofs.CertificateLaws.{certificate_reads}

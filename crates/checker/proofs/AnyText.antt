@@ -10,8 +10,10 @@ use Rattle.certificate.specs.declared.certificate.Certificate.{Certificate as An
 use Rattle.certificate.specs.declared.head.Version.{Version}
 use Rattle.certificate.specs.declared.reader_error.ReaderError.{ReaderError}
 use Rattle.certificate.specs.Reading.{certificate_at as earlier_at, first_line_at as earlier_line_at}
-use Rattle.certificate.specs.Streams.{Finds, FindsWith, ForText, end_at}
-use Rattle.certificate.proofs.StreamLaws.{at_end, certificate_is, for_text_map, not_at_end}
+use Rattle.pieces.specs.Lines.{end_at}
+use Rattle.pieces.proofs.LineLaws.{at_end, not_at_end}
+use Rattle.certificate.specs.Streams.{Finds, FindsWith, ForText}
+use Rattle.certificate.proofs.StreamLaws.{certificate_is, for_text_map}
 use Rattle.certificate3.specs.declared.first_line.Format.{Format}
 use Rattle.certificate3.specs.declared.first_line.Format.TheVariants.{Earlier, Three}
 use Rattle.certificate3.specs.Formats.{Certified, earlier, third, SpellsCertified, behind_at, certified_at, format_at, whole_at}

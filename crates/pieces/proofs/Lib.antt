@@ -1,2 +1,4 @@
 pub mod PieceLaws
 pub mod LineTexts
+pub mod LineLaws
+pub mod ItemLaws

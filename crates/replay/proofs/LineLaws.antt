@@ -1,30 +1,28 @@
 -- Lines are read from the piece that comes next.
-use Rattle.std.proofs.Common.{◌≡◌, ℕ, ◌<◌, Bool, true, false, List, [], ◌∷◌, ◌++◌, length, Option, Some, None, refl, sym, ap, ◌∙◌, append_assoc, arith}
-use Rattle.std.specs.Prelude.{decimal, flat_map}
-use Rattle.std.proofs.lemmas.List.{append-nil, length-append}
-use Rattle.scan.specs.Reading.{Read}
+use Rattle.std.proofs.Common.{◌≡◌, ℕ, ◌<◌, Bool, true, false, List, [], ◌∷◌, Option, Some, None, refl, arith}
+use Rattle.std.specs.Prelude.{flat_map}
 use Rattle.scan.specs.Lists.{items_at}
-use Rattle.scan.proofs.Toolbox.{Reads}
 use Rattle.graph.specs.declared.circuit.Property.{Property as AProperty}
 use Rattle.graph.specs.declared.circuit.Property.TheVariants.{Bad, Justice, Output}
 use Rattle.graph.specs.Circuits.{position_of, property_text}
-use Rattle.pieces.specs.Pieces.{is_inner, piece_at, GoesOn}
-use Rattle.pieces.proofs.LineTexts.{IsLineText, goes_decimal, piece_of_line}
+use Rattle.pieces.specs.Lines.{IsOfPiece}
+use Rattle.pieces.specs.Pieces.{is_inner, GoesOn}
+use Rattle.pieces.proofs.LineLaws.{of_piece}
+use Rattle.pieces.proofs.LineTexts.{IsLineText, goes_number}
 use Rattle.pieces.proofs.PieceLaws.{goes_nil, goes_one, goes_append}
 use Rattle.stimulus.specs.Reading.{line_at, property_at, value_at}
 use Rattle.stimulus.specs.Texts.{value_text}
 use Rattle.replay.specs.declared.kinds.Status.{Status}
 use Rattle.replay.specs.declared.kinds.Status.TheVariants.{Holds, Violated, Unknown}
-use Rattle.replay.specs.Lines.{IsOfLine}
 use Rattle.replay.specs.Reading.{dot_at, status_at}
 use Rattle.replay.proofs.TextLaws.{IsDotLine, IsInput, IsLine, IsPropertyLine, IsStatusLine, dot_reads, line_reads, property_reads, status_digit, status_reads, values_reads}
 
 -- ---- what is a line
 
 goes_property : (p : AProperty) → position_of p < 4294967296 → GoesOn (property_text p)
-goes_property (Bad n) lt = goes_append (98 ∷ []) (decimal n) (goes_one 98 refl) (goes_decimal n (omega (arith, lt)))
-goes_property (Justice n) lt = goes_append (106 ∷ []) (decimal n) (goes_one 106 refl) (goes_decimal n (omega (arith, lt)))
-goes_property (Output n) lt = goes_append (111 ∷ []) (decimal n) (goes_one 111 refl) (goes_decimal n (omega (arith, lt)))
+goes_property (Bad n) lt = goes_number 98 n refl (omega (arith, lt))
+goes_property (Justice n) lt = goes_number 106 n refl (omega (arith, lt))
+goes_property (Output n) lt = goes_number 111 n refl (omega (arith, lt))
 
 goes_values : (values : List Bool) → GoesOn (flat_map value_text values)
 goes_values [] = goes_nil
@@ -54,36 +52,17 @@ input_is_line t (Some values) e = values_is_line t values e
 
 -- ---- a line is read from its piece
 
-some_bytes : (t body : List ℕ) → t ≡ body ++ 10 ∷ [] → 0 < length t
-some_bytes t body e = omega (arith, ap length e, length-append body (10 ∷ []))
+pub status_of_piece : IsOfPiece status_at
+status_of_piece = of_piece status_reads status_is_line
 
-of_line : {A : Type 0} {p : List ℕ → Read A} {R : List ℕ → A → Type 0} → Reads p R → ((t : List ℕ) (x : A) → R t x → IsLineText t) → IsOfLine p
-of_line {A} {p} {R} law lines = record {
-  takes = λ bytes rest x e.
-      let (front, spelled, whole) = law.sound bytes x rest e in
-      let (body, goes, is) = lines front x spelled in
-      (front, whole, some_bytes front body is);
-  goes = λ bytes rest more x e.
-      let (front, spelled, whole) = law.sound bytes x rest e in
-      ap p (ap (λ (w : List ℕ). w ++ more) whole ∙ append_assoc front rest more) ∙ law.complete front x (rest ++ more) spelled;
-  cut = λ bytes rest x e.
-      let (front, spelled, whole) = law.sound bytes x rest e in
-      let (body, goes, is) = lines front x spelled in
-      let piece : (piece_at bytes).0 ≡ front = ap (λ (w : List ℕ × List ℕ). w.0) (ap piece_at (whole ∙ ap (λ (w : List ℕ). w ++ rest) is) ∙ piece_of_line body rest goes) ∙ sym is in
-      ap p (piece ∙ sym (append-nil front)) ∙ law.complete front x [] spelled;
-}
+pub property_of_piece : IsOfPiece property_at
+property_of_piece = of_piece property_reads property_is_line
 
-pub status_of_line : IsOfLine status_at
-status_of_line = of_line status_reads status_is_line
+pub dot_of_piece : IsOfPiece dot_at
+dot_of_piece = of_piece dot_reads dot_is_line
 
-pub property_of_line : IsOfLine property_at
-property_of_line = of_line property_reads property_is_line
+pub values_of_piece : IsOfPiece (items_at value_at)
+values_of_piece = of_piece values_reads values_is_line
 
-pub dot_of_line : IsOfLine dot_at
-dot_of_line = of_line dot_reads dot_is_line
-
-pub values_of_line : IsOfLine (items_at value_at)
-values_of_line = of_line values_reads values_is_line
-
-pub input_of_line : IsOfLine line_at
-input_of_line = of_line line_reads input_is_line
+pub input_of_piece : IsOfPiece line_at
+input_of_piece = of_piece line_reads input_is_line

@@ -15,13 +15,15 @@ use Rattle.stimulus.specs.declared.value.Stimulus.TheVariants as stimulus
 use Rattle.stimulus.specs.Reading.{concluded_at, heading_at, holds_at, line_at, property_at, stimulus_at, unknown_at, value_at, violated_at}
 use Rattle.stimulus.specs.Texts.{SpellsStimulus, property_of}
 use Rattle.stimulus.proofs.TextLaws.{stimulus_reads}
+use Rattle.pieces.specs.Lines.{end_at}
+use Rattle.pieces.proofs.LineLaws.{at_end, not_at_end}
 use Rattle.replay.specs.declared.kinds.Status.{Status}
 use Rattle.replay.specs.declared.kinds.Status.TheVariants.{Holds, Violated, Unknown}
 use Rattle.replay.specs.declared.text_error.TextError.{TextError}
 use Rattle.replay.specs.Found.{AreFound, IsFound, IsOutcome}
-use Rattle.replay.specs.Reading.{IsConclusion, body_at, digit_at, dot_at, end_at, run_at, status_at}
+use Rattle.replay.specs.Reading.{IsConclusion, body_at, digit_at, dot_at, run_at, status_at}
 use Rattle.replay.specs.Streams.{Finds, FindsWith, ForText}
-use Rattle.replay.proofs.StreamLaws.{at_end, finds_made, for_text_map, not_at_end, then_finds, then_none}
+use Rattle.replay.proofs.StreamLaws.{finds_made, for_text_map, then_finds, then_none}
 
 -- ---- the lines of a run
 

@@ -1,5 +1,5 @@
 -- How the lines of a stimulus are read, one after the other.
-use Rattle.std.specs.Prelude.{ℕ, Bool, true, false, List, [], ◌∷◌, Option, Some, None, codes}
+use Rattle.std.specs.Prelude.{ℕ, Bool, true, false, List, Option, Some, None, codes}
 use Rattle.scan.specs.Reading.{◌>>=◌, Read}
 use Rattle.scan.specs.Bytes.{byte_at, choice_at, tag_at}
 use Rattle.scan.specs.Lists.{items_at}
@@ -47,8 +47,3 @@ IsConclusion Unknown = Unit {0}
 abbrev pub line_where : Bool → List Bool → Option (List Bool)
 line_where true line = Some line
 line_where false line = None
-
--- nothing more
-unfoldable pub end_at : List ℕ → Read (Unit {0})
-end_at [] = Some (tt, [])
-end_at (c ∷ cs) = None

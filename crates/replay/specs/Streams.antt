@@ -1,8 +1,7 @@
 -- What a reader over a source finds.
-use Rattle.std.specs.Prelude.{◌≡◌, ℕ, Bool, List, ◌++◌, Option, Some, None, Result, Ok, Err}
+use Rattle.std.specs.Prelude.{◌≡◌, ℕ, List, ◌++◌, Some, None, Result, Ok, Err}
 use Rattle.scan.specs.Reading.{◌>>=◌, Read}
 use Rattle.stimulus.specs.declared.stim_error.StimError.TheVariants.{OutOfMemory}
-use Rattle.replay.specs.Reading.{line_where}
 use Rattle.replay.specs.declared.text_error.TextError.{TextError}
 use Rattle.replay.specs.declared.text_error.TextError.TheVariants.{Refused, Device}
 
@@ -22,16 +21,6 @@ FindsWith P read (Err e) held later = ForText e (read ≡ None)
 abbrev pub Finds : {A : Type 0} → Read A → Result A TextError → List ℕ → List ℕ → Type 0
 Finds read (Ok x) held later = read ≡ Some (x, held ++ later)
 Finds read (Err e) held later = ForText e (read ≡ None)
-
--- an answer, with the line that was read into a buffer
-abbrev pub with_line : Result Bool TextError → List Bool → Result (Option (List Bool)) TextError
-with_line (Ok there) line = Ok (line_where there line)
-with_line (Err e) line = Err e
-
--- the line that was read into a buffer
-abbrev pub with_values : Result (Unit {0}) TextError → List Bool → Result (List Bool) TextError
-with_values (Ok done) line = Ok line
-with_values (Err e) line = Err e
 
 -- these values were read of a list that is read, and the others are read of the bytes that are held, and then the later ones
 abbrev pub StillReads : {A : Type 0} → Read (List A) → List A → (List ℕ → Read (List A)) → List ℕ → List ℕ → Type 0

@@ -1,10 +1,13 @@
 //! The kinds of lines in the text of a stimulus.
 
+ghost use Rattle.std.specs.Prelude.{Bool, List, Option};
+ghost use Rattle.scan.specs.Lists.{items_at};
 ghost use Rattle.scan.specs.Reading.{Gives};
-ghost use Rattle.stimulus.specs.Reading.{line_at, property_at};
+ghost use Rattle.stimulus.specs.Reading.{line_at, property_at, value_at};
 ghost use Rattle.replay.specs.Reading.{digit_at, dot_at, line_where, status_at};
 
 use graph::Property;
+use pieces::BufferKind;
 use scan::{Fault, LineKind, byte, items_into, tag};
 use std::alloc::Global;
 use stimulus::{IN_LINES, IN_STATUS, StimFault, Values, begins_otherwise, property};
@@ -103,24 +106,74 @@ impl LineKind for DotLine {
     }
 }
 
-/// Reads an input line into the buffer, and answers whether it is one; else it is the dot's line
-/// behind the last. What follows comes with the answer.
-#[tactic(auto, unfolding(stimulus::specs::Reading::line_at))]
-pub fn line_or_end<'t>(
-    alloc: Global,
-    line: &mut Vec<bool>,
-    text: &'t [u8],
-) -> Result<(bool, &'t [u8]), Fault<StimFault>>
-    ensures { Gives (λ x. (line_where x.0 line.new.items, x.1.now)) result (line_at text.now) }
-{
-    match text {
-        [b'.', behind @ ..] => {
-            let rest = byte(behind, b'\n', IN_LINES)?;
-            Ok((false, rest))
-        }
-        _ => {
-            let rest = items_into::<Values>(alloc, line, text, ())?;
-            Ok((true, rest))
+/// A line of values, which is read into a buffer.
+pub struct ValuesLine;
+
+impl BufferKind for ValuesLine {
+    type Buffer = Vec<bool>;
+
+    type Item = ();
+
+    type Context = ();
+
+    type Fault = StimFault;
+
+    ghost Value = { List Bool };
+
+    ghost allows = { λ _. Unit {0} };
+
+    ghost at = { λ _ bytes. items_at value_at bytes };
+
+    ghost seen = { λ _ line. line.items };
+
+    fn line_into<'t>(
+        alloc: Global,
+        line: &mut Vec<bool>,
+        text: &'t [u8],
+        _context: (),
+    ) -> Result<((), &'t [u8]), Fault<StimFault>> {
+        let rest = items_into::<Values>(alloc, line, text, ())?;
+        Ok(((), rest))
+    }
+}
+
+/// An input line, which is read into a buffer; the answer is whether it is one, else it is the dot's
+/// line behind the last.
+pub struct InputLine;
+
+impl BufferKind for InputLine {
+    type Buffer = Vec<bool>;
+
+    type Item = bool;
+
+    type Context = ();
+
+    type Fault = StimFault;
+
+    ghost Value = { Option (List Bool) };
+
+    ghost allows = { λ _. Unit {0} };
+
+    ghost at = { λ _ bytes. line_at bytes };
+
+    ghost seen = { λ there line. line_where there line.items };
+
+    #[tactic(auto, unfolding(stimulus::specs::Reading::line_at))]
+    fn line_into<'t>(
+        alloc: Global,
+        line: &mut Vec<bool>,
+        text: &'t [u8],
+        _context: (),
+    ) -> Result<(bool, &'t [u8]), Fault<StimFault>> {
+        match text {
+            [b'.', behind @ ..] => {
+                let rest = byte(behind, b'\n', IN_LINES)?;
+                Ok((false, rest))
+            }
+            _ => {
+                let rest = items_into::<Values>(alloc, line, text, ())?;
+                Ok((true, rest))
+            }
         }
     }
 }

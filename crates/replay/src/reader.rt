@@ -3,92 +3,31 @@
 ghost use Rattle.std.specs.Prelude.{◌≡◌, ◌+◌, ◌-◌, ◌^◌, ◌<◌, ℕ, List, [], ◌++◌, IfOk, length};
 ghost use Rattle.base.specs.Devices.{Reads, FailsOnce};
 ghost use Rattle.scan.specs.Lists.{items_at};
+ghost use Rattle.pieces.specs.Lines.{IsOfPiece, end_at, with_buffer};
 ghost use Rattle.stimulus.specs.Reading.{line_at, property_at, value_at};
-ghost use Rattle.replay.specs.Lines.{IsOfLine};
-ghost use Rattle.replay.specs.Reading.{dot_at, end_at, status_at};
-ghost use Rattle.replay.specs.Streams.{Finds, with_line, with_values};
+ghost use Rattle.replay.specs.Reading.{dot_at, line_where, status_at};
+ghost use Rattle.replay.specs.Refusals.{answer_of};
+ghost use Rattle.replay.specs.Streams.{Finds};
 ghost use Rattle.replay.specs.declared.text_error.TextError.TheVariants.{Device};
 
-use crate::kinds::{DotLine, PropertyLine, Status, StatusLine, line_or_end};
+use crate::kinds::{DotLine, InputLine, PropertyLine, Status, StatusLine, ValuesLine};
 use crate::text_error::TextError;
 use base::{Refused, Source};
 use graph::Property;
-use pieces::Pieces;
-use scan::{LineKind, items_into};
+use pieces::{LineError, Lines};
+use scan::LineKind;
 use std::alloc::Global;
 use std::marker::Model;
-use stimulus::{StimError, StimFault, Values, text_error};
+use stimulus::StimFault;
 
-/// Reads the next line, of one kind.
-fn line_from<L: LineKind<Fault = StimFault>, S: Source>(
-    alloc: Global,
-    pieces: &mut Pieces,
-    before: &mut usize,
-    context: L::Context,
-    from: &mut S,
-) -> Result<L::Item, TextError>
-    requires allows { L.allows context }
-    requires line { IsOfLine (L.at context) }
-    requires source { S.failed from.old < 2 ^ 64 - 1 }
-    ensures says { Reads (S.leaves from.old) (S.leaves from.new) (λ ys zs. Finds (L.at context (pieces.old ++ ys)) result pieces.new zs) }
-    ensures device { FailsOnce result Device (S.failed from.old) (S.failed from.new) }
+/// What an answer is for a reader of stimuli.
+fn answered<T>(answer: Result<T, LineError<StimFault>>) -> Result<T, TextError>
+    ensures { result ≡ answer_of answer }
 {
-    let n = pieces.next(from)?;
-    let (item, left) = match L::line(alloc, pieces.first(n), context) {
-        Ok((item, rest)) => (item, rest.len()),
-        Err(fault) => return Err(TextError::Refused(text_error(before.saturating_add(n), fault))),
-    };
-    let taken = n - left;
-    pieces.skip(taken);
-    *before = before.saturating_add(taken);
-    Ok(item)
-}
-
-/// Reads the next line of values into the buffer.
-fn values_from<S: Source>(
-    alloc: Global,
-    pieces: &mut Pieces,
-    before: &mut usize,
-    line: &mut Vec<bool>,
-    from: &mut S,
-) -> Result<(), TextError>
-    requires source { S.failed from.old < 2 ^ 64 - 1 }
-    ensures says { Reads (S.leaves from.old) (S.leaves from.new) (λ ys zs. Finds (items_at value_at (pieces.old ++ ys)) (with_values result line.new.items) pieces.new zs) }
-    ensures device { FailsOnce result Device (S.failed from.old) (S.failed from.new) }
-{
-    let n = pieces.next(from)?;
-    let left = match items_into::<Values>(alloc, line, pieces.first(n), ()) {
-        Ok(rest) => rest.len(),
-        Err(fault) => return Err(TextError::Refused(text_error(before.saturating_add(n), fault))),
-    };
-    let taken = n - left;
-    pieces.skip(taken);
-    *before = before.saturating_add(taken);
-    Ok(())
-}
-
-/// Reads the next input line into the buffer, and answers whether there is one.
-fn input_from<S: Source>(
-    alloc: Global,
-    pieces: &mut Pieces,
-    before: &mut usize,
-    line: &mut Vec<bool>,
-    from: &mut S,
-) -> Result<bool, TextError>
-    requires source { S.failed from.old < 2 ^ 64 - 1 }
-    ensures says { Reads (S.leaves from.old) (S.leaves from.new) (λ ys zs. Finds (line_at (pieces.old ++ ys)) (with_line result line.new.items) pieces.new zs) }
-    ensures moves { IfOk result (λ _. length pieces.new + S.most from.new < length pieces.old + S.most from.old) }
-    ensures device { FailsOnce result Device (S.failed from.old) (S.failed from.new) }
-{
-    let n = pieces.next(from)?;
-    let (there, left) = match line_or_end(alloc, line, pieces.first(n)) {
-        Ok((there, rest)) => (there, rest.len()),
-        Err(fault) => return Err(TextError::Refused(text_error(before.saturating_add(n), fault))),
-    };
-    let taken = n - left;
-    pieces.skip(taken);
-    *before = before.saturating_add(taken);
-    Ok(there)
+    match answer {
+        Ok(item) => Ok(item),
+        Err(e) => Err(TextError::from(e)),
+    }
 }
 
 /// The text of a stimulus, line by line, as a source gives its bytes. It holds the bytes of one
@@ -99,10 +38,8 @@ fn input_from<S: Source>(
 /// After a refusal the text is given up: nothing is said of the bytes that are left.
 #[derive(Drop)]
 pub struct LineReader {
-    /// the bytes that were taken, in pieces
-    pieces: Pieces,
-    /// how many bytes were read
-    before: usize,
+    /// the lines of the bytes that were taken
+    lines: Lines,
 }
 
 impl Model for LineReader {
@@ -110,7 +47,7 @@ impl Model for LineReader {
 
     ghost Value = { List ℕ };
 
-    ghost view = { λ r. r.pieces };
+    ghost view = { λ r. r.lines };
 }
 
 impl LineReader {
@@ -119,23 +56,38 @@ impl LineReader {
         ensures { IfOk result (λ r. r ≡ []) }
     {
         Ok(LineReader {
-            pieces: Pieces::new(alloc)?,
-            before: 0,
+            lines: Lines::new(alloc)?,
         })
     }
 
+    /// The next line, of one kind.
+    fn line<L: LineKind<Fault = StimFault>, S: Source>(
+        &mut self,
+        alloc: Global,
+        context: L::Context,
+        from: &mut S,
+    ) -> Result<L::Item, TextError>
+        requires allows { L.allows context }
+        requires line { IsOfPiece (L.at context) }
+        requires source { S.failed from.old < 2 ^ 64 - 1 }
+        ensures says { Reads (S.leaves from.old) (S.leaves from.new) (λ ys zs. Finds (L.at context (self.old ++ ys)) result self.new zs) }
+        ensures device { FailsOnce result Device (S.failed from.old) (S.failed from.new) }
+    {
+        answered(self.lines.line::<L, S>(alloc, context, from))
+    }
+
     /// What the first line says.
-    #[tactic(auto, using(crate::proofs::LineLaws::status_of_line))]
+    #[tactic(auto, using(crate::proofs::LineLaws::status_of_piece))]
     pub fn status<S: Source>(&mut self, alloc: Global, from: &mut S) -> Result<Status, TextError>
         requires source { S.failed from.old < 2 ^ 64 - 1 }
         ensures says { Reads (S.leaves from.old) (S.leaves from.new) (λ ys zs. Finds (status_at (self.old ++ ys)) result self.new zs) }
         ensures device { FailsOnce result Device (S.failed from.old) (S.failed from.new) }
     {
-        line_from::<StatusLine, S>(alloc, &mut self.pieces, &mut self.before, (), from)
+        self.line::<StatusLine, S>(alloc, (), from)
     }
 
     /// The property that the second line names.
-    #[tactic(auto, using(crate::proofs::LineLaws::property_of_line))]
+    #[tactic(auto, using(crate::proofs::LineLaws::property_of_piece))]
     pub fn property<S: Source>(
         &mut self,
         alloc: Global,
@@ -145,21 +97,22 @@ impl LineReader {
         ensures says { Reads (S.leaves from.old) (S.leaves from.new) (λ ys zs. Finds (property_at (self.old ++ ys)) result self.new zs) }
         ensures device { FailsOnce result Device (S.failed from.old) (S.failed from.new) }
     {
-        line_from::<PropertyLine, S>(alloc, &mut self.pieces, &mut self.before, (), from)
+        self.line::<PropertyLine, S>(alloc, (), from)
     }
 
     /// Reads a line of a dot.
-    #[tactic(auto, using(crate::proofs::LineLaws::dot_of_line))]
+    #[tactic(auto, using(crate::proofs::LineLaws::dot_of_piece))]
     pub fn dot<S: Source>(&mut self, alloc: Global, from: &mut S) -> Result<(), TextError>
         requires source { S.failed from.old < 2 ^ 64 - 1 }
         ensures says { Reads (S.leaves from.old) (S.leaves from.new) (λ ys zs. Finds (dot_at (self.old ++ ys)) result self.new zs) }
         ensures device { FailsOnce result Device (S.failed from.old) (S.failed from.new) }
     {
-        line_from::<DotLine, S>(alloc, &mut self.pieces, &mut self.before, (), from)
+        self.line::<DotLine, S>(alloc, (), from)
     }
 
     /// Reads a line of values into the buffer. Memory is asked for only where the line is longer
     /// than those before.
+    #[tactic(auto, using(crate::proofs::LineLaws::values_of_piece))]
     pub fn values_into<S: Source>(
         &mut self,
         alloc: Global,
@@ -167,15 +120,16 @@ impl LineReader {
         from: &mut S,
     ) -> Result<(), TextError>
         requires source { S.failed from.old < 2 ^ 64 - 1 }
-        ensures says { Reads (S.leaves from.old) (S.leaves from.new) (λ ys zs. Finds (items_at value_at (self.old ++ ys)) (with_values result line.new.items) self.new zs) }
+        ensures says { Reads (S.leaves from.old) (S.leaves from.new) (λ ys zs. Finds (items_at value_at (self.old ++ ys)) (with_buffer (λ _ l. l.items) result line.new) self.new zs) }
         ensures device { FailsOnce result Device (S.failed from.old) (S.failed from.new) }
     {
-        values_from::<S>(alloc, &mut self.pieces, &mut self.before, line, from)
+        answered(self.lines.line_into::<ValuesLine, S>(alloc, line, (), from))
     }
 
     /// Reads the next input line into the buffer, and answers whether there is one; else the dot's
     /// line behind the last was read. Memory is asked for only where the line is longer than those
     /// before.
+    #[tactic(auto, using(crate::proofs::LineLaws::input_of_piece))]
     pub fn line_into<S: Source>(
         &mut self,
         alloc: Global,
@@ -183,11 +137,11 @@ impl LineReader {
         from: &mut S,
     ) -> Result<bool, TextError>
         requires source { S.failed from.old < 2 ^ 64 - 1 }
-        ensures says { Reads (S.leaves from.old) (S.leaves from.new) (λ ys zs. Finds (line_at (self.old ++ ys)) (with_line result line.new.items) self.new zs) }
+        ensures says { Reads (S.leaves from.old) (S.leaves from.new) (λ ys zs. Finds (line_at (self.old ++ ys)) (with_buffer (λ there l. line_where there l.items) result line.new) self.new zs) }
         ensures moves { IfOk result (λ _. length self.new + S.most from.new < length self.old + S.most from.old) }
         ensures device { FailsOnce result Device (S.failed from.old) (S.failed from.new) }
     {
-        input_from::<S>(alloc, &mut self.pieces, &mut self.before, line, from)
+        answered(self.lines.line_into::<InputLine, S>(alloc, line, (), from))
     }
 
     /// Says that nothing is left: the source must be at its end.
@@ -196,12 +150,6 @@ impl LineReader {
         ensures says { Reads (S.leaves from.old) (S.leaves from.new) (λ ys zs. Finds (end_at (self.old ++ ys)) result self.new zs) }
         ensures device { FailsOnce result Device (S.failed from.old) (S.failed from.new) }
     {
-        let n = self.pieces.next(from)?;
-        if n > 0 {
-            return Err(TextError::Refused(StimError::AfterEnd {
-                place: self.before as u64,
-            }));
-        }
-        Ok(())
+        answered(self.lines.end::<StimFault, S>(StimFault::AfterEnd, from))
     }
 }

@@ -2,13 +2,13 @@
 
 ghost use Rattle.std.specs.Prelude.{◌≡◌};
 ghost use Rattle.base.specs.Witness.{witness};
-ghost use Rattle.replay.specs.Refusals.{of_piece};
+ghost use Rattle.replay.specs.Refusals.{of_line};
 ghost use Rattle.replay.specs.declared.text_error.TextError.TheVariants.{Refused};
 ghost use Rattle.stimulus.specs.declared.stim_error.StimError.TheVariants.{OutOfMemory};
 
 use base::Refused;
-use pieces::PieceError;
-use stimulus::StimError;
+use pieces::LineError;
+use stimulus::{StimError, StimFault, text_error};
 use thiserror::Error;
 
 /// Why the lines of a stimulus's text are not read on.
@@ -30,13 +30,13 @@ impl From<Refused> for TextError {
     }
 }
 
-impl From<PieceError> for TextError {
-    ghost from_gives = { λ e r. r ≡ of_piece e };
+impl From<LineError<StimFault>> for TextError {
+    ghost from_gives = { λ e r. r ≡ of_line e };
 
-    fn from(e: PieceError) -> TextError {
+    fn from(e: LineError<StimFault>) -> TextError {
         match e {
-            PieceError::OutOfMemory(refused) => TextError::from(refused),
-            PieceError::Device => TextError::Device,
+            LineError::Refused { length, fault } => TextError::Refused(text_error(length, fault)),
+            LineError::Device => TextError::Device,
         }
     }
 }

@@ -3,7 +3,8 @@ use Rattle.std.proofs.lemmas.Result.{err_from_is_err_and}
 use Rattle.scan.specs.Lists.{items_at}
 use Rattle.scan.proofs.Loops.{until_more, until_stops, until_fails}
 use Rattle.certificate.specs.Reading.{item_at}
-use Rattle.certificate.proofs.LineLaws.{line_of_piece, rest_shorter}
+use Rattle.pieces.proofs.LineLaws.{rest_shorter}
+use Rattle.certificate.proofs.LineLaws.{line_of_piece}
 use Rattle.certificate.proofs.SectionLaws.{item_line}
 use Rattle.certificate.proofs.sections.section_lines.Goals as goal
 

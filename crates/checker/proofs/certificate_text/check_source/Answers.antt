@@ -1,7 +1,7 @@
 use Rattle.std.proofs.Common.{◌≡◌, ◌++◌}
 use Rattle.aiger.proofs.LayoutLaws.{match_gives}
 use Rattle.certificate.specs.Streams.{ForText}
-use Rattle.certificate.proofs.StreamLaws.{over}
+use Rattle.pieces.proofs.LineLaws.{over}
 use Rattle.certificate3.specs.Formats.{Certified, SpellsCertified}
 use Rattle.checker.specs.declared.certificate_text.Outcome.{Outcome}
 use Rattle.checker.specs.AnyVersion.{IsFoundOf, named_property}

@@ -1,7 +1,7 @@
 use Rattle.std.proofs.Common.{◌≡◌, ◌++◌, subst, sym, ap}
 use Rattle.graph.specs.declared.circuit.Property.{Property}
 use Rattle.certificate.specs.Streams.{ForText}
-use Rattle.certificate.proofs.StreamLaws.{over}
+use Rattle.pieces.proofs.LineLaws.{over}
 use Rattle.graph.specs.Circuits.{IsUpheld}
 use Rattle.certificate3.specs.declared.claim.Claim.{Claim}
 use Rattle.certificate3.specs.Texts.{Certificate, SpellsCertificate}

@@ -4,7 +4,8 @@ use Rattle.stimulus.specs.Texts.{SpellsStimulus, property_of}
 use Rattle.replay.specs.declared.judging.Outcome.{Outcome}
 use Rattle.replay.specs.Found.{IsFound, IsOutcome}
 use Rattle.replay.specs.Streams.{ForText}
-use Rattle.replay.proofs.StreamLaws.{match_err, none_later}
+use Rattle.pieces.proofs.LineLaws.{over}
+use Rattle.replay.proofs.StreamLaws.{match_err}
 use Rattle.replay.proofs.TextFound.{text_goes_on, text_refused, text_whole}
 use Rattle.replay.proofs.judging.judge_source.Goals as goal
 
@@ -40,4 +41,4 @@ returns-clause-says g c text later left =
 pub returns-clause-ended : goal.returns-clause-ended
 returns-clause-ended g c text later left =
     let (zs, between, end) = c.in_ok-end.ensures.says text later left in
-    none_later (c.judge_text.new.reader ++ zs) c.end.new.self later tt end
+    over (c.judge_text.new.reader ++ zs) c.end.new.self later end

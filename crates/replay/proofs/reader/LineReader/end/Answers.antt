@@ -1,18 +1,11 @@
-use Rattle.std.proofs.Common.{rules, ◌≡◌, ◌<◌, subst}
-use Rattle.pieces.specs.Pieces.{Lies}
-use Rattle.replay.proofs.StreamLaws.{end_found, end_missed}
+use Rattle.pieces.specs.Lines.{end_at}
+use Rattle.replay.proofs.StreamLaws.{fails_answer, line_found}
 use Rattle.replay.proofs.reader.LineReader.end.Goals as goal
-
-pub returns-then-n-gt0-clause-says : goal.returns-then-n-gt0-clause-says
-returns-then-n-gt0-clause-says g c text later left =
-    let (ys, before, inside) = c.in_ok-n.ensures.reads text later left in
-    let lies = subst (λ held. Lies held ys c.next.new.self later c.in_ok-n.n) c.self.view_is inside in
-    let some : 0 < c.in_ok-n.n = search rules in
-    (ys, before, end_missed c.args.self.now c.next.new.self ys later c.in_ok-n.n lies c.in_ok-n.ensures.within some)
 
 pub returns-clause-says : goal.returns-clause-says
 returns-clause-says g c text later left =
-    let (ys, before, inside) = c.in_ok-n.ensures.reads text later left in
-    let lies = subst (λ held. Lies held ys c.next.new.self later c.in_ok-n.n) c.self.view_is inside in
-    let none : c.in_ok-n.n ≡ 0 = search rules in
-    (ys, before, end_found c.args.self.now c.next.new.self ys later c.in_ok-n.n none lies)
+    let (ys, before, found) = c.end.ensures.says text later left in
+    (ys, before, line_found end_at c.self.inside.lines c.args.self.now c.end.new.self ys later c.end.result c.answered.result c.self.view_is c.answered.ensures found)
+
+pub returns-clause-device : goal.returns-clause-device
+returns-clause-device g c = fails_answer c.end.result c.answered.result _ _ c.answered.ensures c.end.ensures.device
