@@ -57,6 +57,15 @@ def changed(rng, model):
     return model._replace(**rng.choice(changes))
 
 
+def extended(rng, model):
+    """The model with one or two further latches that begin with any literals, and a further gate that is bad too."""
+    first = 2 * most(model) + 2
+    top = first + 2 * rng.randrange(1, 3)
+    latches = [(lit, rng.choice((lit, rng.randrange(top))), rng.randrange(top)) for lit in range(first, top, 2)]
+    gates = [(top, rng.randrange(top), rng.randrange(top)), (top + 2, top + 1, model.bad ^ 1)]
+    return model._replace(latches=model.latches + latches, bad=top + 3, gates=model.gates + gates)
+
+
 def named(rng, model, witness):
     """Lines of a symbol table by which the witness shares some of its latches, or none, so that it goes by position."""
     lits = rng.sample([lit for lit, _, _ in model.latches], len(model.latches))
@@ -158,6 +167,16 @@ def drawn_pair(rng):
     return text_of(model), text_of(witness) + named(rng, model, witness)
 
 
+def function_pair(rng):
+    """The texts of a random model and of a circuit that may be a witness, with a function as the reset of a latch."""
+    while True:
+        model = draw(rng, False)
+        witness = rng.choice((extended(rng, model), draw(rng, True)))
+        texts = text_of(model), text_of(witness) + named(rng, model, witness)
+        if is_odd(texts[1]):
+            return texts
+
+
 def failing_of(pair):
     """The conditions that fail of a pair, by their formulas."""
     failed = ["stratified"] if conditions.stratified(pair.witness) else []
@@ -169,18 +188,19 @@ def failing(*texts):
     return failing_of(conditions.pair_of(*(aiger.read(text.encode()) for text in texts)))
 
 
-def pair_that_fails(rng, wanted):
-    """The texts of a random pair of which just these conditions fail, with resets of 0, 1 and the latch itself."""
+def pair_that_fails(rng, wanted, has_functions):
+    """The texts of a random pair of which just these conditions fail, with functions as resets, or none."""
     for _ in range(TRIES):
-        texts = drawn_pair(rng)
-        if failing(*texts) == wanted and not is_odd(texts[1]):
+        texts = function_pair(rng) if has_functions else drawn_pair(rng)
+        if failing(*texts) == wanted and is_odd(texts[1]) == has_functions:
             return texts
     raise LookupError(f"none of {TRIES} random pairs fails just {wanted}")
 
 
 def is_odd(text):
     """Whether a latch of the circuit has another reset than 0, 1 and itself."""
-    return any(it.reset not in (0, 1, it.lit) for it in aiger.read(text.encode()).latches)
+    content = text if isinstance(text, bytes) else text.encode()
+    return any(it.reset not in (0, 1, it.lit) for it in aiger.read(content).latches)
 
 
 def random_pairs():

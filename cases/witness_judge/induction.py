@@ -27,11 +27,16 @@ def unrolled(circuit, count):
     return formula, frames, moves + [fact for it in frames for fact in conditions.constraints(it)]
 
 
+def holds_at_last(circuit, bad, count):
+    """Whether the property holds at the last of so many first times. Constraints behind it count nothing."""
+    formula, frames, given = unrolled(circuit, count)
+    given += conditions.resets(frames[0], [it.lit for it in circuit.latches])
+    return follows(formula, given, conditions.is_safe(frames[-1], bad))
+
+
 def holds_at_first(circuit, bad, depth):
     """Whether the property holds at so many first times."""
-    formula, frames, given = unrolled(circuit, depth)
-    given += conditions.resets(frames[0], [it.lit for it in circuit.latches])
-    return follows(formula, given, [fact for it in frames for fact in conditions.is_safe(it, bad)])
+    return all(holds_at_last(circuit, bad, count) for count in range(1, depth + 1))
 
 
 def goes_on(circuit, bad, depth):

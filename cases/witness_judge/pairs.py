@@ -33,6 +33,25 @@ TOGGLES = "aag 2 0 2 0 0 1\n2 3\n4 4\n4\n"
 # The first latch is 1 from the second time on, and the second stays 0 and is bad.
 RISES = "aag 2 0 2 0 0 1\n2 1\n4 4\n4\n"
 
+# The first latch begins with any value and keeps it, and the second stays 0 and is bad; nothing reads the input.
+KEPT = "aag 3 1 2 0 0 1\n2\n4 4 4\n6 6\n6\n"
+
+# The same with four further latches that keep their values, and begin as the first latch's denial, as the input, as
+# the latch before, and as the conjunction of the input and the first latch. Bad is the second latch, or that one of
+# them does not stand to the others as at first.
+FUNCTIONS = (
+    "aag 20 1 6 0 13 1\n2\n4 4 4\n6 6\n8 8 5\n10 10 2\n12 12 10\n14 14 16\n41\n16 4 2\n18 8 4\n20 9 5\n"
+    "22 12 11\n24 13 10\n26 14 5\n28 14 11\n30 19 7\n32 30 21\n34 32 23\n36 34 25\n38 36 27\n40 38 29\n"
+)
+
+# The same in binary: each gate as its differences.
+FUNCTIONS_IN_BINARY = b"aig 20 1 6 0 13 1\n4 4\n6\n8 5\n10 2\n12 10\n14 16\n41\n" + bytes(
+    (12, 2, 10, 4, 11, 4, 10, 1, 11, 3, 12, 9, 14, 3, 11, 12, 2, 9, 2, 9, 2, 9, 2, 9, 2, 9)
+)
+
+# Both latches stay 0, and the second is bad.
+ZEROS = "aag 2 0 2 0 0 1\n2 2\n4 4\n4\n"
+
 PAIRS = (
     # A circuit whose property is inductive is its own witness.
     Pair("itself", STAYS, STAYS, "yes"),
@@ -106,6 +125,15 @@ PAIRS = (
     Pair("reset by a gate that reads it", STAYS, "aag 3 0 2 0 1 1\n2 2\n4 4 6\n2\n6 4 2\n", "no: stratified"),
     # A further latch begins as the first does, at 0, and stays; bad is `one of them is 1`.
     Pair("reset by another latch", STAYS, "aag 3 0 2 0 1 1\n2 2\n4 4 2\n7\n6 5 3\n", "yes"),
+    Pair("reset functions", KEPT, FUNCTIONS, "yes"),
+    Pair("reset functions in binary", KEPT, FUNCTIONS_IN_BINARY, "yes"),
+    # The third latch begins as the first, and is to be its denial.
+    Pair("another reset function", KEPT, FUNCTIONS.replace("8 8 5\n", "8 8 4\n"), "no: base"),
+    # The first latch begins as the second, which the model has at 0 too.
+    Pair("reset of a shared latch", ZEROS, ZEROS.replace("2 2\n", "2 2 4\n"), "yes"),
+    Pair("another reset of a shared latch", ZEROS, ZEROS.replace("2 2\n", "2 2 5\n"), "no: reset"),
+    # It begins as a further latch, of which the condition says nothing.
+    Pair("reset of a shared latch by a further one", ZEROS, "aag 3 0 3 0 0 1\n2 2 6\n4 4\n6 6\n4\n", "no: reset"),
     # A further latch with any value at first counts nothing.
     Pair("further latch", STAYS, "aag 2 0 2 0 0 1\n2 2\n4 5 4\n2\n", "yes"),
     # The constraint holds the input at 0, so that the latch stays 0.

@@ -7,6 +7,7 @@ mod counterexample;
 mod extending;
 mod recertifying;
 mod third;
+mod witness_file;
 mod witnessed;
 
 pub use adopting::{Adopted, certify_clauses};

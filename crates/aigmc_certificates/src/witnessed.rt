@@ -3,8 +3,9 @@
 use crate::conditions::first_failing;
 use crate::counterexample::{Values, tell_inputs, tell_state, tell_step};
 use crate::third::{NO_INVARIANT, Outcome, UNKNOWN, outcome_of, values_of};
+use crate::witness_file::{adopted_of, witness_in};
 use aigmc_files::{
-    Claimed, DONE, ExitError, Role, about, asked_for, circuit, circuit_of, is_taken, property_in,
+    Claimed, DONE, ExitError, Role, about, asked_for, circuit, is_taken, property_in,
 };
 use arguments::Adoption;
 use base::{Budget, Refused, Seq};
@@ -12,8 +13,9 @@ use certificate3::{Claim, Format};
 use certify3::{Case, Counterexample};
 use graph::{AigerFile, Latch, Lit, Model, Property};
 use inputs::is_standard;
+use reset_functions::Begun;
 use std::alloc::Global;
-use witness_circuits::{Adopted, Pair, Shared, adopt};
+use witness_circuits::{Adopted, Pair, Shared};
 
 /// The only bad literal of the circuit, or the only output of one whose outputs are taken as some.
 fn only_property(circuit: &Model) -> Option<Property> {
@@ -138,10 +140,16 @@ fn kept_of(
     }
 }
 
-/// What a witness adds to the circuit, and what is to be inductive.
-fn adopted_of(alloc: Global, circuit: &Model, witness: &AigerFile) -> Result<Adopted, ExitError> {
-    let adopted = adopt(alloc, circuit, witness)?;
-    Ok(adopted)
+/// What a witness shares with the circuit, with its resets that are functions.
+fn shared_of(
+    alloc: Global,
+    circuit: &Model,
+    witness: &AigerFile,
+    resets: Vec<Option<Lit>>,
+) -> Result<Shared, ExitError> {
+    let mut shared = Shared::of(alloc, circuit, witness)?;
+    shared.resets = resets;
+    Ok(shared)
 }
 
 /// The status of the first condition of the witness that does not hold, where there is one. Standard error says why.
@@ -149,11 +157,11 @@ fn failing(
     rt: &HostRuntime,
     circuit: &Model,
     bad: Lit,
-    witness: &AigerFile,
+    witness: &Model,
+    shared: &Shared,
     budget: &mut Budget,
 ) -> Result<Option<u8>, ExitError> {
-    let shared = Shared::of(rt.alloc(), circuit, witness)?;
-    let pair = Pair::of(circuit, bad, witness.model(), &shared)?;
+    let pair = Pair::of(circuit, bad, witness, shared)?;
     first_failing(rt, pair, budget)
 }
 
@@ -174,12 +182,13 @@ fn adopt_for(
     circuit: &Model,
     property: Property,
     bad: Lit,
-    witness: &AigerFile,
+    witness: &Model,
+    shared: &Shared,
 ) -> Result<u8, ExitError> {
-    let adopted = about(Role::Other, adopted_of(rt.alloc(), circuit, witness))?;
+    let adopted = about(Role::Other, adopted_of(rt, circuit, witness, shared))?;
     let mut budget = Budget::new(asked.budget);
     if !adopted.agrees {
-        let failed = failing(rt, circuit, bad, witness, &mut budget);
+        let failed = failing(rt, circuit, bad, witness, shared, &mut budget);
         if let Some(status) = about(Role::Other, failed)? {
             return Ok(status);
         }
@@ -202,8 +211,14 @@ fn adopt_of(rt: &HostRuntime, asked: Adoption<'_>, file: &AigerFile) -> Result<u
     let Some(bad) = watched(file.model(), property) else {
         return Err(ExitError::BadArgument);
     };
-    let witness = circuit_of(rt, asked.witness, Role::Other)?;
-    adopt_for(rt, asked, file.model(), property, bad, &witness)
+    let circuit = file.model();
+    let Begun {
+        file: witness,
+        resets,
+    } = witness_in(rt, asked.witness)?;
+    let shared = shared_of(rt.alloc(), circuit, &witness, resets);
+    let shared = about(Role::Other, shared)?;
+    adopt_for(rt, asked, circuit, property, bad, witness.model(), &shared)
 }
 
 /// Makes a certificate of version 3 of a witness circuit, in the file of that name.

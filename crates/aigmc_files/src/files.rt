@@ -9,7 +9,7 @@ use crate::fitted::EvidenceFile;
 use crate::making::{Making, is_same};
 use aiger::{Layout, load, put_file};
 use base::{FromRead, ReadAllError, Refused, Seq, ToWrite, buffered, read_all};
-use graph::{AigerFile, Model, Property};
+use graph::{AigerFile, LONGEST_TEXT, Model, Property};
 use inputs::{is_standard, open};
 use property_names::Name;
 use std::fs::File;
@@ -46,18 +46,28 @@ pub fn is_taken(rt: &HostRuntime, circuit: &str, out: &str) -> bool {
     is_standard(out) || is_same(rt, out, path_of(circuit)) || is_same(rt, out, "/dev/stdout")
 }
 
-/// The text of the file of this name, read whole: a stimulus, or clauses.
-pub fn read_text(rt: &HostRuntime, name: &str) -> Result<Vec<u8>, ExitError> {
+/// The text of at most so many bytes in the file of this name, read whole.
+fn text_within(rt: &HostRuntime, name: &str, most: usize) -> Result<Vec<u8>, ExitError> {
     let file = finished(open(rt, name))?;
-    match read_all(rt.alloc(), &mut FromRead::new(file), MOST) {
+    match read_all(rt.alloc(), &mut FromRead::new(file), most) {
         Ok(text) => Ok(text),
         Err(ReadAllError::OutOfMemory(refused)) => Err(ExitError::from(refused)),
         Err(ReadAllError::Device) => Err(ExitError::Refused(CommandError::Device)),
         Err(ReadAllError::TooLong) => Err(ExitError::Fault {
             number: TOO_LONG,
-            place: MOST as u64,
+            place: most as u64,
         }),
     }
+}
+
+/// The text of the file of this name, read whole: a stimulus, or clauses.
+pub fn read_text(rt: &HostRuntime, name: &str) -> Result<Vec<u8>, ExitError> {
+    text_within(rt, name, MOST)
+}
+
+/// The text of the circuit's file of this name and role.
+pub fn circuit_text(rt: &HostRuntime, name: &str, role: Role) -> Result<Vec<u8>, ExitError> {
+    read_of(role, text_within(rt, name, LONGEST_TEXT))
 }
 
 /// The circuit that the file of this name spells.

@@ -1,11 +1,11 @@
 -- What gates of a question say.
-use Rattle.std.proofs.Common.{◌≡◌, ℕ, ◌+◌, ◌<◌, Bool, true, false, not, ◌&&◌, List, [], ◌∷◌, ◌++◌, map, length, take, get_or, refl, All, ◌∙◌, ◌≤◌, ap, sym, subst, append_assoc}
+use Rattle.std.proofs.Common.{◌≡◌, ℕ, ◌+◌, ◌<◌, Bool, true, false, not, ◌&&◌, List, [], ◌∷◌, ◌++◌, length, take, get_or, refl, All, ◌∙◌, ◌≤◌, ap, sym, subst, append_assoc}
 use Rattle.std.proofs.lemmas.List.{append-nil, take_all, take_more}
 use Rattle.std.proofs.lemmas.List.Elements.{All-head}
 use Rattle.graph.specs.declared.circuit.Lit.{Lit}
 use Rattle.graph.specs.declared.circuit.Gate.{Gate}
 use Rattle.graph.specs.declared.parts.Parts.{Parts}
-use Rattle.graph.specs.Circuits.{Valuation, place, value_of, Fires}
+use Rattle.graph.specs.Circuits.{Valuation, value_of, Fires}
 use Rattle.graph.proofs.Evaluation.{All-left, All-right}
 use Rattle.live_safe.specs.Shadow.{negation}
 use Rattle.live_safe.proofs.Values.{value-negation}

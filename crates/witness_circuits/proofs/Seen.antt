@@ -1,12 +1,11 @@
 -- Circuits at one time, as a valuation sees them.
-use Rattle.std.proofs.Common.{◌≡◌, ℕ, ◌%◌, ◌<◌, ◌≤◌, Bool, true, false, not, ◌&&◌, List, [], ◌∷◌, ◌++◌, map, length, get_or, slice_index_or, refl, inl, inr, All, ◌∙◌, ap, sym, subst, arith}
+use Rattle.std.proofs.Common.{◌≡◌, ℕ, ◌%◌, false, not, ◌&&◌, List, ◌++◌, map, length, get_or, inl, inr, All, ◌∙◌, ap, sym, subst, arith}
 use Rattle.std.proofs.lemmas.Bool.{cases_eq, cases_lt}
 use Rattle.std.proofs.lemmas.List.{get_or-map, get_or_past, length-map}
 use Rattle.graph.specs.declared.circuit.Lit.{Lit}
 use Rattle.graph.specs.declared.circuit.Gate.{Gate}
 use Rattle.graph.specs.Circuits.{Valuation, variable, place, value_of, Fires}
 use Rattle.graph.proofs.Evaluation.{All-right, All-unmap}
-use Rattle.live_safe.specs.Shadow.{negation}
 use Rattle.live_safe.proofs.Values.{value-negation}
 use Rattle.witness_circuits.specs.Renamed.{renamed, renamed_gate}
 use Rattle.witness_circuits.specs.Conditions.{Follows, seen}

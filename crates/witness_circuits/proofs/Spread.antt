@@ -1,5 +1,5 @@
 -- Literals and clauses, one after the other.
-use Rattle.std.proofs.Common.{◌≡◌, ◌∙◌, ℕ, ◌+◌, ◌<◌, ◌≤◌, ◌⊎◌, Bool, true, false, not, ◌&&◌, ◌||◌, List, [], ◌∷◌, ◌++◌, map, length, take, drop, get_or, refl, sym, ap, subst, All, Some}
+use Rattle.std.proofs.Common.{◌≡◌, ◌∙◌, ℕ, ◌+◌, ◌<◌, ◌≤◌, ◌⊎◌, Bool, true, false, not, ◌&&◌, ◌||◌, List, [], ◌∷◌, ◌++◌, map, length, take, drop, get_or, refl, sym, ap, subst, Some}
 use Rattle.std.proofs.Math.Seq.{take-append_seam, drop-append_seam}
 use Rattle.std.specs.List.{slice_get}
 use Rattle.std.proofs.lemmas.List.{take-append-drop, take_more, take_all}
@@ -13,10 +13,10 @@ use Rattle.graph.specs.Circuits.{Valuation, value_of, Fires}
 use Rattle.live_safe.specs.Shadow.{negation}
 use Rattle.live_safe.proofs.Values.{value-negation}
 use Rattle.extension.specs.Extended.{IsExtension}
-use Rattle.witness_circuits.specs.Pairs.{IsAbout}
 use Rattle.witness_circuits.specs.Renamed.{renamed}
 use Rattle.witness_circuits.specs.Witnesses.{is_true, are_true}
-use Rattle.witness_circuits.specs.Spread.{are_all_true, AreSame, IsBoth, AreWanted, AreAdopted, IsAdopted}
+use Rattle.witness_circuits.specs.Conditions.{all_true}
+use Rattle.witness_circuits.specs.Spread.{AreSame, IsBoth, AreWanted, AreAdopted}
 
 or_more : (x y z : Bool) → (x || (y || z)) ≡ ((x || y) || z)
 or_more true y z = refl
@@ -54,9 +54,9 @@ pub true_behind : (w : Valuation) (c d : List Lit) → is_true w (c ++ d) ≡ (i
 true_behind w [] d = refl
 true_behind w (a ∷ c) d = ap (λ b. value_of w a || b) (true_behind w c d) ∙ or_more (value_of w a) (is_true w c) (is_true w d)
 
-pub all_true_behind : (w : Valuation) (c d : List Lit) → are_all_true w (c ++ d) ≡ (are_all_true w c && are_all_true w d)
+pub all_true_behind : (w : Valuation) (c d : List Lit) → all_true w (c ++ d) ≡ (all_true w c && all_true w d)
 all_true_behind w [] d = refl
-all_true_behind w (a ∷ c) d = ap (λ b. value_of w a && b) (all_true_behind w c d) ∙ and_more (value_of w a) (are_all_true w c) (are_all_true w d)
+all_true_behind w (a ∷ c) d = ap (λ b. value_of w a && b) (all_true_behind w c d) ∙ and_more (value_of w a) (all_true w c) (all_true w d)
 
 pub are_true_behind : (w : Valuation) (c d : List (List Lit)) → are_true w (c ++ d) ≡ (are_true w c && are_true w d)
 are_true_behind w [] d = refl
@@ -65,14 +65,14 @@ are_true_behind w (a ∷ c) d = ap (λ b. is_true w a && b) (are_true_behind w c
 pub true_last : (w : Valuation) (c : List Lit) (a : Lit) → is_true w (c ++ a ∷ []) ≡ (is_true w c || value_of w a)
 true_last w c a = true_behind w c (a ∷ []) ∙ ap (λ b. is_true w c || b) (or_false (value_of w a))
 
-pub all_true_last : (w : Valuation) (c : List Lit) (a : Lit) → are_all_true w (c ++ a ∷ []) ≡ (are_all_true w c && value_of w a)
-all_true_last w c a = all_true_behind w c (a ∷ []) ∙ ap (λ b. are_all_true w c && b) (and_true (value_of w a))
+pub all_true_last : (w : Valuation) (c : List Lit) (a : Lit) → all_true w (c ++ a ∷ []) ≡ (all_true w c && value_of w a)
+all_true_last w c a = all_true_behind w c (a ∷ []) ∙ ap (λ b. all_true w c && b) (and_true (value_of w a))
 
 pub are_true_last : (w : Valuation) (cs : List (List Lit)) (c : List Lit) → are_true w (cs ++ c ∷ []) ≡ (are_true w cs && is_true w c)
 are_true_last w cs c = are_true_behind w cs (c ∷ []) ∙ ap (λ b. are_true w cs && b) (and_true (is_true w c))
 
 -- clauses of one literal each
-pub units_true : (w : Valuation) (lits : List Lit) → are_true w (map (λ a. a ∷ []) lits) ≡ are_all_true w lits
+pub units_true : (w : Valuation) (lits : List Lit) → are_true w (map (λ a. a ∷ []) lits) ≡ all_true w lits
 units_true w [] = refl
 units_true w (a ∷ lits) = ap (λ b. b && are_true w (map (λ a. a ∷ []) lits)) (or_false (value_of w a)) ∙ ap (λ b. value_of w a && b) (units_true w lits)
 
@@ -153,57 +153,57 @@ both_turned gates a one other both = λ w fires. both w fires ∙ turned (value_
 
 -- a conjunction among what is pending
 pub both_item : (gates : List Gate) (clauses : List (List Lit)) (pending : List Lit) (a one other : Lit) → IsBoth gates a one other →
-    AreSame gates (λ w. are_true w clauses && are_all_true w ((pending ++ one ∷ []) ++ other ∷ [])) (λ w. are_true w clauses && (are_all_true w pending && value_of w a))
+    AreSame gates (λ w. are_true w clauses && all_true w ((pending ++ one ∷ []) ++ other ∷ [])) (λ w. are_true w clauses && (all_true w pending && value_of w a))
 both_item gates clauses pending a one other both = λ w fires.
     let front : List Lit = pending ++ one ∷ [] in
-    let last : are_all_true w (front ++ other ∷ []) ≡ (are_all_true w front && value_of w other) = all_true_last w front other in
-    let first : are_all_true w front ≡ (are_all_true w pending && value_of w one) = all_true_last w pending one in
-    let joined : are_all_true w (front ++ other ∷ []) ≡ (are_all_true w pending && (value_of w one && value_of w other)) =
-    last ∙ ap (λ b. b && value_of w other) first ∙ sym (and_more (are_all_true w pending) (value_of w one) (value_of w other)) in
-    ap (λ b. are_true w clauses && b) (joined ∙ ap (λ b. are_all_true w pending && b) (sym (both w fires)))
+    let last : all_true w (front ++ other ∷ []) ≡ (all_true w front && value_of w other) = all_true_last w front other in
+    let first : all_true w front ≡ (all_true w pending && value_of w one) = all_true_last w pending one in
+    let joined : all_true w (front ++ other ∷ []) ≡ (all_true w pending && (value_of w one && value_of w other)) =
+    last ∙ ap (λ b. b && value_of w other) first ∙ sym (and_more (all_true w pending) (value_of w one) (value_of w other)) in
+    ap (λ b. are_true w clauses && b) (joined ∙ ap (λ b. all_true w pending && b) (sym (both w fires)))
 
 -- another literal among what is pending, of which there is a clause then
 pub clause_item : (gates : List Gate) (clauses now : List (List Lit)) (pending : List Lit) (a : Lit) →
     AreSame gates (λ w. are_true w now) (λ w. are_true w clauses && value_of w a) →
-    AreSame gates (λ w. are_true w now && are_all_true w pending) (λ w. are_true w clauses && (are_all_true w pending && value_of w a))
+    AreSame gates (λ w. are_true w now && all_true w pending) (λ w. are_true w clauses && (all_true w pending && value_of w a))
 clause_item gates clauses now pending a step = λ w fires.
-    ap (λ b. b && are_all_true w pending) (step w fires) ∙ and_moved (are_true w clauses) (are_all_true w pending) (value_of w a)
+    ap (λ b. b && all_true w pending) (step w fires) ∙ and_moved (are_true w clauses) (all_true w pending) (value_of w a)
 
 -- a step of what is pending, with a literal behind it
 pub item_step : (gates : List Gate) (first clauses now : List (List Lit)) (before pending more : List Lit) (a lit : Lit) → before ≡ pending ++ a ∷ [] →
-    AreSame gates (λ w. are_true w clauses && are_all_true w before) (λ w. are_true w first && value_of w lit) →
-    AreSame gates (λ w. are_true w now && are_all_true w more) (λ w. are_true w clauses && (are_all_true w pending && value_of w a)) →
-    AreSame gates (λ w. are_true w now && are_all_true w more) (λ w. are_true w first && value_of w lit)
+    AreSame gates (λ w. are_true w clauses && all_true w before) (λ w. are_true w first && value_of w lit) →
+    AreSame gates (λ w. are_true w now && all_true w more) (λ w. are_true w clauses && (all_true w pending && value_of w a)) →
+    AreSame gates (λ w. are_true w now && all_true w more) (λ w. are_true w first && value_of w lit)
 item_step gates first clauses now before pending more a lit is so_far step = λ w fires.
-    let last : are_all_true w before ≡ (are_all_true w pending && value_of w a) = ap (are_all_true w) is ∙ all_true_last w pending a in
+    let last : all_true w before ≡ (all_true w pending && value_of w a) = ap (all_true w) is ∙ all_true_last w pending a in
     step w fires ∙ ap (λ b. are_true w clauses && b) (sym last) ∙ so_far w fires
 
 pub items_done : (gates : List Gate) (first clauses : List (List Lit)) (before : List Lit) (lit : Lit) → before ≡ [] →
-    AreSame gates (λ w. are_true w clauses && are_all_true w before) (λ w. are_true w first && value_of w lit) →
+    AreSame gates (λ w. are_true w clauses && all_true w before) (λ w. are_true w first && value_of w lit) →
     AreSame gates (λ w. are_true w clauses) (λ w. are_true w first && value_of w lit)
 items_done gates first clauses before lit is so_far = λ w fires.
-    sym (ap (λ b. are_true w clauses && are_all_true w b) is ∙ and_true (are_true w clauses)) ∙ so_far w fires
+    sym (ap (λ b. are_true w clauses && all_true w b) is ∙ and_true (are_true w clauses)) ∙ so_far w fires
 
 pub items_cut : (gates : List Gate) (first clauses : List (List Lit)) (before : List Lit) (lit : Lit) →
-    AreSame gates (λ w. are_true w clauses && are_all_true w before) (λ w. are_true w first && value_of w lit) →
+    AreSame gates (λ w. are_true w clauses && all_true w before) (λ w. are_true w first && value_of w lit) →
     AreSame gates (λ w. are_true w (clauses ++ map (λ a. a ∷ []) before)) (λ w. are_true w first && value_of w lit)
 items_cut gates first clauses before lit so_far = λ w fires.
     are_true_behind w clauses (map (λ a. a ∷ []) before) ∙ ap (λ b. are_true w clauses && b) (units_true w before) ∙ so_far w fires
 
 -- clauses of one more literal
 pub lits_more : (gates : List Gate) (clauses now : List (List Lit)) (lits : List Lit) (i : ℕ) (d : Lit) → i < length lits →
-    AreSame gates (λ w. are_true w clauses) (λ w. are_all_true w (take i lits)) →
+    AreSame gates (λ w. are_true w clauses) (λ w. all_true w (take i lits)) →
     AreSame gates (λ w. are_true w now) (λ w. are_true w clauses && value_of w (get_or lits i d)) →
-    AreSame gates (λ w. are_true w now) (λ w. are_all_true w (take (i + 1) lits))
+    AreSame gates (λ w. are_true w now) (λ w. all_true w (take (i + 1) lits))
 lits_more gates clauses now lits i d inside so_far step = λ w fires.
     step w fires ∙ ap (λ b. b && value_of w (get_or lits i d)) (so_far w fires) ∙ sym (all_true_last w (take i lits) (get_or lits i d))
-    ∙ ap (are_all_true w) (sym (take_more lits i d inside))
+    ∙ ap (all_true w) (sym (take_more lits i d inside))
 
 -- the clauses of the property and then those of the constraints
 pub wanted_is : (names : List Lit) (gates : List Gate) (bad : Lit) (constraints : List Lit) (property others inv : List (List Lit)) (n : ℕ) →
     inv ≡ property ++ others → n ≡ length property →
-    AreSame gates (λ w. are_true w property) (λ w. are_all_true w (negation (renamed names bad) ∷ [])) →
-    AreSame gates (λ w. are_true w others) (λ w. are_all_true w (map (renamed names) constraints)) →
+    AreSame gates (λ w. are_true w property) (λ w. all_true w (negation (renamed names bad) ∷ [])) →
+    AreSame gates (λ w. are_true w others) (λ w. all_true w (map (renamed names) constraints)) →
     AreWanted names gates bad constraints n inv
 wanted_is names gates bad constraints property others inv n inv_is n_is first rest =
     let front : take n inv ≡ property = ap (λ k. take k inv) n_is ∙ ap (take (length property)) inv_is ∙ take-append_seam property others in
@@ -275,26 +275,26 @@ unit_pushed gates clauses all lit is = subst (λ q. AreSame gates (λ w. are_tru
 
 pub item_both : (gates : List Gate) (clauses : List (List Lit)) (pending front all : List Lit) (a one other : Lit) → front ≡ pending ++ one ∷ [] → all ≡ front ++ other ∷ [] →
     IsBoth gates a one other →
-    AreSame gates (λ w. are_true w clauses && are_all_true w all) (λ w. are_true w clauses && (are_all_true w pending && value_of w a))
+    AreSame gates (λ w. are_true w clauses && all_true w all) (λ w. are_true w clauses && (all_true w pending && value_of w a))
 item_both gates clauses pending front all a one other front_is all_is both =
-    subst (λ q. AreSame gates (λ w. are_true w clauses && are_all_true w q) (λ w. are_true w clauses && (are_all_true w pending && value_of w a)))
+    subst (λ q. AreSame gates (λ w. are_true w clauses && all_true w q) (λ w. are_true w clauses && (all_true w pending && value_of w a)))
     (sym (all_is ∙ ap (λ q. q ++ other ∷ []) front_is)) (both_item gates clauses pending a one other both)
 
 pub items_first : (gates : List Gate) (clauses : List (List Lit)) (pending : List Lit) (lit : Lit) → pending ≡ lit ∷ [] →
-    AreSame gates (λ w. are_true w clauses && are_all_true w pending) (λ w. are_true w clauses && value_of w lit)
+    AreSame gates (λ w. are_true w clauses && all_true w pending) (λ w. are_true w clauses && value_of w lit)
 items_first gates clauses pending lit is = λ w fires.
-    ap (λ q. are_true w clauses && are_all_true w q) is ∙ ap (λ b. are_true w clauses && b) (and_true (value_of w lit))
+    ap (λ q. are_true w clauses && all_true w q) is ∙ ap (λ b. are_true w clauses && b) (and_true (value_of w lit))
 
 pub items_whole : (gates : List Gate) (first clauses all : List (List Lit)) (before more : List Lit) (lit : Lit) → all ≡ clauses ++ map (λ a. a ∷ []) more → more ≡ before →
-    AreSame gates (λ w. are_true w clauses && are_all_true w before) (λ w. are_true w first && value_of w lit) →
+    AreSame gates (λ w. are_true w clauses && all_true w before) (λ w. are_true w first && value_of w lit) →
     AreSame gates (λ w. are_true w all) (λ w. are_true w first && value_of w lit)
 items_whole gates first clauses all before more lit all_is more_is so_far =
     subst (λ q. AreSame gates (λ w. are_true w q) (λ w. are_true w first && value_of w lit)) (sym (all_is ∙ ap (λ q. clauses ++ map (λ a. a ∷ []) q) more_is))
     (items_cut gates first clauses before lit so_far)
 
 pub lits_all : (gates : List Gate) (clauses : List (List Lit)) (lits : List Lit) (i : ℕ) → length lits ≤ i →
-    AreSame gates (λ w. are_true w clauses) (λ w. are_all_true w (take i lits)) → AreSame gates (λ w. are_true w clauses) (λ w. are_all_true w lits)
-lits_all gates clauses lits i all so_far = subst (λ q. AreSame gates (λ w. are_true w clauses) (λ w. are_all_true w q)) (take_all i lits all) so_far
+    AreSame gates (λ w. are_true w clauses) (λ w. all_true w (take i lits)) → AreSame gates (λ w. are_true w clauses) (λ w. all_true w lits)
+lits_all gates clauses lits i all so_far = subst (λ q. AreSame gates (λ w. are_true w clauses) (λ w. all_true w q)) (take_all i lits all) so_far
 
 pub arranged_all : (clauses early late all : List (List Lit)) (k : ℕ) → length clauses ≤ k → ((w : Valuation) → (are_true w early && are_true w late) ≡ are_true w (take k clauses)) →
     all ≡ early ++ late → (w : Valuation) → are_true w all ≡ are_true w clauses
@@ -304,15 +304,15 @@ arranged_all clauses early late all k whole so_far all_is = λ w.
 pub wanted_found : (names : List Lit) (gates one other : List Gate) (bad denial : Lit) (constraints lits : List Lit) (property others inv : List (List Lit)) (n : ℕ) →
     one ≡ gates → other ≡ gates → denial ≡ negation (renamed names bad) → lits ≡ map (renamed names) constraints →
     inv ≡ property ++ others → n ≡ length property →
-    AreSame one (λ w. are_true w property) (λ w. are_all_true w (denial ∷ [])) → AreSame other (λ w. are_true w others) (λ w. are_all_true w lits) →
+    AreSame one (λ w. are_true w property) (λ w. all_true w (denial ∷ [])) → AreSame other (λ w. are_true w others) (λ w. all_true w lits) →
     AreWanted names gates bad constraints n inv
 wanted_found names gates one other bad denial constraints lits property others inv n one_is other_is denial_is lits_is inv_is n_is first rest =
-    let first_too : AreSame gates (λ w. are_true w property) (λ w. are_all_true w (negation (renamed names bad) ∷ [])) =
-    subst (λ q. AreSame gates (λ w. are_true w property) (λ w. are_all_true w (q ∷ []))) denial_is
-    (subst (λ q. AreSame q (λ w. are_true w property) (λ w. are_all_true w (denial ∷ []))) one_is first) in
-    let rest_too : AreSame gates (λ w. are_true w others) (λ w. are_all_true w (map (renamed names) constraints)) =
-    subst (λ q. AreSame gates (λ w. are_true w others) (λ w. are_all_true w q)) lits_is
-    (subst (λ q. AreSame q (λ w. are_true w others) (λ w. are_all_true w lits)) other_is rest) in
+    let first_too : AreSame gates (λ w. are_true w property) (λ w. all_true w (negation (renamed names bad) ∷ [])) =
+    subst (λ q. AreSame gates (λ w. are_true w property) (λ w. all_true w (q ∷ []))) denial_is
+    (subst (λ q. AreSame q (λ w. are_true w property) (λ w. all_true w (denial ∷ []))) one_is first) in
+    let rest_too : AreSame gates (λ w. are_true w others) (λ w. all_true w (map (renamed names) constraints)) =
+    subst (λ q. AreSame gates (λ w. are_true w others) (λ w. all_true w q)) lits_is
+    (subst (λ q. AreSame q (λ w. are_true w others) (λ w. all_true w lits)) other_is rest) in
     wanted_is names gates bad constraints property others inv n inv_is n_is first_too rest_too
 
 pub adopted_found : (m w : Parts) (bad : Lit) (ls : List Latch) (all gs g : List Gate) (cs : List Lit) (k n : ℕ) (inv : List (List Lit)) (names : List Lit) → gs ≡ take k all →
@@ -320,7 +320,3 @@ pub adopted_found : (m w : Parts) (bad : Lit) (ls : List Latch) (all gs g : List
 adopted_found m w bad ls all gs g cs k n inv names is extends g_is cs_is wanted =
     adopted_is m w bad ls all gs k n inv names is extends
     (subst (λ q. AreWanted names (m.gates ++ q) bad w.constraints n inv) g_is (subst (λ q. AreWanted names (m.gates ++ g) bad q n inv) cs_is wanted))
-
-pub adopted_at : (m w v : Parts) (bad : Lit) (ls : List Latch) (gs : List Gate) (n : ℕ) (inv : List (List Lit)) → v ≡ w → IsAbout v bad → AreAdopted m v bad ls gs n inv →
-    IsAdopted m w ls gs n inv
-adopted_at m w v bad ls gs n inv is about adopted = subst (λ q. IsAdopted m q ls gs n inv) is (record { bad = bad; about = about; adopted = adopted })

@@ -1,5 +1,5 @@
 -- What clauses say of a witness's literals.
-use Rattle.std.specs.Prelude.{◌≡◌, ◌⊎◌, ℕ, Bool, true, not, ◌&&◌, List, [], ◌∷◌, ◌++◌, map, take, drop, All}
+use Rattle.std.specs.Prelude.{◌≡◌, ◌⊎◌, ℕ, Bool, not, ◌&&◌, List, [], ◌++◌, map, take, drop, All}
 use Rattle.graph.specs.declared.circuit.Lit.{Lit}
 use Rattle.graph.specs.declared.circuit.Latch.{Latch}
 use Rattle.graph.specs.declared.circuit.Gate.{Gate}
@@ -7,13 +7,9 @@ use Rattle.graph.specs.declared.parts.Parts.{Parts}
 use Rattle.graph.specs.Circuits.{Valuation, value_of, Fires}
 use Rattle.extension.specs.Extended.{IsExtension}
 use Rattle.witness_circuits.specs.Witnesses.{are_true}
+use Rattle.witness_circuits.specs.Conditions.{all_true}
 use Rattle.witness_circuits.specs.Pairs.{IsAbout}
 use Rattle.witness_circuits.specs.Renamed.{renamed}
-
--- all of the literals are true
-abbrev pub are_all_true : Valuation → List Lit → Bool
-are_all_true w [] = true
-are_all_true w (a ∷ lits) = value_of w a && are_all_true w lits
 
 -- both have the same value, wherever each gate has that of the conjunction of its right sides
 abbrev pub AreSame : List Gate → (Valuation → Bool) → (Valuation → Bool) → Type 0
@@ -27,7 +23,7 @@ IsBoth gates a one other = AreSame gates (λ w. value_of w a) (λ w. value_of w 
 -- all that stands for constraints is 1
 pub record AreWanted (names : List Lit) (gates : List Gate) (bad : Lit) (constraints : List Lit) (n : ℕ) (inv : List (List Lit)) : Type 0 where
   pub of_property : AreSame gates (λ w. are_true w (take n inv)) (λ w. not (value_of w (renamed names bad)))
-  pub of_constraints : AreSame gates (λ w. are_true w (drop n inv)) (λ w. are_all_true w (map (renamed names) constraints))
+  pub of_constraints : AreSame gates (λ w. are_true w (drop n inv)) (λ w. all_true w (map (renamed names) constraints))
 
 -- the clauses say so of some names of the witness's variables, with the model's gates, the gates and further ones; where there
 -- are such, they and the latches and gates extend the model

@@ -14,7 +14,7 @@ use crate::trimming::{Trimmed, trim};
 use crate::wanted::Wanted;
 use base::{Lists, Refused, Seq};
 use extension::is_extension;
-use graph::{AigerFile, Gate, Latch, Lit, Model};
+use graph::{Gate, Latch, Lit, Model};
 use std::alloc::Global;
 
 /// What a witness circuit adds to the model, and what is to be inductive.
@@ -28,8 +28,8 @@ pub struct Adopted {
     pub invariant: Lists<Lit>,
     /// how many clauses say that the bad literal is 0
     pub of_property: usize,
-    /// whether the witness has no input of its own, the model's constraints, and the next literal and the reset of each
-    /// latch that it shares, by what structural hashing finds to be the same
+    /// whether the witness has no input of its own, no reset that is a function, the model's constraints, and the next
+    /// literal and the reset of each latch that it shares, by what structural hashing finds to be the same
     pub agrees: bool,
 }
 
@@ -139,15 +139,14 @@ fn adopted_of(
 fn addition_of(
     alloc: Global,
     model: &Model,
-    witness: &AigerFile,
+    own: &Model,
+    shared: &Shared,
 ) -> Result<(Addition, bool), PairError>
     ensures { IfErr result IsOther }
 {
-    let own = witness.model();
-    let shared = Shared::of(alloc, model, witness)?;
-    let naming = Naming::of(alloc, model, own, &shared)?;
-    let agrees = naming.agrees(alloc, model, own, &shared)?;
-    let addition = naming.addition(alloc, own, &shared)?;
+    let naming = Naming::of(alloc, model, own, shared)?;
+    let agrees = naming.agrees(alloc, model, own, shared)?;
+    let addition = naming.addition(alloc, own, shared)?;
     Ok((addition, agrees))
 }
 
@@ -157,16 +156,20 @@ fn addition_of(
 /// of the model or of the witness, is that one. What the clauses do not need is left out. Nothing is believed of the
 /// witness.
 ///
-/// Refused are first a witness with another number of bad literals than one, then the first symbol that names nothing
-/// that is there, then more than 4,194,303 variables, with those of what is left out. It costs both circuits.
-pub fn adopt(alloc: Global, model: &Model, witness: &AigerFile) -> Result<Adopted, PairError>
-    ensures clauses { IfOk result (λ x. IsAdopted model.now witness.now.model x.latches x.gates x.of_property x.invariant) }
-    ensures refused { IfErr result (IsRefused witness.now.model) }
+/// Refused are first a witness with another number of bad literals than one, then more than 4,194,303 variables, with those
+/// of what is left out. It costs both circuits.
+pub fn adopt(
+    alloc: Global,
+    model: &Model,
+    witness: &Model,
+    shared: &Shared,
+) -> Result<Adopted, PairError>
+    ensures clauses { IfOk result (λ x. IsAdopted model.now witness.now x.latches x.gates x.of_property x.invariant) }
+    ensures refused { IfErr result (IsRefused witness.now) }
 {
-    let own = witness.model();
-    let bad = bad_of(own)?;
-    let (addition, agrees) = addition_of(alloc, model, witness)?;
-    let trimmed = trimmed_of(alloc, model, own, bad, &addition)?;
-    let adopted = adopted_of(alloc, model, own, bad, trimmed, agrees)?;
+    let bad = bad_of(witness)?;
+    let (addition, agrees) = addition_of(alloc, model, witness, shared)?;
+    let trimmed = trimmed_of(alloc, model, witness, bad, &addition)?;
+    let adopted = adopted_of(alloc, model, witness, bad, trimmed, agrees)?;
     Ok(adopted)
 }

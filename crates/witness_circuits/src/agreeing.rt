@@ -102,8 +102,8 @@ impl Naming {
         )
     }
 
-    /// Whether the witness has no input of its own, the model's constraints, and the next literal and the reset of each
-    /// latch that it shares, by what structural hashing finds to be the same.
+    /// Whether the witness has no input of its own, no reset that is a function, the model's constraints, and the next
+    /// literal and the reset of each latch that it shares, by what structural hashing finds to be the same.
     pub fn agrees(
         &self,
         alloc: Global,
@@ -113,6 +113,7 @@ impl Naming {
     ) -> Result<bool, Refused> {
         let positions = positions_of(alloc, model)?;
         if !shared.inputs.iter().all(|given| given.is_some())
+            || shared.resets.iter().any(|reset| reset.is_some())
             || !self.are_latches_same(witness, &shared.latches, &positions, model.latches())
         {
             return Ok(false);

@@ -8,10 +8,10 @@ ghost use Rattle.witness_circuits.specs.Pairs.{IsRefused};
 use crate::adopting::bad_of;
 use crate::drafting::{Draft, TRUE};
 use crate::error::MakeError;
-use crate::frames::{add_literals, frame_of, known_at, name, nexts, resets, shared_by};
+use crate::frames::{add_literals, frame_of, nexts, resets, shared_by};
 use crate::pair_error::PairError;
-use crate::renaming::{denial_of, literal_of};
-use crate::shared::Shared;
+use crate::renaming::{denial_of, literal_of, name};
+use crate::shared::{Shared, given_at};
 use base::{Refused, Seq, filled, filled_like, push};
 use graph::{Latch, Lit, Model};
 use std::alloc::Global;
@@ -135,8 +135,8 @@ fn shared_latches(
     marked_latches(alloc, marks.as_slice(), model.latches())
 }
 
-/// That a latch has its reset.
-fn has_reset(names: &[Lit], latch: Latch) -> Lit {
+/// That a latch has its reset, where that is no function.
+fn has_constant(names: &[Lit], latch: Latch) -> Lit {
     if latch.reset == latch.lit {
         TRUE
     } else if latch.reset.is_negated() {
@@ -146,19 +146,57 @@ fn has_reset(names: &[Lit], latch: Latch) -> Lit {
     }
 }
 
+/// That a latch has its reset, or the value of the function that is its reset.
+fn has_reset(
+    draft: &mut Draft,
+    names: &[Lit],
+    latch: Latch,
+    function: Option<Lit>,
+) -> Result<Lit, MakeError>
+    ensures { IfErr result IsUnasked }
+{
+    match function {
+        Some(lit) => draft.equal(literal_of(names, latch.lit), literal_of(names, lit)),
+        None => Ok(has_constant(names, latch)),
+    }
+}
+
 /// Adds that each shared latch has its reset, and of each other one nothing.
 fn add_resets(
+    draft: &mut Draft,
     facts: &mut Seq<Lit>,
     names: &[Lit],
     latches: &[Latch],
-    shared: &[Option<Lit>],
-) -> Result<(), Refused> {
+    shared: &Shared,
+) -> Result<(), MakeError>
+    ensures { IfErr result IsUnasked }
+{
     for (position, latch) in latches.iter().enumerate() {
-        let fact = match known_at(shared, position) {
-            Some(_) => has_reset(names, *latch),
+        let fact = match given_at(&shared.latches, position) {
+            Some(_) => has_reset(draft, names, *latch, given_at(&shared.resets, position))?,
             None => TRUE,
         };
         facts.push(fact)?;
+    }
+    Ok(())
+}
+
+/// Adds that each latch whose reset is a function has its value.
+fn add_functions(
+    draft: &mut Draft,
+    facts: &mut Seq<Lit>,
+    names: &[Lit],
+    latches: &[Latch],
+    functions: &[Option<Lit>],
+) -> Result<(), MakeError>
+    ensures { IfErr result IsUnasked }
+{
+    for (position, latch) in latches.iter().enumerate() {
+        let function = given_at(functions, position);
+        if function.is_some() {
+            let fact = has_reset(draft, names, *latch, function)?;
+            facts.push(fact)?;
+        }
     }
     Ok(())
 }
@@ -191,7 +229,7 @@ fn add_steps(
     ensures { IfErr result IsUnasked }
 {
     for (position, latch) in latches.iter().enumerate() {
-        let fact = goes_on(draft, first, then, *latch, known_at(shared, position))?;
+        let fact = goes_on(draft, first, then, *latch, given_at(shared, position))?;
         facts.push(fact)?;
     }
     Ok(())
@@ -213,7 +251,7 @@ fn add_own_latches(
     shared: &[Option<Lit>],
 ) -> Result<(), Refused> {
     for (position, latch) in latches.iter().enumerate() {
-        if known_at(shared, position).is_none() {
+        if given_at(shared, position).is_none() {
             lits.push(literal_of(names, latch.lit))?;
         }
     }
@@ -228,7 +266,7 @@ fn add_own_inputs(
     shared: &[Option<Lit>],
 ) -> Result<(), Refused> {
     for (position, lit) in inputs.iter().enumerate() {
-        if known_at(shared, position).is_none() {
+        if given_at(shared, position).is_none() {
             lits.push(literal_of(names, *lit))?;
         }
     }
@@ -238,7 +276,7 @@ fn add_own_inputs(
 /// Names the inputs that are shared as these are named.
 fn show_inputs(shown: &mut [Lit], names: &[Lit], inputs: &[Lit], shared: &[Option<Lit>]) {
     for (position, lit) in inputs.iter().enumerate() {
-        if let Some(theirs) = known_at(shared, position) {
+        if let Some(theirs) = given_at(shared, position) {
             name(shown, theirs, literal_of(names, *lit));
         }
     }
@@ -247,7 +285,7 @@ fn show_inputs(shown: &mut [Lit], names: &[Lit], inputs: &[Lit], shared: &[Optio
 /// Names the latches that are shared as these are named.
 fn show_latches(shown: &mut [Lit], names: &[Lit], latches: &[Latch], shared: &[Option<Lit>]) {
     for (position, latch) in latches.iter().enumerate() {
-        if let Some(theirs) = known_at(shared, position) {
+        if let Some(theirs) = given_at(shared, position) {
             name(shown, theirs, literal_of(names, latch.lit));
         }
     }
@@ -416,7 +454,7 @@ impl<'a> Pair<'a> {
         self.joined(alloc, draft, known.as_slice())
     }
 
-    /// The witness at one more time, at which all of its latches have their resets.
+    /// The witness at one more time, at which all of its latches have their resets, but for functions.
     fn own_first(self, alloc: Global, draft: &mut Draft) -> Result<Joined, MakeError>
         ensures { IfErr result IsUnasked }
     {
@@ -437,11 +475,14 @@ impl<'a> Pair<'a> {
     }
 
     /// The resets and constraints of the model have to give those of the witness.
-    fn say_reset(self, facts: &mut Facts, at: &Joined) -> Result<(), Refused> {
-        let (own, shared) = (self.witness.latches(), self.shared.latches.as_slice());
+    fn say_reset(self, draft: &mut Draft, facts: &mut Facts, at: &Joined) -> Result<(), MakeError>
+        ensures { IfErr result IsUnasked }
+    {
+        let (own, names) = (self.witness.latches(), at.witness.as_slice());
         self.add_constraints(&mut facts.given, at)?;
-        add_resets(&mut facts.wanted, at.witness.as_slice(), own, shared)?;
-        self.add_own_constraints(&mut facts.wanted, at)
+        add_resets(draft, &mut facts.wanted, names, own, self.shared)?;
+        self.add_own_constraints(&mut facts.wanted, at)?;
+        Ok(())
     }
 
     /// A step of the model has to be one of the witness.
@@ -473,9 +514,14 @@ impl<'a> Pair<'a> {
     }
 
     /// The witness's property has to hold at first.
-    fn say_base(self, facts: &mut Facts, at: &Joined) -> Result<(), Refused> {
+    fn say_base(self, draft: &mut Draft, facts: &mut Facts, at: &Joined) -> Result<(), MakeError>
+        ensures { IfErr result IsUnasked }
+    {
+        let (own, names) = (self.witness.latches(), at.witness.as_slice());
+        add_functions(draft, &mut facts.given, names, own, &self.shared.resets)?;
         self.add_own_constraints(&mut facts.given, at)?;
-        self.add_own_property(&mut facts.wanted, at)
+        self.add_own_property(&mut facts.wanted, at)?;
+        Ok(())
     }
 
     /// The witness's property has to hold on.
@@ -491,7 +537,7 @@ impl<'a> Pair<'a> {
         ensures { IfErr result IsUnasked }
     {
         let both = self.at_first(alloc, draft)?;
-        self.say_reset(facts, &both)?;
+        self.say_reset(draft, facts, &both)?;
         self.once(alloc, &both)
     }
 
@@ -529,7 +575,7 @@ impl<'a> Pair<'a> {
         ensures { IfErr result IsUnasked }
     {
         let alone = self.own_first(alloc, draft)?;
-        self.say_base(facts, &alone)?;
+        self.say_base(draft, facts, &alone)?;
         self.once(alloc, &alone)
     }
 

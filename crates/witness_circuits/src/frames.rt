@@ -7,25 +7,11 @@ ghost use Rattle.witness_circuits.specs.Renamed.{renamed, renamed_gate};
 
 use crate::drafting::Draft;
 use crate::error::MakeError;
-use crate::renaming::{gate_of, literal_of};
+use crate::renaming::{gate_of, literal_of, name};
+use crate::shared::given_at;
 use base::{Refused, Seq, filled, push};
 use graph::{Gate, Latch, Lit, Model};
 use std::alloc::Global;
-
-/// What is known of the input or latch at the position.
-pub fn known_at(known: &[Option<Lit>], position: usize) -> Option<Lit> {
-    match known.get(position) {
-        Some(lit) => *lit,
-        None => None,
-    }
-}
-
-/// Gives the literal's variable a name.
-pub fn name(names: &mut [Lit], lit: Lit, given: Lit) {
-    if let Some(place) = names.get_mut(lit.variable() as usize) {
-        *place = given;
-    }
-}
 
 /// What is known, or else an input more.
 fn known_or_input(draft: &mut Draft, known: Option<Lit>) -> Result<Lit, MakeError>
@@ -49,7 +35,7 @@ fn name_inputs(
     ensures refused { IfErr result IsUnasked }
 {
     for (position, lit) in inputs.iter().enumerate() {
-        let given = known_or_input(draft, known_at(known, position))?;
+        let given = known_or_input(draft, given_at(known, position))?;
         name(names, *lit, given);
     }
     Ok(())
@@ -66,7 +52,7 @@ fn name_latches(
     ensures refused { IfErr result IsUnasked }
 {
     for (position, latch) in latches.iter().enumerate() {
-        let given = known_or_input(draft, known_at(known, position))?;
+        let given = known_or_input(draft, given_at(known, position))?;
         name(names, latch.lit, given);
     }
     Ok(())

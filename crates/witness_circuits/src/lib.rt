@@ -5,7 +5,8 @@
 //!   latches, gates and constraints, the latches and gates that the certificate adds, and gates that say
 //!   whether all clauses are true. Its one bad literal is set exactly where the model's is, or where a
 //!   clause is false (`IsWitness`). Its symbols say which input or latch of the model each one is.
-//! - `adopt` takes one apart: into latches, gates and clauses of the model, of which a certificate can be made.
+//! - `adopt` takes one apart: into latches, gates and clauses of the model, of which a certificate can be made. `Pair` asks
+//!   its conditions. `Shared` is what it has of the model.
 //! - Nothing is believed of the clauses, and nothing is said of them: a circuit is a witness where they are
 //!   inductive, which a certificate shows.
 #![tactic(auto)]

@@ -17,13 +17,17 @@ const IN_NAME: Kinds<()> = Kinds {
     byte: (),
 };
 
-/// The model's literals of the witness's inputs and latches, by their positions. One of the witness's own has none.
+/// The model's literals of the witness's inputs and latches, by their positions. One of the witness's own has none. And the
+/// resets of its latches that are functions.
 #[derive(Drop)]
 pub struct Shared {
     /// those of the inputs
     pub inputs: Vec<Option<Lit>>,
     /// those of the latches
     pub latches: Vec<Option<Lit>>,
+    /// the witness's literals with whose values its latches begin, by their positions; in the circuit each such latch is
+    /// its own reset
+    pub resets: Vec<Option<Lit>>,
 }
 
 /// The model's literal at the position, where it is shared.
@@ -147,6 +151,7 @@ impl Shared {
         Ok(Shared {
             inputs: filled_like(alloc, None, witness.inputs())?,
             latches: filled_like(alloc, None, witness.latches())?,
+            resets: Vec::new(alloc),
         })
     }
 
@@ -197,7 +202,7 @@ impl Shared {
     }
 
     /// What a witness shares with the model: what its symbols name, by the model's literals; or, where they name nothing
-    /// so, the first inputs and latches of both. Refused is the first symbol that names no input or latch of the model of
+    /// so, the first inputs and latches of both. No reset is a function yet. Refused is the first symbol that names no input or latch of the model of
     /// its kind, or one that another one names.
     pub fn of(alloc: Global, model: &Model, witness: &AigerFile) -> Result<Shared, PairError>
         ensures { IfErr result IsOther }

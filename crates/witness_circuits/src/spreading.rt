@@ -3,7 +3,8 @@
 ghost use Rattle.std.specs.Prelude.{◌≡◌, ◌++◌, ◌∷◌, ◌&&◌, ◌||◌, [], IfOk, IfSome, MatchOption, OnOk, map};
 ghost use Rattle.graph.specs.Circuits.{value_of};
 ghost use Rattle.witness_circuits.specs.Witnesses.{is_true, are_true};
-ghost use Rattle.witness_circuits.specs.Spread.{are_all_true, AreSame, IsBoth};
+ghost use Rattle.witness_circuits.specs.Conditions.{all_true};
+ghost use Rattle.witness_circuits.specs.Spread.{AreSame, IsBoth};
 
 use crate::arranging::arranged;
 use crate::places::Places;
@@ -211,7 +212,7 @@ impl Spreading {
         pending: &mut Vec<Lit>,
         clauses: &mut Lists<Lit>,
     ) -> Result<(), Refused>
-        ensures { OnOk result (AreSame gates.now (λ w. are_true w clauses.new && are_all_true w pending.new.items) (λ w. are_true w clauses.old && (are_all_true w pending.old.items && value_of w lit))) }
+        ensures { OnOk result (AreSame gates.now (λ w. are_true w clauses.new && all_true w pending.new.items) (λ w. are_true w clauses.old && (all_true w pending.old.items && value_of w lit))) }
     {
         match self.sides(gates, lit) {
             Some(sides) => {
@@ -250,7 +251,7 @@ impl Spreading {
 
     /// As `spread`, in the order in which the clauses are found.
     fn found(&mut self, alloc: Global, gates: &[Gate], lits: &[Lit]) -> Result<Lists<Lit>, Refused>
-        ensures { IfOk result (λ clauses. AreSame gates.now (λ w. are_true w clauses) (λ w. are_all_true w lits.now)) }
+        ensures { IfOk result (λ clauses. AreSame gates.now (λ w. are_true w clauses) (λ w. all_true w lits.now)) }
     {
         let mut clauses = Lists::new(alloc);
         for lit in lits {
@@ -269,7 +270,7 @@ impl Spreading {
         gates: &[Gate],
         lits: &[Lit],
     ) -> Result<Lists<Lit>, Refused>
-        ensures { IfOk result (λ clauses. AreSame gates.now (λ w. are_true w clauses) (λ w. are_all_true w lits.now)) }
+        ensures { IfOk result (λ clauses. AreSame gates.now (λ w. are_true w clauses) (λ w. all_true w lits.now)) }
     {
         let clauses = self.found(alloc, gates, lits)?;
         let all = arranged(alloc, &self.places, &clauses)?;

@@ -1,4 +1,4 @@
-use Rattle.std.proofs.Common.{◌≡◌, ◌<◌, ◌≤◌, ◌&&◌, ◌∙◌, length, ap, arith}
+use Rattle.std.proofs.Common.{◌<◌, ◌≤◌, ◌&&◌, ◌∙◌, length, ap, arith}
 use Rattle.witness_circuits.specs.Witnesses.{is_true, are_true}
 use Rattle.witness_circuits.proofs.Spread.{arranged_more, arranged_all}
 use Rattle.witness_circuits.proofs.arranging.arranged.Goals as goal

@@ -1,0 +1,4 @@
+pub mod Begun
+pub mod Made
+pub mod Plain
+pub mod Reading
