@@ -12,7 +12,7 @@ ghost use Rattle.stimulus.specs.Shown.{Shows};
 
 use crate::cleared::Cleared;
 use crate::cutting::nth;
-use crate::resting::{Left, latch_literals, left_of_time};
+use crate::resting::{Left, Tables, latch_literals, left_of_time};
 use base::{Refused, Seq, filled_like, push};
 use cones::{GateTable, value_laws};
 use graph::{Lit, Model, Property};
@@ -25,15 +25,14 @@ use stimulus::{JudgeError, Stimulus, check_playable, judge};
 fn walk_back(
     alloc: Global,
     circuit: &Model,
-    table: &GateTable,
-    latches: &[Lit],
+    tables: &Tables,
     states: &[Seq<bool>],
     lines: &[Seq<bool>],
     goals: &[Seq<Lit>],
     closing: Seq<Option<bool>>,
 ) -> Result<Option<(Seq<Option<bool>>, Seq<Seq<Option<bool>>>)>, Refused>
-    requires table { IsGateTable circuit.now table.now }
-    requires latches { latches.now ≡ map (λ l. l.lit) circuit.now.latches }
+    requires gates { IsGateTable circuit.now tables.now.gates }
+    requires latches { tables.now.latches.items ≡ map (λ l. l.lit) circuit.now.latches }
     requires states { length states.now ≡ length lines.now + 1 }
     requires states_fit { All (λ s. length s ≡ length circuit.now.latches) states.now }
     requires lines_fit { All (λ l. length l ≡ length circuit.now.inputs) lines.now }
@@ -52,8 +51,7 @@ fn walk_back(
         let Some(Left { state: before, row }) = left_of_time(
             alloc,
             circuit,
-            table,
-            latches,
+            tables,
             states[t].as_slice(),
             line,
             goal,
@@ -149,16 +147,16 @@ fn clear_bad(
 {
     value_laws(circuit);
     circuit.well_formed();
-    let table = GateTable::new(alloc, circuit)?;
-    let latches = latch_literals(alloc, circuit)?;
+    let tables = Tables {
+        gates: GateTable::new(alloc, circuit)?,
+        latches: latch_literals(alloc, circuit)?,
+    };
     let Some(states) = states_of(alloc, circuit, initial, lines)? else {
         return Ok(None);
     };
     let goals = goals_to_set(alloc, lines.len() - 1, lit)?;
-    let closing = open_row(alloc, &latches)?;
-    match walk_back(
-        alloc, circuit, &table, &latches, &states, lines, &goals, closing,
-    )? {
+    let closing = open_row(alloc, &tables.latches)?;
+    match walk_back(alloc, circuit, &tables, &states, lines, &goals, closing)? {
         Some((initial, inputs)) => Ok(Some(Cleared {
             property,
             initial,

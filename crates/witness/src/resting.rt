@@ -160,6 +160,15 @@ pub fn latch_literals(alloc: Global, circuit: &Model) -> Result<Vec<Lit>, Refuse
     Ok(lits)
 }
 
+/// What is looked up of a circuit.
+#[derive(Drop)]
+pub struct Tables {
+    /// its gates by their variables
+    pub gates: GateTable,
+    /// the literals of its latches
+    pub latches: Vec<Lit>,
+}
+
 /// What a time rests on.
 #[derive(Drop)]
 pub struct Left {
@@ -218,15 +227,14 @@ fn left_of(
 pub fn left_of_time(
     alloc: Global,
     circuit: &Model,
-    table: &GateTable,
-    latches: &[Lit],
+    tables: &Tables,
     state: &[bool],
     line: &[bool],
     goal: &[Lit],
     later: &[Option<bool>],
 ) -> Result<Option<Left>, Refused>
-    requires table { IsGateTable circuit.now table.now }
-    requires latches { latches.now ≡ map (λ l. l.lit) circuit.now.latches }
+    requires gates { IsGateTable circuit.now tables.now.gates }
+    requires latches { tables.now.latches.items ≡ map (λ l. l.lit) circuit.now.latches }
     requires state { length state.now ≡ length circuit.now.latches }
     requires line { length line.now ≡ length circuit.now.inputs }
     requires goal { All (λ a. IsKnown circuit.now (variable a)) goal.now }
@@ -241,5 +249,6 @@ pub fn left_of_time(
     if !are_true(circuit, &values, &wanted) {
         return Ok(None);
     }
-    Ok(Some(left_of(alloc, circuit, table, latches, &values, &wanted)?))
+    let (gates, latches) = (&tables.gates, tables.latches.as_slice());
+    Ok(Some(left_of(alloc, circuit, gates, latches, &values, &wanted)?))
 }
