@@ -7,7 +7,7 @@ use arguments::Search;
 use base::Seq;
 use engine::Reason;
 use graph::{Model, Property};
-use portfolio::{Conclusion, Question, Timing};
+use portfolio::{Answered, Conclusion, Question, Timing};
 use stimulus::Stimulus;
 use transforms::{bad_behind, no_bad};
 use verdict::Verdict;
@@ -53,7 +53,12 @@ fn verdict_on(rt: &HostRuntime, circuit: &Model, timing: Timing) -> Result<Verdi
         property: Property::Bad(0),
         timing,
     };
-    match ask(rt, question, Seq::new(rt.alloc()))?.conclusion {
+    let Answered {
+        conclusion,
+        steps: _,
+        counters: _,
+    } = ask(rt, question, Seq::new(rt.alloc()))?;
+    match conclusion {
         Conclusion::Decided(verdict) => Ok(verdict),
         // no rounds are counted of a bad literal
         Conclusion::Counted(_) => unreachable!(),

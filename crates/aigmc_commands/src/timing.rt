@@ -39,7 +39,7 @@ pub fn ask(
     question: Question<'_>,
     candidates: Seq<Seq<Lit>>,
 ) -> Result<Answered, ExitError>
-    ensures { IfOk result (λ a. IsConcluded question.circuit.now question.property a.conclusion) }
+    ensures { IfOk result (λ a. IsConcluded question.entry.circuit.now question.entry.property a.conclusion) }
 {
     let answered = question.ask(rt, candidates).map_err(CommandError::from)?;
     Ok(answered)
