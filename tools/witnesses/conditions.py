@@ -181,7 +181,7 @@ def breaking(condition, model):
     for frame in condition.frames:
         lits = [*frame.circuit.inputs, *(it.lit for it in frame.circuit.latches)]
         found = values_of(frame.circuit, {lit: frame.variables[lit] in model for lit in lits})
-        values |= {abs(variable): found[lit] for lit, variable in frame.variables.items() if lit}
+        values |= {abs(given): found[lit] == (given > 0) for lit, given in frame.variables.items() if lit}
         names = [f"i{at}" for at in range(len(frame.circuit.inputs))]
         names += [f"l{at}" for at in range(len(frame.circuit.latches))]
         lines.append(" ".join([f"  {frame.name}:", *(f"{name}={found[lit]:d}" for name, lit in zip(names, lits))]))

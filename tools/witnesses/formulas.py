@@ -23,12 +23,26 @@ class Formula:
     """Clauses, and how many variables they have. The first variable is true."""
 
     def __init__(self):
-        self.most, self.clauses = 1, [(TRUE,)]
+        self.most, self.clauses, self.conjunctions = 1, [(TRUE,)], {}
 
     def new(self):
         """A new variable."""
         self.most += 1
         return self.most
+
+    def conjunction(self, left, right):
+        """A literal that is true exactly where both are. Of the same two it is the same one (structural hashing)."""
+        if left == -right or -TRUE in (left, right):
+            return -TRUE
+        if left in (right, TRUE):
+            return right
+        if right == TRUE:
+            return left
+        both = (min(left, right), max(left, right))
+        if both not in self.conjunctions:
+            lit = self.conjunctions[both] = self.new()
+            self.clauses += [(-lit, left), (-lit, right), (lit, -left, -right)]
+        return self.conjunctions[both]
 
     def text(self):
         """The formula in DIMACS."""
@@ -50,15 +64,15 @@ class Formula:
 
 
 class Frame:
-    """A circuit at one time. `shared` has the variables of those inputs and latches that another circuit has too."""
+    """A circuit at one time, with a literal of the formula for each of its variables. `shared` has those of the inputs
+    and latches that another circuit has too."""
 
     def __init__(self, formula, circuit, name, shared):
         self.circuit, self.name = circuit, name
-        own = [*circuit.inputs, *(it.lit for it in circuit.latches), *(it.lit for it in circuit.gates)]
+        own = [*circuit.inputs, *(it.lit for it in circuit.latches)]
         self.variables = {0: -TRUE} | {lit: shared.get(lit) or formula.new() for lit in own}
         for it in circuit.gates:
-            lit, left, right = map(self.literal, it)
-            formula.clauses += [(-lit, left), (-lit, right), (lit, -left, -right)]
+            self.variables[it.lit] = formula.conjunction(self.literal(it.left), self.literal(it.right))
 
     def literal(self, lit):
         """The formula's literal of a literal of the circuit."""
