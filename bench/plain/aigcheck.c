@@ -12,105 +12,17 @@
  *
  * Literals inside are AIGER-like: CNF variable v is 2v, its negation 2v+1. val[l] says that l is held true.
  */
-#define _GNU_SOURCE
-#include <fcntl.h>
-#include <stdint.h>
-#include <stdio.h>
-#include <stdlib.h>
-#include <string.h>
-#include <sys/stat.h>
-#include <unistd.h>
+#define PROGRAM "aigcheck"
+#include "circuits.h"
 
-typedef uint8_t u8;
-typedef uint32_t u32;
-typedef uint64_t u64;
-
-enum { MOST = 4194303 };
-#define TEXT_MOST 67108864u
-
-static void fault(const char *words) {
-    fprintf(stderr, "aigcheck: %s\n", words);
-    exit(3);
-}
-static void no(int number) {
-    printf("no %d\n", number);
-    exit(1);
-}
 static void *room(size_t n) {
-    void *p = malloc(n ? n : 1);
-    if (!p) fault("out of memory");
-    return p;
+    return regrow(NULL, n);
 }
 static void *zeros(size_t n, size_t size) {
     void *p = calloc(n ? n : 1, size);
     if (!p) fault("out of memory");
     return p;
 }
-static void *regrow(void *p, size_t n) {
-    p = realloc(p, n);
-    if (!p) fault("out of memory");
-    return p;
-}
-
-/* ---- lists of u32 ---- */
-typedef struct { u32 *at; size_t len, cap; } List;
-static inline void push(List *l, u32 x) {
-    if (l->len == l->cap) {
-        l->cap = l->cap ? 2 * l->cap : 16;
-        l->at = regrow(l->at, l->cap * sizeof(u32));
-    }
-    l->at[l->len++] = x;
-}
-
-/* ---- texts ---- */
-typedef struct { const u8 *p, *end; u8 *start; } Text;
-
-static Text slurp(const char *name) {
-    int fd = open(name, O_RDONLY);
-    if (fd < 0) fault("read or write failed");
-    struct stat st;
-    size_t cap = fstat(fd, &st) == 0 && st.st_size > 0 ? (size_t)st.st_size + 1 : 65536, len = 0;
-    u8 *buf = room(cap);
-    for (;;) {
-        if (len == cap) buf = regrow(buf, cap *= 2);
-        ssize_t n = read(fd, buf + len, cap - len);
-        if (n < 0) fault("read or write failed");
-        if (n == 0) break;
-        len += (size_t)n;
-    }
-    close(fd);
-    return (Text){buf, buf + len, buf};
-}
-/* The number at the text's place, at most `most`; `missing` where none is there or it has a leading zero. */
-static inline u32 number(Text *t, u64 most, int missing, int over) {
-    if (t->p == t->end) no(6);
-    const u8 *p = t->p;
-    unsigned d = *p - '0';
-    if (d > 9) no(missing);
-    u64 x = d;
-    p++;
-    if (d == 0) {
-        if (p < t->end && (unsigned)(*p - '0') <= 9) no(missing);
-    } else {
-        while (p < t->end && (d = *p - '0') <= 9) {
-            x = x * 10 + d;
-            if (x > most) no(over);
-            p++;
-        }
-    }
-    if (x > most) no(over);
-    t->p = p;
-    return (u32)x;
-}
-static inline void byte(Text *t, u8 want, int wrong) {
-    if (t->p == t->end) no(6);
-    if (*t->p != want) no(wrong);
-    t->p++;
-}
-
-/* ---- circuits ---- */
-typedef struct { u32 lit, next, reset; } Latch;
-typedef struct { u32 lhs, rhs0, rhs1; } Gate;
 typedef struct {
     u32 M, I, L, O, B, C, J, F, A;
     u32 *inputs, *outputs, *bad, *constraints, *sizes, *justice, *fairness;
@@ -121,41 +33,6 @@ typedef struct {
     const u8 *tail, *tail_end; /* symbols and comment, as in the file */
 } Model;
 
-static u32 line_lit(Text *t, const Model *m) {
-    u32 x = number(t, 2 * (u64)m->M + 1, 3, 7);
-    byte(t, '\n', 5);
-    return x;
-}
-static u32 defining(Text *t, const Model *m) {
-    u32 x = number(t, 2 * (u64)m->M + 1, 3, 7);
-    if (x < 2 || x & 1) no(8);
-    return x;
-}
-static u32 *lits(Text *t, const Model *m, u32 n) {
-    List l = {0};
-    for (u32 i = 0; i < n; i++) push(&l, line_lit(t, m));
-    return l.at;
-}
-static u32 delta(Text *t) {
-    u32 x = 0;
-    for (int i = 0; i < 4; i++) {
-        if (t->p == t->end) no(6);
-        u8 b = *t->p++;
-        if (i == 3 && b & 0x80) no(13);
-        x |= (u32)(b & 0x7f) << (7 * i);
-        if (!(b & 0x80)) {
-            if (i && b == 0) no(13);
-            return x;
-        }
-    }
-    return x;
-}
-/* the greatest count first promised is not believed: lists grow as lines come */
-static void *grown(void *at, size_t n, size_t *cap, size_t size) {
-    if (n < *cap) return at;
-    *cap = *cap ? 2 * *cap : 64;
-    return regrow(at, *cap * size);
-}
 static void symbols(Text *t, Model *m) {
     static const char kinds[] = "ilobcjf";
     u32 counts[7] = {m->I, m->L, m->O, m->B, m->C, m->J, m->F};
@@ -248,20 +125,8 @@ static Model read_model(Text *t) {
     size_t size = (size_t)(t->end - t->p);
     if (size > TEXT_MOST) no(1);
     int binary = size > 1 && t->p[1] == 'i';
-    const char *tag = binary ? "aig " : "aag ";
-    for (int i = 0; i < 4; i++) byte(t, (u8)tag[i], 2);
     u32 *counts[9] = {&m.M, &m.I, &m.L, &m.O, &m.A, &m.B, &m.C, &m.J, &m.F};
-    for (int i = 0; i < 9; i++) {
-        *counts[i] = number(t, MOST, 3, 4);
-        if (i < 4) { byte(t, ' ', 2); continue; }
-        if (t->p == t->end) no(6);
-        if (*t->p == '\n') break;
-        if (i == 8 || *t->p != ' ') no(2);
-        t->p++;
-    }
-    u64 sum = (u64)m.I + m.L + m.A;
-    if (binary ? sum != m.M : sum > m.M) no(16);
-    t->p++;
+    header(t, binary, counts);
     size_t cap = 0;
     if (binary) {
         m.inputs = room((size_t)m.I * sizeof(u32));
@@ -269,28 +134,18 @@ static Model read_model(Text *t) {
     } else {
         for (u32 i = 0; i < m.I; i++) {
             m.inputs = grown(m.inputs, i, &cap, sizeof(u32));
-            m.inputs[i] = defining(t, &m);
+            m.inputs[i] = defining(t, m.M);
             byte(t, '\n', 5);
         }
     }
     cap = 0;
     for (u32 i = 0; i < m.L; i++) {
         m.latches = grown(m.latches, i, &cap, sizeof(Latch));
-        Latch l = {2 * (m.I + 1 + i), 0, 0};
-        if (!binary) { l.lit = defining(t, &m); byte(t, ' ', 5); }
-        l.next = number(t, 2 * (u64)m.M + 1, 3, 7);
-        if (t->p == t->end) no(6);
-        if (*t->p == ' ') {
-            t->p++;
-            l.reset = number(t, UINT32_MAX, 3, 12);
-            if (l.reset > 1 && l.reset != l.lit) no(12);
-        }
-        byte(t, '\n', 5);
-        m.latches[i] = l;
+        m.latches[i] = read_latch(t, m.M, binary ? 2 * (m.I + 1 + i) : 0);
     }
-    m.outputs = lits(t, &m, m.O);
-    m.bad = lits(t, &m, m.B);
-    m.constraints = lits(t, &m, m.C);
+    m.outputs = lits(t, m.M, m.O);
+    m.bad = lits(t, m.M, m.B);
+    m.constraints = lits(t, m.M, m.C);
     List sizes = {0};
     for (u32 i = 0; i < m.J; i++) {
         u32 k = number(t, MOST - m.njustice, 3, 4);
@@ -299,28 +154,12 @@ static Model read_model(Text *t) {
         push(&sizes, k);
     }
     m.sizes = sizes.at;
-    m.justice = lits(t, &m, m.njustice);
-    m.fairness = lits(t, &m, m.F);
+    m.justice = lits(t, m.M, m.njustice);
+    m.fairness = lits(t, m.M, m.F);
     cap = 0;
     for (u32 i = 0; i < m.A; i++) {
         m.gates = grown(m.gates, i, &cap, sizeof(Gate));
-        Gate g;
-        if (binary) {
-            g.lhs = 2 * (m.I + m.L + 1 + i);
-            u32 d = delta(t);
-            if (d == 0 || d > g.lhs) no(13);
-            g.rhs0 = g.lhs - d;
-            d = delta(t);
-            if (d > g.rhs0) no(13);
-            g.rhs1 = g.rhs0 - d;
-        } else {
-            g.lhs = defining(t, &m);
-            byte(t, ' ', 5);
-            g.rhs0 = number(t, 2 * (u64)m.M + 1, 3, 7);
-            byte(t, ' ', 5);
-            g.rhs1 = line_lit(t, &m);
-        }
-        m.gates[i] = g;
+        m.gates[i] = read_gate(t, m.M, binary ? 2 * (m.I + m.L + 1 + i) : 0);
     }
     symbols(t, &m);
     if (!binary) settle(&m);

@@ -11,99 +11,15 @@
  * Literals are AIGER-like: CNF variable v is 2v, its negation 2v + 1. A clause lies in the arena as its length and its
  * literals; place[id] says where, 0 for none. val[l] says that l is held true.
  */
-#include <fcntl.h>
-#include <stdint.h>
-#include <stdio.h>
-#include <stdlib.h>
-#include <string.h>
-#include <sys/stat.h>
-#include <unistd.h>
+#define PROGRAM "aigcheck3"
+#include "circuits.h"
 
-typedef uint8_t u8;
-typedef uint32_t u32;
-typedef uint64_t u64;
-
-enum { MOST = 4194303, TEXT_MOST = 67108864 };
-
-static void fault(const char *words) {
-    fprintf(stderr, "aigcheck3: %s\n", words);
-    exit(3);
-}
-static void no(int number) {
-    printf("no %d\n", number);
-    exit(1);
-}
-static void *room(void *old, size_t size) {
-    void *p = realloc(old, size ? size : 1);
-    if (!p) fault("out of memory");
-    return p;
-}
-static void *grown(void *at, size_t n, size_t *cap, size_t size) {
-    if (n < *cap) return at;
-    *cap = *cap ? 2 * *cap : 64;
-    return room(at, *cap * size);
-}
-
-typedef struct { u32 *at; size_t len, cap; } List;
-static inline void push(List *l, u32 x) {
-    if (l->len == l->cap) l->at = grown(l->at, l->len, &l->cap, sizeof(u32));
-    l->at[l->len++] = x;
-}
-
-/* ---- texts ---- */
-typedef struct { const u8 *p, *end; u8 *start; } Text;
-
-static Text slurp(const char *name) {
-    int fd = open(name, O_RDONLY);
-    struct stat st;
-    if (fd < 0 || fstat(fd, &st)) fault("read or write failed");
-    size_t cap = (size_t)st.st_size + 1, len = 0;
-    u8 *buf = room(NULL, cap);
-    for (;;) {
-        if (len == cap) buf = room(buf, cap *= 2);
-        ssize_t n = read(fd, buf + len, cap - len);
-        if (n < 0) fault("read or write failed");
-        if (n == 0) break;
-        len += (size_t)n;
-    }
-    close(fd);
-    return (Text){buf, buf + len, buf};
-}
-/* The number at the text's place, at most `most`; `missing` where none is there or it has a leading zero. */
-static inline u32 number(Text *t, u64 most, int missing, int over) {
-    if (t->p == t->end) no(6);
-    const u8 *p = t->p;
-    unsigned d = *p - '0';
-    if (d > 9) no(missing);
-    u64 x = d;
-    p++;
-    if (d == 0) {
-        if (p < t->end && (unsigned)(*p - '0') <= 9) no(missing);
-    } else {
-        while (p < t->end && (d = *p - '0') <= 9) {
-            x = x * 10 + d;
-            if (x > most) no(over);
-            p++;
-        }
-    }
-    if (x > most) no(over);
-    t->p = p;
-    return (u32)x;
-}
-static inline void byte(Text *t, u8 want, int wrong) {
-    if (t->p == t->end) no(6);
-    if (*t->p != want) no(wrong);
-    t->p++;
-}
 static inline u32 field(Text *t, u64 most, u8 end) {
     u32 x = number(t, most, 3, 3);
     byte(t, end, 5);
     return x;
 }
 
-/* ---- circuits ---- */
-typedef struct { u32 lit, next, reset; } Latch;
-typedef struct { u32 lhs, rhs0, rhs1; } Gate;
 typedef struct {
     u32 M, I, L, O, A, B, C, J, F;
     u32 *inputs, *outputs, *bad, *constraints, *sizes, *wanted, *fairness;
@@ -114,35 +30,6 @@ typedef struct {
     u8 *defined; /* by variable; null: all */
 } Model;
 
-static u32 line_lit(Text *t, const Model *m) {
-    u32 x = number(t, 2 * (u64)m->M + 1, 3, 7);
-    byte(t, '\n', 5);
-    return x;
-}
-static u32 defining(Text *t, const Model *m) {
-    u32 x = number(t, 2 * (u64)m->M + 1, 3, 7);
-    if (x < 2 || x & 1) no(8);
-    return x;
-}
-static u32 *lits(Text *t, const Model *m, u32 n) {
-    List l = {0};
-    for (u32 i = 0; i < n; i++) push(&l, line_lit(t, m));
-    return l.at;
-}
-static u32 delta(Text *t) {
-    u32 x = 0;
-    for (int i = 0; i < 4; i++) {
-        if (t->p == t->end) no(6);
-        u8 b = *t->p++;
-        if (i == 3 && b & 0x80) no(13);
-        x |= (u32)(b & 0x7f) << (7 * i);
-        if (!(b & 0x80)) {
-            if (i && b == 0) no(13);
-            return x;
-        }
-    }
-    return x;
-}
 static void define(u8 *defined, u32 lit) {
     if (defined[lit >> 1]) no(9);
     defined[lit >> 1] = 1;
@@ -152,7 +39,7 @@ static void use(const u8 *defined, const u32 *at, u32 n) {
 }
 /* Each variable is defined once, and what is read is defined. */
 static void settle(Model *m) {
-    u8 *defined = room(NULL, (size_t)m->M + 1), *before = room(NULL, (size_t)m->M + 1);
+    u8 *defined = regrow(NULL, (size_t)m->M + 1), *before = regrow(NULL, (size_t)m->M + 1);
     memset(defined, 0, (size_t)m->M + 1);
     for (u32 i = 0; i < m->I; i++) define(defined, m->inputs[i]);
     for (u32 i = 0; i < m->L; i++) define(defined, m->latches[i].lit);
@@ -174,67 +61,24 @@ static void settle(Model *m) {
     if (m->I + m->L + m->A < m->M) m->defined = defined;
     else free(defined);
 }
-static void header(Text *t, Model *m, int binary) {
-    const char *tag = binary ? "aig " : "aag ";
-    for (int i = 0; i < 4; i++) byte(t, (u8)tag[i], 2);
-    u32 *counts[9] = {&m->M, &m->I, &m->L, &m->O, &m->A, &m->B, &m->C, &m->J, &m->F};
-    for (int i = 0; i < 9; i++) {
-        *counts[i] = number(t, MOST, 3, 4);
-        if (i < 4) { byte(t, ' ', 2); continue; }
-        if (t->p == t->end) no(6);
-        if (*t->p == '\n') break;
-        if (i == 8 || *t->p != ' ') no(2);
-        t->p++;
-    }
-    u64 sum = (u64)m->I + m->L + m->A;
-    if (binary ? sum != m->M : sum > m->M) no(16);
-    t->p++;
-}
-static Gate read_gate(Text *t, const Model *m, u32 i, int binary) {
-    Gate g;
-    if (binary) {
-        g.lhs = 2 * (m->I + m->L + 1 + i);
-        u32 d = delta(t);
-        if (d == 0 || d > g.lhs) no(13);
-        g.rhs0 = g.lhs - d;
-        d = delta(t);
-        if (d > g.rhs0) no(13);
-        g.rhs1 = g.rhs0 - d;
-    } else {
-        g.lhs = defining(t, m);
-        byte(t, ' ', 5);
-        g.rhs0 = number(t, 2 * (u64)m->M + 1, 3, 7);
-        byte(t, ' ', 5);
-        g.rhs1 = line_lit(t, m);
-    }
-    return g;
-}
 static Model read_model(Text *t) {
     Model m = {0};
     if (t->end - t->p > TEXT_MOST) no(1);
     int binary = t->end - t->p > 1 && t->p[1] == 'i';
-    header(t, &m, binary);
+    u32 *counts[9] = {&m.M, &m.I, &m.L, &m.O, &m.A, &m.B, &m.C, &m.J, &m.F};
+    header(t, binary, counts);
     size_t cap = 0;
     for (u32 i = 0; i < m.I && !binary; i++) {
         m.inputs = grown(m.inputs, i, &cap, sizeof(u32));
-        m.inputs[i] = defining(t, &m);
+        m.inputs[i] = defining(t, m.M);
         byte(t, '\n', 5);
     }
     for (u32 i = 0; i < m.L; i++) {
-        Latch l = {2 * (m.I + 1 + i), 0, 0};
-        if (!binary) { l.lit = defining(t, &m); byte(t, ' ', 5); }
-        l.next = number(t, 2 * (u64)m.M + 1, 3, 7);
-        if (t->p == t->end) no(6);
-        if (*t->p == ' ') {
-            t->p++;
-            l.reset = number(t, UINT32_MAX, 3, 12);
-            if (l.reset > 1 && l.reset != l.lit) no(12);
-        }
-        byte(t, '\n', 5);
+        Latch l = read_latch(t, m.M, binary ? 2 * (m.I + 1 + i) : 0);
         m.latches = grown(m.latches, i, &m.latches_cap, sizeof(Latch));
         m.latches[i] = l;
     }
-    m.outputs = lits(t, &m, m.O), m.bad = lits(t, &m, m.B), m.constraints = lits(t, &m, m.C);
+    m.outputs = lits(t, m.M, m.O), m.bad = lits(t, m.M, m.B), m.constraints = lits(t, m.M, m.C);
     List sizes = {0};
     for (u32 i = 0; i < m.J; i++) {
         push(&sizes, number(t, MOST - m.nwanted, 3, 4));
@@ -242,9 +86,9 @@ static Model read_model(Text *t) {
         byte(t, '\n', 5);
     }
     m.sizes = sizes.at;
-    m.wanted = lits(t, &m, m.nwanted), m.fairness = lits(t, &m, m.F);
+    m.wanted = lits(t, m.M, m.nwanted), m.fairness = lits(t, m.M, m.F);
     for (u32 i = 0; i < m.A; i++) {
-        Gate g = read_gate(t, &m, i, binary);
+        Gate g = read_gate(t, m.M, binary ? 2 * (m.I + m.L + 1 + i) : 0);
         m.gates = grown(m.gates, i, &m.gates_cap, sizeof(Gate));
         m.gates[i] = g;
     }
@@ -276,11 +120,11 @@ static List trail, clause, hints;
 static void begin(size_t words, size_t clauses, u32 variables) {
     if (words + 1 > arena_cap) {
         free(arena);
-        arena = room(NULL, (arena_cap = words + words / 8 + 1024) * sizeof(u32));
+        arena = regrow(NULL, (arena_cap = words + words / 8 + 1024) * sizeof(u32));
     }
     if (clauses + 1 > place_cap) {
         free(place);
-        place = room(NULL, (place_cap = clauses + clauses / 8 + 1024) * sizeof(u32));
+        place = regrow(NULL, (place_cap = clauses + clauses / 8 + 1024) * sizeof(u32));
     }
     used = filled = 1, place[0] = 0, top = 0, nfar = 0, count = 0;
     vars = variables;
@@ -319,7 +163,7 @@ static inline u32 where(u32 id) {
 }
 static void add(u32 id) {
     if (id < 4 * count + 65536) {
-        if (id >= place_cap) place = room(place, (place_cap = 2 * (size_t)id) * sizeof(u32));
+        if (id >= place_cap) place = regrow(place, (place_cap = 2 * (size_t)id) * sizeof(u32));
         if (id > filled) memset(place + filled, 0, (id - filled) * sizeof(u32));
         place[id] = (u32)used, filled = (size_t)id + 1;
     } else {
@@ -328,7 +172,7 @@ static void add(u32 id) {
     }
     if (used + clause.len + 1 > arena_cap) {
         arena_cap = 2 * (used + clause.len + 1);
-        arena = room(arena, arena_cap * sizeof(u32));
+        arena = regrow(arena, arena_cap * sizeof(u32));
     }
     arena[used] = (u32)clause.len;
     memcpy(arena + used + 1, clause.at, clause.len * sizeof(u32));
