@@ -6,8 +6,8 @@ ghost use Rattle.lrat.specs.Literals.{IsLiteral};
 
 use crate::clause::Clause;
 use crate::place::Place;
-use crate::row::Row;
-use base::{Refused, Seq, extend, push};
+use crate::row::{Row, add_literals};
+use base::{Refused, Seq, push};
 use std::alloc::Global;
 use std::marker::Model;
 
@@ -93,7 +93,7 @@ impl AddClause for ClauseRow {
     fn add_clause(&mut self, _alloc: Global, clause: &[i32]) -> Result<(), Refused> {
         let start = self.literals.len();
         let id = next_id(self.places.len());
-        extend(&mut self.literals, clause)?;
+        add_literals(&mut self.literals, clause)?;
         let place = Place {
             start,
             len: clause.len(),
