@@ -16,6 +16,7 @@ EXHAUSTIVE = SourceFileLoader("exhaustive", str(FOLDER.parent / "exhaustive")).l
 
 from witnesses import aiger, conditions
 
+# Of each kind of pairs.
 SEED, COUNT = 65, 300
 
 # How often each condition has to fail among the random pairs, and how often none: else they show too little.
@@ -64,6 +65,18 @@ def extended(rng, model):
     latches = [(lit, rng.choice((lit, rng.randrange(top))), rng.randrange(top)) for lit in range(first, top, 2)]
     gates = [(top, rng.randrange(top), rng.randrange(top)), (top + 2, top + 1, model.bad ^ 1)]
     return model._replace(latches=model.latches + latches, bad=top + 3, gates=model.gates + gates)
+
+
+def paired(rng, model):
+    """The model with a further latch that goes as the first one or against it, or otherwise; it is bad too where the
+    two do not stand so to one another."""
+    (own, following, _), lit, sign = model.latches[0], 2 * most(model) + 2, rng.randrange(2)
+    alike = following ^ own ^ lit if following & ~1 == own else following ^ sign
+    goes, begins = (alike, following ^ sign, rng.randrange(lit + 2)), (own ^ sign, own ^ sign, sign)
+    latch = (lit, rng.choice(goes), rng.choice(begins))
+    gates = [(lit + 2, own, lit ^ 1 ^ sign), (lit + 4, own ^ 1, lit ^ sign), (lit + 6, lit + 3, lit + 5)]
+    gates.append((lit + 8, lit + 6, model.bad ^ 1))
+    return model._replace(latches=[*model.latches, latch], bad=lit + 9, gates=model.gates + gates)
 
 
 def named(rng, model, witness):
@@ -167,6 +180,13 @@ def drawn_pair(rng):
     return text_of(model), text_of(witness) + named(rng, model, witness)
 
 
+def equal_pair(rng):
+    """The texts of a random model and of a circuit that may be a witness, in which two latches may be equal."""
+    model = draw(rng, False)
+    witness = paired(rng, model)
+    return text_of(model), text_of(witness) + named(rng, model, witness)
+
+
 def function_pair(rng):
     """The texts of a random model and of a circuit that may be a witness, with a function as the reset of a latch."""
     while True:
@@ -205,10 +225,16 @@ def is_odd(text):
 
 def random_pairs():
     """The name of each random pair, and what is wrong with it, or nothing."""
+    found = pairs_by(drawn_pair, "random pair", ("none", *conditions.ASKED))
+    return found + pairs_by(equal_pair, "random pair with equal latches", ("none", "step"))
+
+
+def pairs_by(drawing, name, wanted):
+    """The names of random pairs that are drawn so, and what is wrong. These conditions fail, or none, often enough."""
     rng, found, count = random.Random(SEED), [], Counter()
     for number in range(COUNT):
-        failed, fault = judged(*drawn_pair(rng))
+        failed, fault = judged(*drawing(rng))
         count.update(failed or ["none"])
-        found.append((f"random pair {number}", fault))
-    rare = [name for name in ("none", *conditions.ASKED) if count[name] < LEAST]
-    return [*found, ("random pairs", f"too few with {rare[0]}: {count}" if rare else None)]
+        found.append((f"{name} {number}", fault))
+    rare = [it for it in wanted if count[it] < LEAST]
+    return [*found, (f"{name}s", f"too few with {rare[0]}: {count}" if rare else None)]

@@ -52,6 +52,12 @@ FUNCTIONS_IN_BINARY = b"aig 20 1 6 0 13 1\n4 4\n6\n8 5\n10 2\n12 10\n14 16\n41\n
 # Both latches stay 0, and the second is bad.
 ZEROS = "aag 2 0 2 0 0 1\n2 2\n4 4\n4\n"
 
+# Both latches begin with 0 and toggle; bad is that they differ.
+TOGETHER = "aag 5 0 2 0 3 1\n2 3\n4 5\n11\n6 5 2\n8 4 3\n10 9 7\n"
+
+# The second begins with 1, and bad is that both are the same.
+OPPOSED = "aag 5 0 2 0 3 1\n2 3\n4 5 1\n11\n6 4 2\n8 5 3\n10 9 7\n"
+
 PAIRS = (
     # A circuit whose property is inductive is its own witness.
     Pair("itself", STAYS, STAYS, "yes"),
@@ -60,6 +66,23 @@ PAIRS = (
     Pair("binary", FOLLOWS, b"aig 3 0 2 0 1 1\n4\n4\n7\n\x01\x02", "yes"),
     # An output is a bad literal where the file has nothing else.
     Pair("output", "aag 1 0 1 1 0\n2 2\n2\n", STAYS, "yes"),
+    # What is equal at one time, or opposed, is so at the next.
+    Pair("equal latches", TOGETHER, TOGETHER, "yes"),
+    Pair("opposed latches", OPPOSED, OPPOSED, "yes"),
+    # Where the second latch is always 1 next, from 1 and 1 the first goes to 0; from 0 and 0 both go to 1.
+    Pair(
+        "equal for one step",
+        TOGETHER.replace("4 5\n", "4 1\n"),
+        TOGETHER.replace("4 5\n", "4 1\n"),
+        "no: step",
+        (
+            "step: fails: not that the bad literal of the witness then is false",
+            "  witness: l0=1 l1=1",
+            "  witness then: l0=0 l1=1",
+        ),
+    ),
+    # Where the second latch stays, both are the same next.
+    Pair("opposed at first", *[OPPOSED.replace("4 5 1\n", "4 4 1\n")] * 2, "no: step"),
     # From 0 and 1 the bad latch goes to 1, and no other state is broken.
     Pair(
         "not inductive",

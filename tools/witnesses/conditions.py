@@ -115,6 +115,49 @@ def is_safe(frame, bad):
     return [(f"the bad literal of the {frame.name} is false", frame.literal(bad), -TRUE)]
 
 
+def parts_of(circuit, lit):
+    """Literals that are all true exactly where this one is: itself, or of a gate the parts of its two sides."""
+    gates, parts, left = {it.lit: it for it in circuit.gates}, {}, [lit]
+    while left:
+        lit = left.pop()
+        if lit in gates:
+            left += [gates[lit].right, gates[lit].left]
+        else:
+            parts[lit] = gates.get(lit ^ 1)
+    return parts
+
+
+def equal(circuit, lit):
+    """Pairs of literals of inputs and latches, or of the constant, that are equal wherever this literal is true."""
+    gates, parts = {it.lit for it in circuit.gates}, parts_of(circuit, lit)
+    denied = {(min(gate.left, gate.right), max(gate.left, gate.right)) for gate in parts.values() if gate}
+    pairs = [(lit, 1) for lit, gate in parts.items() if not gate]
+    pairs += [(left, right ^ 1) for left, right in sorted(denied) if (left ^ 1, right ^ 1) in denied]
+    return [pair for pair in pairs if not {lit & ~1 for lit in pair} & gates]
+
+
+def merged(formula, circuit, pairs):
+    """A literal of the formula for each input and latch, the same one for those that pairs say to be equal."""
+    firsts = {}
+
+    def first_of(lit):
+        while lit & ~1 in firsts:
+            lit = firsts[lit & ~1] ^ lit & 1
+        return lit
+
+    for pair in pairs:
+        low, high = sorted(map(first_of, pair))
+        if low ^ high > 1:
+            firsts[high & ~1] = low ^ high & 1
+    literals = {0: -TRUE}
+    for lit in [*circuit.inputs, *(it.lit for it in circuit.latches)]:
+        first = first_of(lit)
+        if first & ~1 not in literals:
+            literals[first & ~1] = formula.new()
+        literals[lit] = -literals[first & ~1] if first % 2 else literals[first & ~1]
+    return literals
+
+
 def reset(pair):
     """The resets and constraints of the model have to give those of the witness."""
     formula = Formula()
@@ -149,10 +192,12 @@ def base(pair):
 
 
 def step(pair):
-    """The witness's property has to hold on."""
-    formula = Formula()
-    frame, then = Frame(formula, pair.witness, "witness", {}), Frame(formula, pair.witness, "witness then", {})
-    moved = steps(frame, then, [it.lit for it in pair.witness.latches])
+    """The witness's property has to hold on. Latches that it says to be equal have one variable, so that gates over
+    them are the same ones, and the latches at the time after are their next literals."""
+    formula, circuit = Formula(), pair.witness
+    frame = Frame(formula, circuit, "witness", merged(formula, circuit, equal(circuit, pair.own_bad ^ 1)))
+    then = Frame(formula, circuit, "witness then", {it.lit: frame.literal(it.next) for it in circuit.latches})
+    moved = steps(frame, then, [it.lit for it in circuit.latches])
     given = is_safe(frame, pair.own_bad) + moved + constraints(frame) + constraints(then)
     return Condition(formula, (frame, then), given, is_safe(then, pair.own_bad))
 
@@ -180,8 +225,12 @@ def breaking(condition, model):
     values, lines = {TRUE: True}, []
     for frame in condition.frames:
         lits = [*frame.circuit.inputs, *(it.lit for it in frame.circuit.latches)]
-        found = values_of(frame.circuit, {lit: frame.variables[lit] in model for lit in lits})
-        values |= {abs(given): found[lit] == (given > 0) for lit, given in frame.variables.items() if lit}
+        given = {lit: frame.variables[lit] for lit in lits}
+        found = values_of(frame.circuit, {lit: (abs(it) in model) == (it > 0) for lit, it in given.items()})
+        here = {abs(it): found[lit] == (it > 0) for lit, it in frame.variables.items() if lit}
+        if any(values.get(variable, value) != value for variable, value in here.items()):
+            raise NoAnswer("the solver's model has two values of a gate")
+        values |= here
         names = [f"i{at}" for at in range(len(frame.circuit.inputs))]
         names += [f"l{at}" for at in range(len(frame.circuit.latches))]
         lines.append(" ".join([f"  {frame.name}:", *(f"{name}={found[lit]:d}" for name, lit in zip(names, lits))]))
