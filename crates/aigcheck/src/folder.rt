@@ -242,10 +242,16 @@ impl Folder<'_> {
     /// The status of what the evidence shows of the properties of the circuit that the text spells.
     fn status(&self, rt: &HostRuntime) -> Result<u8, ExitError> {
         match read(rt.alloc(), self.circuit) {
-            Ok(file) => Ok(self.count(rt, &file)?.status()),
+            Ok(file) => self.status_in(rt, &file),
             Err(ReadError::OutOfMemory(refused)) => Err(ExitError::from(refused)),
             Err(error) => self.refused(rt, error),
         }
+    }
+
+    /// The status of what the evidence shows of the properties of the circuit.
+    fn status_in(&self, rt: &HostRuntime, file: &AigerFile) -> Result<u8, ExitError> {
+        let counts = self.count(rt, file)?;
+        Ok(counts.status())
     }
 }
 

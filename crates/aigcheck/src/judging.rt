@@ -141,10 +141,20 @@ impl Question<'_> {
         text: &[u8],
     ) -> Result<(Option<Property>, Option<ReadError>), ExitError> {
         match aiger::read(rt.alloc(), text) {
-            Ok(circuit) => Ok((self.property_in(rt, &circuit)?, None)),
+            Ok(circuit) => self.in_circuit(rt, &circuit),
             Err(ReadError::OutOfMemory(refused)) => Err(ExitError::from(refused)),
             Err(error) => Ok((None, Some(error))),
         }
+    }
+
+    /// The same of a text that was read as this circuit.
+    fn in_circuit(
+        self,
+        rt: &HostRuntime,
+        circuit: &AigerFile,
+    ) -> Result<(Option<Property>, Option<ReadError>), ExitError> {
+        let property = self.property_in(rt, circuit)?;
+        Ok((property, None))
     }
 
     /// Whether the evidence is accepted for a circuit of this text. It puts the line; where the text is a circuit, standard

@@ -37,8 +37,8 @@ mod folder;
 mod judging;
 mod reporting;
 mod status;
-mod words;
 
+use aigcheck_arguments::command;
 use base::push;
 use clap::error::ErrorKind;
 use clap::{ArgMatches, Error};
@@ -53,7 +53,6 @@ use property_names::{Asked, asked_by};
 use status::{FAULT, YES, status_of};
 use std::env;
 use std::process::ExitCode;
-use words::command;
 
 /// The property that is asked about alone, where the words name one.
 fn asked<'a>(words: &ArgMatches<'a>) -> Result<Option<Asked<'a>>, ExitError> {

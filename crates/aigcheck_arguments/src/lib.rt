@@ -1,4 +1,7 @@
-//! The commands and their words, and what `--help` says beside them.
+//! The command line of `aigcheck`: its commands and their words, and what `--help` says beside them.
+//!
+//! A crate of its own, so that it is proved beside the checker and not after it.
+#![tactic(auto)]
 
 use clap::builder::ValueParser;
 use clap::{Arg, ArgAction, Command};
