@@ -8,7 +8,7 @@ use aigmc_files::{
 use arguments::WitnessCircuit;
 use base::FromBytes;
 use certificate3::Format;
-use checker::check;
+use checker2::check;
 use graph::Model;
 use inputs::is_standard;
 use std::alloc::Global;

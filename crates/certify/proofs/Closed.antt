@@ -13,7 +13,7 @@ use Rattle.cdcl_log.specs.Refuting.{Refuting}
 use Rattle.cdcl_log.specs.declared.shown.Closing.{Closing}
 use Rattle.cnf.specs.Clauses.{step_units, bad_units}
 use Rattle.cnf.specs.Formulas.{shared_formula}
-use Rattle.checker.specs.Accepted.{Case, step_case, bad_case, IsShared}
+use Rattle.checker2.specs.Accepted.{Case, step_case, bad_case, IsShared}
 use Rattle.certify.specs.Sections.{AreClosed, AreProofs, AreSectionsOver, CloseBelow, IsSharedBy, case_with}
 use Rattle.certify.specs.declared.closed_cases.ClosedCases.{ClosedCases}
 use Rattle.certify.proofs.Pairs.{one_mapped}

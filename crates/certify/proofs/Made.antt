@@ -5,7 +5,7 @@ use Rattle.graph.specs.declared.circuit.Lit.{Lit}
 use Rattle.graph.specs.declared.circuit.Property.{Property}
 use Rattle.graph.specs.declared.parts.Parts.{Parts}
 use Rattle.lrat.specs.Shared.{Base}
-use Rattle.checker.specs.Accepted.{cases, IsGood, IsShared}
+use Rattle.checker2.specs.Accepted.{cases, IsGood, IsShared}
 use Rattle.certify.specs.Causes.{HasCauseFor, IsUnspent}
 use Rattle.certify.specs.ProveErrors.{IsProveError}
 use Rattle.certify.specs.Outcomes.{IsCertifiedFor, of_proofs}

@@ -12,8 +12,8 @@ use Rattle.lrat.specs.Stages.{Stage, GoAlong}
 use Rattle.lrat.proofs.Sharing.{over_law}
 use Rattle.certificate.specs.declared.certificate.Certificate.{Certificate}
 use Rattle.cdcl_log.specs.Logged.{with_units}
-use Rattle.checker.specs.Accepted.{Case, init_case, step_case, bad_case, cases, IsAcceptedFor, IsGood, IsProofOf, IsShared, RefuteBelow}
-use Rattle.checker.proofs.InOrder.{refute_more}
+use Rattle.checker2.specs.Accepted.{Case, init_case, step_case, bad_case, cases, IsAcceptedFor, IsGood, IsProofOf, IsShared, RefuteBelow}
+use Rattle.checker2.proofs.InOrder.{refute_more}
 use Rattle.certify.specs.Sections.{AreProofs, case_over}
 
 -- a refutation of a formula with units is one of the units over what the formula shares

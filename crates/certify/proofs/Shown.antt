@@ -6,7 +6,7 @@ use Rattle.graph.specs.declared.circuit.Property.{Property}
 use Rattle.graph.specs.declared.parts.Parts.{Parts}
 use Rattle.cnf.specs.Invariants.{IsInductive}
 use Rattle.certificate.specs.declared.certificate.Certificate.{Certificate}
-use Rattle.checker.specs.Accepted.{circuit_of, bad_of, IsShowable, IsAcceptedFor, IsAcceptedCertificate}
+use Rattle.checker2.specs.Accepted.{circuit_of, bad_of, IsShowable, IsAcceptedFor, IsAcceptedCertificate}
 use Rattle.certify.specs.Causes.{HasCause, HasCauseFor}
 use Rattle.certify.specs.Outcomes.{IsCertified, IsCertifiedFor}
 use Rattle.certify.specs.declared.certified.Certified.{Certified}

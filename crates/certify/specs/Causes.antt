@@ -5,10 +5,10 @@ use Rattle.graph.specs.declared.circuit.Lit.{Lit}
 use Rattle.graph.specs.declared.circuit.Property.{Property}
 use Rattle.graph.specs.declared.parts.Parts.{Parts}
 use Rattle.graph.specs.Circuits.{position_of, HasProperty}
-use Rattle.checker.specs.Accepted.{IsGood, IsShowable, circuit_of}
-use Rattle.checker.specs.Causes.{IsFirstFault}
-use Rattle.checker.specs.declared.invariant.ClauseFault.{ClauseFault}
-use Rattle.checker.specs.declared.invariant.ClauseFault.TheVariants as fault
+use Rattle.checker2.specs.Accepted.{IsGood, IsShowable, circuit_of}
+use Rattle.checker2.specs.Causes.{IsFirstFault}
+use Rattle.checker2.specs.declared.invariant.ClauseFault.{ClauseFault}
+use Rattle.checker2.specs.declared.invariant.ClauseFault.TheVariants as fault
 use Rattle.certify.specs.declared.certify_error.CertifyError.{CertifyError}
 use Rattle.certify.specs.declared.certify_error.CertifyError.TheVariants.{NoProperty, Limit, IdsTaken, NotLatch, Repeated, OutOfMemory}
 

@@ -4,7 +4,7 @@ use Rattle.base.specs.Budget.{Steps}
 use Rattle.graph.specs.declared.circuit.Lit.{Lit}
 use Rattle.graph.specs.declared.circuit.Property.{Property}
 use Rattle.graph.specs.declared.parts.Parts.{Parts}
-use Rattle.checker.specs.Accepted.{circuit_of, bad_of, IsAcceptedFor, IsAcceptedCertificate}
+use Rattle.checker2.specs.Accepted.{circuit_of, bad_of, IsAcceptedFor, IsAcceptedCertificate}
 use Rattle.certify.specs.Counterexamples.{IsCounterexample}
 use Rattle.certify.specs.declared.certified.Certified.{Certified}
 use Rattle.certify.specs.declared.certified.Certified.TheVariants.{Certificate, NotInvariant, Spent}

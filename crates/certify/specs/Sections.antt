@@ -10,7 +10,7 @@ use Rattle.lrat.specs.Stages.{Stage}
 use Rattle.cdcl_log.specs.Closings.{IsClosingOf, section_of}
 use Rattle.cdcl_log.specs.Refuting.{Refuting}
 use Rattle.cdcl_log.specs.declared.shown.Closing.{Closing}
-use Rattle.checker.specs.Accepted.{Case, RefuteBelow}
+use Rattle.checker2.specs.Accepted.{Case, RefuteBelow}
 use Rattle.certify.specs.declared.closed_cases.ClosedCases.{ClosedCases}
 
 -- the case of a formula's clauses and these units

@@ -6,7 +6,7 @@ ghost use Rattle.graph.specs.declared.circuit.Property.TheVariants.{Justice};
 ghost use Rattle.graph.specs.Circuits.{HasProperty, position_of};
 ghost use Rattle.graph.specs.WellFormed.{used};
 ghost use Rattle.cnf.specs.Invariants.{IsInductive};
-ghost use Rattle.checker.specs.Accepted.{circuit_of, bad_of};
+ghost use Rattle.checker2.specs.Accepted.{circuit_of, bad_of};
 ghost use Rattle.live_safe.specs.Shadow.{shadow_of};
 ghost use Rattle.certify.specs.Causes.{HasCause, HasCauseFor, IsUnspent};
 ghost use Rattle.certify.specs.Outcomes.{IsCertified, IsCertifiedFor, of_proofs};

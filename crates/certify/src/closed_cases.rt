@@ -6,7 +6,7 @@ ghost use Rattle.lrat.specs.Limits.{IsFormula};
 ghost use Rattle.lrat.specs.Literals.{IsLiteral};
 ghost use Rattle.lrat.specs.Shared.{Base};
 ghost use Rattle.cdcl_log.specs.Logged.{with_units};
-ghost use Rattle.checker.specs.Accepted.{Case as AnyCase};
+ghost use Rattle.checker2.specs.Accepted.{Case as AnyCase};
 ghost use Rattle.certify.specs.ProveErrors.{IsProveErrorOf};
 ghost use Rattle.certify.specs.Sections.{AreClosed, AreProofs, AreSectionsOver, IsSharedBy, case_with};
 

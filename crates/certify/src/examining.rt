@@ -2,12 +2,12 @@
 
 ghost use Rattle.std.specs.Prelude.{◌≤◌, IfErr, OnOk, length};
 ghost use Rattle.std.specs.List.{All};
-ghost use Rattle.checker.specs.Accepted.{IsGood};
+ghost use Rattle.checker2.specs.Accepted.{IsGood};
 ghost use Rattle.certify.specs.Causes.{IsFault};
 
 use crate::certify_error::CertifyError;
 use base::Seq;
-use checker::{ClauseError, check_clauses};
+use checker2::{ClauseError, check_clauses};
 use cnf::NextTable;
 use graph::{Lit, MOST_VARIABLES, Model};
 use std::alloc::Global;

@@ -9,7 +9,7 @@ ghost use Rattle.lrat.specs.Shared.{Base};
 ghost use Rattle.cnf.specs.Clauses.{step_units};
 ghost use Rattle.cnf.specs.Formulas.{IsInvariant, shared_formula, start_formula};
 ghost use Rattle.cdcl_log.specs.Logged.{with_units};
-ghost use Rattle.checker.specs.Accepted.{Case as AnyCase, IsProofOf, IsShared, bad_case, cases, init_case, step_case};
+ghost use Rattle.checker2.specs.Accepted.{Case as AnyCase, IsProofOf, IsShared, bad_case, cases, init_case, step_case};
 ghost use Rattle.certify.specs.ProveErrors.{IsProveError, IsProveErrorOf};
 ghost use Rattle.certify.specs.Sections.{AreClosed, AreProofs, case_over};
 

@@ -22,9 +22,9 @@ use Rattle.certificate3.specs.Texts.{Certificate}
 use Rattle.certificate3.proofs.ChainLaws.{goes_on, maps, same_reads, stops}
 use Rattle.certificate3.proofs.FormatLaws.{certified_reads, earlier_line, third_line}
 use Rattle.certificate3.proofs.PartLaws.{then_claim, certificate_is as third_is}
-use Rattle.checker.specs.AnyVersion.{IsFoundOf, IsFoundThird, behind_version_at, named_property}
-use Rattle.checker.specs.Streamed.{IsFound}
-use Rattle.checker.specs.declared.certificate_text.Outcome.{Outcome}
+use Rattle.checker.specs.AnyVersion.{IsFoundOf, IsFoundThird, named_property}
+use Rattle.checker2.specs.Streamed.{IsFound, behind_version_at}
+use Rattle.checker2.specs.declared.certificate_text.Outcome.{Outcome}
 
 -- ---- what is behind the first line of a version
 

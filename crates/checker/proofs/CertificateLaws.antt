@@ -17,7 +17,7 @@ use Rattle.checker.specs.declared.answer_error.AnswerError.{AnswerError}
 use Rattle.checker.specs.AnyVersion.{IsFoundOf, named_property}
 use Rattle.checker.specs.AnswerErrors.{IsAnswerError}
 use Rattle.checker.specs.Verdicts.{Accepts, IsUpheldText, IsNotAccepted, IsRefusal, IsRefusalFor}
-use Rattle.checker.proofs.Accepted.{accepted_law, cause_refuses}
+use Rattle.checker2.proofs.Accepted.{accepted_law, cause_refuses}
 use Rattle.checker.proofs.Said.{stops_more}
 
 -- ---- where it stops

@@ -1,15 +1,5 @@
-pub mod Good
-pub mod Shared
-pub mod Streaming
-pub mod TextParts
-pub mod Watched
-pub mod RefusedCases
-pub mod InOrder
-pub mod Accepted
 pub mod Said
 pub mod CertificateLaws
-pub mod Found
-pub mod TextFound
 pub mod AnyText
 pub mod SourceLaws
 pub mod StimulusLaws

@@ -1,10 +1,7 @@
-pub mod Accepted
 pub mod AnyVersion
-pub mod Causes
 pub mod Lines
 pub mod Numbers
 pub mod Readers
 pub mod Replayed
 pub mod AnswerErrors
-pub mod Streamed
 pub mod Verdicts

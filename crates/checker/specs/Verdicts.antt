@@ -19,13 +19,13 @@ use Rattle.certificate3.specs.Texts.{Certificate as ThirdCertificate, SpellsCert
 use Rattle.checker3.specs.declared.check_error.CheckError.{CheckError as ThirdError}
 use Rattle.checker3.specs.Judged.{IsJudged}
 use Rattle.checker3.specs.Numbers.{number_of as third_number}
-use Rattle.checker.specs.declared.check_error.CheckError.{CheckError}
-use Rattle.checker.specs.declared.check_error.CheckError.TheVariants.{OutOfMemory}
+use Rattle.checker2.specs.declared.check_error.CheckError.{CheckError}
+use Rattle.checker2.specs.declared.check_error.CheckError.TheVariants.{OutOfMemory}
+use Rattle.checker2.specs.Accepted.{IsAcceptedCertificate}
+use Rattle.checker2.specs.Causes.{HasCause}
+use Rattle.checker2.specs.Numbers.{number_of}
 use Rattle.checker.specs.declared.line.Question.TheVariants.{Safe}
-use Rattle.checker.specs.Accepted.{IsAcceptedCertificate}
-use Rattle.checker.specs.Causes.{HasCause}
 use Rattle.checker.specs.Lines.{yes_line, no_line}
-use Rattle.checker.specs.Numbers.{number_of}
 
 -- the first text spells a circuit, and the second, to its end, a certificate of the property that is accepted for it, of
 -- version 1 or 2

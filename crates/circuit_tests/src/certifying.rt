@@ -3,7 +3,7 @@
 use crate::questions::{HOLD, Question, asked};
 use base::{Budget, Refused, Seq};
 use certify::{Certified, certify};
-use checker::check;
+use checker2::check;
 use graph::{Lit, Model, Property};
 use std::alloc::Global;
 use std::test::Fail;

@@ -3,7 +3,7 @@
 use crate::questions::{HOLD, Question, asked};
 use base::{Refused, Seq};
 use certificate::{Certificate, read};
-use checker::check;
+use checker2::check;
 use graph::{Lit, Model, Property};
 use lrat::Proof;
 use std::alloc::Global;

@@ -2,7 +2,7 @@
 
 use crate::questions::{HOLD, Question, asked};
 use base::{Budget, Refused, Seq, ToVec, boxed, push};
-use checker::check;
+use checker2::check;
 use engine::{Counters, Engine, EngineError, Finding, Reason};
 use graph::{Lit, Model, Property};
 use std::alloc::Global;

@@ -7,7 +7,7 @@ use crate::bounded::circuit;
 use base::{Budget, Seq};
 use cdcl::Cdcl;
 use certify::{Certified, certify};
-use checker::check;
+use checker2::check;
 use engine::{Engine, Finding, Progress};
 use graph::{Lit, Model, Property};
 use ic3::Ic3;

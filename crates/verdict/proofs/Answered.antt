@@ -17,9 +17,9 @@ use Rattle.cnf.specs.Invariants.{IsInductive, IsInvariant}
 use Rattle.live_safe.specs.Shadow.{closing_literal, shadow_of}
 use Rattle.live_safe.specs.Laws.{Carries}
 use Rattle.live_safe.proofs.Carried.{lasso_carried}
-use Rattle.checker.specs.Accepted.{IsGood, bad_of, circuit_of}
-use Rattle.checker.specs.declared.invariant.ClauseFault.TheVariants as fault
-use Rattle.checker.proofs.Accepted.{first_fault_refuses}
+use Rattle.checker2.specs.Accepted.{IsGood, bad_of, circuit_of}
+use Rattle.checker2.specs.declared.invariant.ClauseFault.TheVariants as fault
+use Rattle.checker2.proofs.Accepted.{first_fault_refuses}
 use Rattle.certify.specs.Causes.{HasCause as IsUncertified}
 use Rattle.certify.specs.declared.certify_error.CertifyError.{CertifyError}
 use Rattle.certify.specs.declared.certify_error.CertifyError.TheVariants.{NoProperty, Limit, IdsTaken, NotLatch, Repeated, OutOfMemory}

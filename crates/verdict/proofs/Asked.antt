@@ -10,9 +10,9 @@ use Rattle.graph.specs.Circuits.{HasProperty, IsUpheld}
 use Rattle.graph.specs.WellFormed.{IsWellFormed}
 use Rattle.stimulus.specs.declared.value.Stimulus.{Stimulus}
 use Rattle.certificate.specs.declared.certificate.Certificate.{Certificate}
-use Rattle.checker.specs.Accepted.{circuit_of}
-use Rattle.checker.specs.declared.invariant.ClauseFault.TheVariants as fault
-use Rattle.checker.proofs.Accepted.{accepted_law, first_fault_refuses}
+use Rattle.checker2.specs.Accepted.{circuit_of}
+use Rattle.checker2.specs.declared.invariant.ClauseFault.TheVariants as fault
+use Rattle.checker2.proofs.Accepted.{accepted_law, first_fault_refuses}
 use Rattle.certify.specs.Causes.{HasCause as IsUncertified}
 use Rattle.certify.specs.Outcomes.{IsCertified}
 use Rattle.certify.specs.declared.certified.Certified.TheVariants as outcome

@@ -7,7 +7,7 @@ use Rattle.graph.specs.declared.parts.Parts.{Parts}
 use Rattle.graph.specs.Circuits.{HasProperty}
 use Rattle.graph.specs.WellFormed.{IsWellFormed}
 use Rattle.cnf.specs.Invariants.{IsInductive}
-use Rattle.checker.specs.Accepted.{IsGood, bad_of, circuit_of}
+use Rattle.checker2.specs.Accepted.{IsGood, bad_of, circuit_of}
 use Rattle.certify.specs.Causes.{HasCause as IsUncertified}
 use Rattle.certify.specs.Outcomes.{IsCertified}
 use Rattle.certify.specs.declared.certified.Certified.{Certified}

@@ -10,7 +10,7 @@ use Rattle.graph.specs.WellFormed.{only_bad}
 use Rattle.stimulus.specs.Shown.{Begins, IsReplay, ShowsBad, last_of}
 use Rattle.stimulus.specs.declared.value.Stimulus.TheVariants.{Violated}
 use Rattle.cnf.specs.Invariants.{IsInductive, IsInvariant}
-use Rattle.checker.specs.Accepted.{IsGood}
+use Rattle.checker2.specs.Accepted.{IsGood}
 use Rattle.engine.specs.Bounds.{IsClear}
 
 begins_without : (m : Parts) (a : Lit) (initial : List Bool) (r : List Valuation) → Begins (only_bad m a) initial r → Begins m initial r

@@ -8,7 +8,7 @@ use Rattle.graph.specs.declared.parts.Parts.{Parts}
 use Rattle.stimulus.specs.Shown.{Shows}
 use Rattle.stimulus.specs.Texts.{property_of}
 use Rattle.cnf.specs.Invariants.{IsInductive}
-use Rattle.checker.specs.Accepted.{IsAcceptedCertificate, IsGood, bad_of, circuit_of}
+use Rattle.checker2.specs.Accepted.{IsAcceptedCertificate, IsGood, bad_of, circuit_of}
 use Rattle.solver.specs.Full.{full}
 use Rattle.certify.specs.Causes.{HasCause as IsUncertified}
 use Rattle.certify.specs.declared.certify_error.CertifyError.TheVariants as certify

@@ -10,7 +10,7 @@ use Rattle.stimulus.specs.declared.value.Stimulus.TheVariants as stimulus
 use Rattle.stimulus.specs.Shown.{Shows, ShowsBad, ShowsLasso}
 use Rattle.stimulus.specs.Texts.{property_of}
 use Rattle.live_safe.specs.Shadow.{shadow_of}
-use Rattle.checker.specs.Accepted.{IsAcceptedCertificate, IsShowable}
+use Rattle.checker2.specs.Accepted.{IsAcceptedCertificate, IsShowable}
 use Rattle.graph.specs.Circuits.{IsUpheld}
 use Rattle.engine.specs.Bounds.{IsClear}
 use Rattle.engine.specs.declared.finding.Reason.{Reason}

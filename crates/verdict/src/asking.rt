@@ -2,7 +2,7 @@
 
 ghost use Rattle.std.specs.Prelude.{◌≡◌, IfOk, IfErr};
 ghost use Rattle.std.specs.List.{All};
-ghost use Rattle.checker.specs.Accepted.{IsGood, bad_of, circuit_of};
+ghost use Rattle.checker2.specs.Accepted.{IsGood, bad_of, circuit_of};
 ghost use Rattle.cnf.specs.Invariants.{IsInductive};
 ghost use Rattle.base.specs.Budget.{Spends};
 ghost use Rattle.stimulus.specs.Shown.{Shows};

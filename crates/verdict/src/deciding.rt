@@ -3,7 +3,7 @@
 ghost use Rattle.std.specs.Prelude.{◌≡◌, ◌≢◌, ◌<◌, IfOk, IfErr, MatchResult, OnOk, length};
 ghost use Rattle.std.specs.List.{All};
 ghost use Rattle.base.specs.Budget.{Spends};
-ghost use Rattle.checker.specs.Accepted.{circuit_of};
+ghost use Rattle.checker2.specs.Accepted.{circuit_of};
 ghost use Rattle.graph.specs.Circuits.{HasProperty};
 ghost use Rattle.engine.specs.declared.finding.Reason.TheVariants.{NoEvidence};
 ghost use Rattle.verdict.specs.Asked.{AskedInOrder, Asks};

@@ -1,4 +1,4 @@
-use Rattle.checker.proofs.Good.{invariant_from}
+use Rattle.checker2.proofs.Good.{invariant_from}
 use Rattle.certify.proofs.Made.{made, made_refused, made_unspent}
 use Rattle.certify.proofs.certifying.certify_for.Goals as goal
 

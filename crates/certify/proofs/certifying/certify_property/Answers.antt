@@ -1,9 +1,9 @@
 use Rattle.std.proofs.Common.{rules, ◌≡◌, get_or, IfOk, ap, subst, sym}
 use Rattle.graph.specs.declared.circuit.Property.{Property}
 use Rattle.graph.specs.Circuits.{HasProperty}
-use Rattle.checker.specs.Accepted.{circuit_of}
-use Rattle.checker.proofs.Accepted.{showable_here}
-use Rattle.checker.proofs.Watched.{bad_is, bad_used, output_is, output_used}
+use Rattle.checker2.specs.Accepted.{circuit_of}
+use Rattle.checker2.proofs.Accepted.{showable_here}
+use Rattle.checker2.proofs.Watched.{bad_is, bad_used, output_is, output_used}
 use Rattle.certify.specs.Outcomes.{IsCertifiedFor}
 use Rattle.certify.proofs.Shown.{certified, refused}
 use Rattle.certify.proofs.certifying.certify_property.Goals as goal

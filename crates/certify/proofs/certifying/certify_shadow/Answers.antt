@@ -1,8 +1,8 @@
 use Rattle.std.proofs.Common.{◌≤◌, subst}
 use Rattle.graph.specs.declared.circuit.Property.TheVariants.{Justice}
 use Rattle.graph.specs.declared.parts.Parts.{Parts}
-use Rattle.checker.specs.Accepted.{IsShowable}
-use Rattle.checker.proofs.Watched.{closing_is, closing_used}
+use Rattle.checker2.specs.Accepted.{IsShowable}
+use Rattle.checker2.proofs.Watched.{closing_is, closing_used}
 use Rattle.certify.proofs.Shown.{certified, honest, refused}
 use Rattle.certify.proofs.certifying.certify_shadow.Goals as goal
 

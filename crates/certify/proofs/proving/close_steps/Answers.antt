@@ -1,6 +1,6 @@
 use Rattle.std.proofs.Common.{[], sym, subst}
 use Rattle.cnf.specs.Formulas.{IsOverLatches}
-use Rattle.checker.proofs.InOrder.{clause_is}
+use Rattle.checker2.proofs.InOrder.{clause_is}
 use Rattle.certify.proofs.proving.close_steps.Goals as goal
 
 pub step_units-requires-clause-over : goal.step_units-requires-clause-over

@@ -1,5 +1,5 @@
 use Rattle.std.proofs.Common.{[], map}
-use Rattle.checker.specs.Accepted.{init_case}
+use Rattle.checker2.specs.Accepted.{init_case}
 use Rattle.lrat.proofs.Fit.{err_gives}
 use Rattle.certify.specs.ProveErrors.{IsProveError}
 use Rattle.certify.specs.Sections.{AreProofs}

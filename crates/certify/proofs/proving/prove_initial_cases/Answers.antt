@@ -6,8 +6,8 @@ use Rattle.std.proofs.lemmas.List.{length-map, take_all}
 use Rattle.cnf.specs.Clauses.{denial, init_units}
 use Rattle.cnf.specs.Formulas.{IsOverLatches, init_formula, start_formula}
 use Rattle.cdcl_log.specs.Logged.{with_units}
-use Rattle.checker.specs.Accepted.{init_case}
-use Rattle.checker.proofs.InOrder.{clause_is}
+use Rattle.checker2.specs.Accepted.{init_case}
+use Rattle.checker2.proofs.InOrder.{clause_is}
 use Rattle.certify.specs.ProveErrors.{IsProveError}
 use Rattle.certify.specs.Sections.{AreProofs, case_over}
 use Rattle.certify.specs.declared.prove_error.ProveError.TheVariants.{OutOfMemory}

@@ -1,6 +1,6 @@
 use Rattle.std.proofs.Common.{◌≡◌, List, ◌++◌, map, take}
 use Rattle.base.specs.Budget.{Spends}
-use Rattle.checker.specs.Accepted.{Case, init_case}
+use Rattle.checker2.specs.Accepted.{Case, init_case}
 use Rattle.certify.specs.Sections.{AreProofs}
 use Rattle.certify.proofs.proving.prove_initial_cases.Given as goal
 

@@ -3,7 +3,7 @@ use Rattle.aiger.proofs.LayoutLaws.{match_gives}
 use Rattle.certificate.specs.Streams.{ForText}
 use Rattle.pieces.proofs.LineLaws.{over}
 use Rattle.certificate3.specs.Formats.{Certified, SpellsCertified}
-use Rattle.checker.specs.declared.certificate_text.Outcome.{Outcome}
+use Rattle.checker2.specs.declared.certificate_text.Outcome.{Outcome}
 use Rattle.checker.specs.AnyVersion.{IsFoundOf, named_property}
 use Rattle.checker.proofs.AnyText.{IsOutcome, text_goes_on, text_refused, text_whole}
 use Rattle.checker.proofs.certificate_text.check_source.Goals as goal

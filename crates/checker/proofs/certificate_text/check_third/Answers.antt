@@ -6,7 +6,7 @@ use Rattle.certificate3.proofs.ChainLaws.{finds_to, stops_all}
 use Rattle.checker3.specs.declared.text.Outcome.{Outcome as Judgement}
 use Rattle.checker3.specs.Judged.{IsJudged}
 use Rattle.checker.specs.AnyVersion.{IsFoundThird}
-use Rattle.checker.specs.declared.certificate_text.Outcome.{Outcome}
+use Rattle.checker2.specs.declared.certificate_text.Outcome.{Outcome}
 use Rattle.checker.proofs.certificate_text.check_third.Goals as goal
 
 pub returns-in_err-found-clause-says : goal.returns-in_err-found-clause-says

@@ -1,6 +1,6 @@
 use Rattle.std.proofs.Common.{List, ◌++◌, map, take}
 use Rattle.lrat.specs.Shared.{Base}
-use Rattle.checker.specs.Accepted.{Case}
+use Rattle.checker2.specs.Accepted.{Case}
 use Rattle.certify.specs.Sections.{AreProofs, AreSectionsOver, case_with}
 use Rattle.certify.proofs.closed_cases.ClosedCases.write_sections.Given as goal
 

@@ -1,0 +1,10 @@
+pub mod Good
+pub mod Shared
+pub mod Streaming
+pub mod TextParts
+pub mod Watched
+pub mod RefusedCases
+pub mod InOrder
+pub mod Accepted
+pub mod Found
+pub mod TextFound

@@ -1,0 +1,4 @@
+pub mod Accepted
+pub mod Causes
+pub mod Numbers
+pub mod Streamed
