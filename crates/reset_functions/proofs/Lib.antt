@@ -1,3 +1,4 @@
+pub mod Added
 pub mod Loops
 pub mod Runs
 pub mod Texts

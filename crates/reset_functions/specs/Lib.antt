@@ -1,4 +1,5 @@
 pub mod Begun
+pub mod Lines
 pub mod Made
 pub mod Plain
 pub mod Reading

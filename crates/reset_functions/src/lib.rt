@@ -6,6 +6,7 @@
 //! - `resets_as_gates` makes a circuit of both that has no such reset, and each run of which is one with them (`RunsAs`).
 #![tactic(auto)]
 
+mod latch_lines;
 mod making;
 mod plain;
 mod reading;
