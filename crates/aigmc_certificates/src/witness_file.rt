@@ -1,11 +1,24 @@
 //! The witness circuit of `adopt-witness`, of whose latches each may have any literal as its reset.
 
+ghost use Rattle.std.specs.Prelude.{◌≡◌, ◌⊎◌, IfErr, IfOk, IsErr, IsTrue, drop};
+ghost use Rattle.base.specs.Witness.{witness as no_memory};
+ghost use Rattle.graph.specs.WellFormed.{IsWellFormed};
+ghost use Rattle.reset_functions.specs.Begun.{RunsAs};
+ghost use Rattle.reset_functions.specs.Made.{head, with_gates};
+ghost use Rattle.witness_circuits.specs.Spread.{IsAdopted};
+ghost use Rattle.aigmc_files.specs.declared.command_error.CommandError.TheVariants.{OutOfMemory};
+ghost use Rattle.aigmc_files.specs.declared.exit_error.ExitError.TheVariants.{Refused as IsRefused};
+ghost use Rattle.aigmc_certificates.specs.WitnessFiles.{IsStop, own_reset, own_resets, plain_witness};
+
 use aigmc_files::{ExitError, Role, about, circuit_text};
 use base::{Refused, push};
-use graph::{Lit, Model, ReadError};
+use graph::{Lit, Model};
 use reset_functions::{Begun, read, resets_as_gates};
 use std::alloc::Global;
 use witness_circuits::{Adopted, Shared, adopt};
+
+/// The number of gates that depend on one another.
+const CYCLIC: u8 = 11;
 
 /// The witness circuit in the file of this name.
 pub fn witness_in(rt: &HostRuntime, name: &str) -> Result<Begun, ExitError> {
@@ -14,32 +27,52 @@ pub fn witness_in(rt: &HostRuntime, name: &str) -> Result<Begun, ExitError> {
     about(Role::Other, begun)
 }
 
-/// The reset of the latch at the position, where it is a function and the model has not the latch.
-fn own_reset(shared: &Shared, position: usize, reset: Option<Lit>) -> Option<Lit> {
-    match shared.latches.get(position) {
-        Some(Some(_)) => None,
-        _ => reset,
+/// The model's literal of the witness's latch at the position, where the model has the latch.
+fn given_at(given: &[Option<Lit>], position: usize) -> Option<Lit>
+    ensures { result ≡ head (drop position given.now) }
+{
+    match given.get(position) {
+        Some(given) => *given,
+        None => None,
+    }
+}
+
+/// The reset of the latch, where it is a function and the model has not the latch.
+fn own_reset(given: Option<Lit>, reset: Option<Lit>) -> Option<Lit>
+    ensures { result ≡ own_reset given reset }
+{
+    match given {
+        Some(_) => None,
+        None => reset,
     }
 }
 
 /// The resets that are functions, of the latches that the witness alone has, by their positions.
-fn own_resets(alloc: Global, shared: &Shared) -> Result<Vec<Option<Lit>>, Refused> {
+fn own_resets(
+    alloc: Global,
+    given: &[Option<Lit>],
+    resets: &[Option<Lit>],
+) -> Result<Vec<Option<Lit>>, Refused>
+    ensures { IfOk result (λ own. own.items ≡ own_resets given.now resets.now) }
+{
     let mut own = Vec::new(alloc);
-    for (position, reset) in shared.resets.iter().enumerate() {
-        push(&mut own, own_reset(shared, position, *reset))?;
+    for position in 0..resets.len() {
+        let given = given_at(given, position);
+        push(&mut own, own_reset(given, resets[position]))?;
     }
     Ok(own)
 }
 
-/// Refuses a witness of whose resets some depend on one another, or read what is not defined.
-fn expect_order(
-    rt: &HostRuntime,
-    witness: &Model,
-    resets: &[Option<Lit>],
-) -> Result<(), ExitError> {
+/// The witness with gates in place of the latches whose resets are these functions. It is refused where some depend on one
+/// another, or read what is not defined.
+fn made_of(rt: &HostRuntime, witness: &Model, resets: &[Option<Lit>]) -> Result<Model, ExitError>
+    ensures made { IfOk result (λ m. m ≡ with_gates witness.now resets.now) }
+    ensures runs { IfOk result (RunsAs witness.now resets.now) }
+    ensures refused { IfErr result (IsStop (with_gates witness.now resets.now)) }
+{
     match resets_as_gates(rt.alloc(), witness, resets) {
-        Ok(_) => Ok(()),
-        Err(ReadError::Cyclic(_)) => {
+        Ok(made) => Ok(made),
+        Err(fault) if fault.number() == CYCLIC => {
             let _ = eprintln!(rt; "aigmc: the resets of the witness depend on one another");
             Err(ExitError::Told)
         }
@@ -47,11 +80,30 @@ fn expect_order(
     }
 }
 
+/// Refuses a witness of whose resets some depend on one another, or read what is not defined.
+fn expect_order(rt: &HostRuntime, witness: &Model, resets: &[Option<Lit>]) -> Result<(), ExitError>
+    ensures in_order { IfOk result (λ _. IsWellFormed (with_gates witness.now resets.now)) }
+    ensures refused { IfErr result (IsStop (with_gates witness.now resets.now)) }
+{
+    let made = made_of(rt, witness, resets)?;
+    made.well_formed();
+    Ok(())
+}
+
 /// The witness with gates in place of its own latches whose resets are functions. Those of latches that the model has are
-/// for the model to meet.
-fn with_gates(alloc: Global, witness: &Model, shared: &Shared) -> Result<Model, ExitError> {
-    let own = own_resets(alloc, shared)?;
-    let made = resets_as_gates(alloc, witness, &own)?;
+/// for the model to meet; but all of them are to be in order.
+fn with_gates(rt: &HostRuntime, witness: &Model, shared: &Shared) -> Result<Model, ExitError>
+    ensures made { IfOk result (λ m. m ≡ with_gates witness.now (own_resets shared.now.latches.items shared.now.resets.items)) }
+    ensures runs { IfOk result (RunsAs witness.now (own_resets shared.now.latches.items shared.now.resets.items)) }
+    ensures in_order { IfOk result (λ _. IsWellFormed (with_gates witness.now shared.now.resets.items)) }
+    ensures refused { IfErr result (λ e. (e ≡ IsRefused (OutOfMemory no_memory)) ⊎ IsStop (with_gates witness.now (own_resets shared.now.latches.items shared.now.resets.items)) e ⊎ IsStop (with_gates witness.now shared.now.resets.items) e) }
+{
+    let own = own_resets(rt.alloc(), &shared.latches, &shared.resets)?;
+    if own.as_slice() != shared.resets.as_slice() {
+        expect_order(rt, witness, &shared.resets)?;
+    }
+    let made = made_of(rt, witness, &own)?;
+    made.well_formed();
     Ok(made)
 }
 
@@ -61,11 +113,12 @@ pub fn adopted_of(
     circuit: &Model,
     witness: &Model,
     shared: &Shared,
-) -> Result<Adopted, ExitError> {
+) -> Result<Adopted, ExitError>
+    ensures clauses { IfOk result (λ x. IsAdopted circuit.now (plain_witness witness.now shared.now.latches.items shared.now.resets.items) x.latches x.gates x.of_property x.invariant) }
+{
     if shared.resets.is_empty() {
         return Ok(adopt(rt.alloc(), circuit, witness, shared)?);
     }
-    expect_order(rt, witness, &shared.resets)?;
-    let made = with_gates(rt.alloc(), witness, shared)?;
+    let made = with_gates(rt, witness, shared)?;
     Ok(adopt(rt.alloc(), circuit, &made, shared)?)
 }
