@@ -1,3 +1,4 @@
+pub mod Agreed
 pub mod Asked
 pub mod Values
 pub mod Rows

@@ -1,3 +1,4 @@
+pub mod Agreements
 pub mod Causes
 pub mod Conditions
 pub mod Names

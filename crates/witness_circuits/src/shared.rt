@@ -1,6 +1,6 @@
 //! Which inputs and latches a witness circuit shares with the model.
 
-ghost use Rattle.std.specs.Prelude.{IfErr};
+ghost use Rattle.std.specs.Prelude.{◌≡◌, None, IfErr, get_or};
 ghost use Rattle.witness_circuits.specs.Pairs.{IsOther};
 
 use crate::pair_error::PairError;
@@ -31,7 +31,9 @@ pub struct Shared {
 }
 
 /// The model's literal at the position, where it is shared.
-pub fn given_at(shared: &[Option<Lit>], position: usize) -> Option<Lit> {
+pub fn given_at(shared: &[Option<Lit>], position: usize) -> Option<Lit>
+    ensures { result ≡ get_or shared.now position None }
+{
     match shared.get(position) {
         Some(given) => *given,
         None => None,
