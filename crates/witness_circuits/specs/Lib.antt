@@ -5,4 +5,5 @@ pub mod Names
 pub mod Pairs
 pub mod Renamed
 pub mod Spread
+pub mod Trimmings
 pub mod Witnesses

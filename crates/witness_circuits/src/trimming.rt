@@ -1,5 +1,10 @@
 //! The latches and gates of a witness that clauses need.
 
+ghost use Rattle.std.specs.Prelude.{◌≡◌, ◌++◌, Bool, List, IfOk, OnOk, map};
+ghost use Rattle.graph.specs.declared.circuit.Lit.{Lit};
+ghost use Rattle.witness_circuits.specs.Renamed.{renamed};
+ghost use Rattle.witness_circuits.specs.Trimmings.{IsTrimmed, is_needed, kept_latches, needed_gates, other_gates};
+
 use crate::naming::Addition;
 use crate::renaming::{gate_of, latch_of, literal_of, name};
 use crate::sizes::MAX_VAR;
@@ -110,7 +115,9 @@ fn needed_by(
 }
 
 /// Whether the literal's variable is needed.
-fn is_needed(needed: &[bool], lit: Lit) -> bool {
+fn is_needed(needed: &[bool], lit: Lit) -> bool
+    ensures { result ≡ is_needed needed.now lit }
+{
     match needed.get(lit.variable() as usize) {
         Some(needed) => *needed,
         None => false,
@@ -160,34 +167,56 @@ impl Numbering {
         alloc: Global,
         latches: &[Latch],
         needed: &[bool],
-    ) -> Result<Seq<Latch>, Refused> {
+    ) -> Result<Seq<Latch>, Refused>
+        ensures { IfOk result (λ ls. ls ≡ kept_latches self.now.literals.items needed.now latches.now) }
+    {
         let mut found = Seq::new(alloc);
-        for latch in latches {
-            if is_needed(needed, latch.lit) {
-                found.push(latch_of(&self.literals, *latch))?;
+        for k in 0..latches.len() {
+            if is_needed(needed, latches[k].lit) {
+                found.push(latch_of(&self.literals, latches[k]))?;
             }
         }
         Ok(found)
     }
 
-    /// Adds the gates that are needed, or those that are not, by their new variables.
-    fn push_gates(
+    /// Adds the gates that are needed, by their new variables.
+    fn push_needed(
         &self,
         to: &mut Seq<Gate>,
         gates: &[Gate],
         needed: &[bool],
-        are_needed: bool,
-    ) -> Result<(), Refused> {
-        for gate in gates {
-            if is_needed(needed, gate.lhs) == are_needed {
-                to.push(gate_of(&self.literals, *gate))?;
+    ) -> Result<(), Refused>
+        ensures { OnOk result (to.new ≡ to.old ++ needed_gates self.now.literals.items needed.now gates.now) }
+    {
+        for k in 0..gates.len() {
+            if is_needed(needed, gates[k].lhs) {
+                to.push(gate_of(&self.literals, gates[k]))?;
+            }
+        }
+        Ok(())
+    }
+
+    /// Adds the gates that are not needed, by their new variables.
+    fn push_others(
+        &self,
+        to: &mut Seq<Gate>,
+        gates: &[Gate],
+        needed: &[bool],
+    ) -> Result<(), Refused>
+        ensures { OnOk result (to.new ≡ to.old ++ other_gates self.now.literals.items needed.now gates.now) }
+    {
+        for k in 0..gates.len() {
+            if !is_needed(needed, gates[k].lhs) {
+                to.push(gate_of(&self.literals, gates[k]))?;
             }
         }
         Ok(())
     }
 
     /// The names, by the new variables.
-    fn names(&self, alloc: Global, names: &[Lit]) -> Result<Vec<Lit>, Refused> {
+    fn names(&self, alloc: Global, names: &[Lit]) -> Result<Vec<Lit>, Refused>
+        ensures { IfOk result (λ v. v.items ≡ map (renamed self.now.literals.items) names.now) }
+    {
         let mut found = Vec::new(alloc);
         for lit in names {
             push(&mut found, literal_of(&self.literals, *lit))?;
@@ -211,11 +240,13 @@ fn renumbered(
     addition: &Addition,
     numbering: &Numbering,
     needed: &[bool],
-) -> Result<Trimmed, Refused> {
+) -> Result<Trimmed, Refused>
+    ensures { IfOk result (IsTrimmed numbering.now.literals.items needed.now addition.now) }
+{
     let mut gates = Seq::new(alloc);
-    numbering.push_gates(&mut gates, addition.gates.as_slice(), needed, true)?;
+    numbering.push_needed(&mut gates, addition.gates.as_slice(), needed)?;
     let count = gates.len();
-    numbering.push_gates(&mut gates, addition.gates.as_slice(), needed, false)?;
+    numbering.push_others(&mut gates, addition.gates.as_slice(), needed)?;
     Ok(Trimmed {
         addition: Addition {
             names: numbering.names(alloc, &addition.names)?,
@@ -233,7 +264,9 @@ pub fn trim(
     addition: &Addition,
     first: u32,
     clauses: &Lists<Lit>,
-) -> Result<Trimmed, Refused> {
+) -> Result<Trimmed, Refused>
+    ensures { IfOk result (λ t. (literals : List Lit) × (needed : List Bool) × IsTrimmed literals needed addition.now t) }
+{
     let variables = variables_of(alloc, addition, first)?;
     let needed = needed_by(alloc, addition, first, &variables, clauses)?;
     let mut numbering = Numbering {
@@ -243,5 +276,6 @@ pub fn trim(
     numbering.number_latches(addition.latches.as_slice(), &needed);
     numbering.number_gates(addition.gates.as_slice(), &needed, true);
     numbering.number_gates(addition.gates.as_slice(), &needed, false);
-    renumbered(alloc, addition, &numbering, &needed)
+    let trimmed = renumbered(alloc, addition, &numbering, &needed)?;
+    Ok(trimmed)
 }
