@@ -1,5 +1,5 @@
 -- Latches and gates of an addition that are kept, by new variables.
-use Rattle.std.specs.Prelude.{◌≡◌, ◌++◌, Bool, true, false, not, List, filter, get_or, length, map}
+use Rattle.std.specs.Prelude.{◌≡◌, ◌++◌, Bool, false, not, List, filter, get_or, length, map}
 use Rattle.graph.specs.declared.circuit.Lit.{Lit}
 use Rattle.graph.specs.declared.circuit.Latch.{Latch}
 use Rattle.graph.specs.declared.circuit.Gate.{Gate}
