@@ -14,6 +14,7 @@
  */
 #define PROGRAM "aigcheck"
 #include "circuits.h"
+#include "derivations.h"
 
 static void *room(size_t n) {
     return regrow(NULL, n);
@@ -224,9 +225,6 @@ static u32 top, mark;        /* greatest id so far; greatest of the base */
 static size_t arena_mark;
 static Far *hidden;          /* base clauses that a section deleted */
 static size_t nhidden, hidden_cap;
-static u32 vars;
-static u8 *val;
-static List trail, clause, hints;
 
 static inline u32 *where(u32 id) {
     if (id < places) return &place[id];
@@ -289,36 +287,9 @@ static void own(u32 id, const u32 *l, size_t n) {
     if (id < DIRECT) push(&own_ids, id);
 }
 
-static inline void hold(u32 l) { val[l] = 1; push(&trail, l); }
-/* what is left of a clause: 0 nothing, 1 several, else the one literal */
-static inline u32 look(const u32 *c) {
-    u32 n = *c++, left = 0;
-    for (u32 i = 0; i < n; i++) {
-        u32 l = c[i];
-        if (val[l ^ 1]) continue;
-        if (left == 0) left = l;
-        else if (left != l) return 1;
-    }
-    return left;
-}
-static int derive(void) {
-    for (size_t i = 0; i < clause.len; i++) {
-        u32 l = clause.at[i];
-        if (l >> 1 > vars) return 51;
-        if (val[l] | val[l ^ 1]) return 48;
-        hold(l ^ 1);
-    }
-    if (!hints.len) return 46;
-    for (size_t i = 0;; i++) {
-        u32 *w = where(hints.at[i]);
-        if (!w || !*w) return 40;
-        u32 l = look(arena.at + *w);
-        if (i + 1 == hints.len) return l == 0 ? 0 : 44;
-        if (l == 0) return 45;
-        if (l == 1) return 42;
-        if (val[l]) return 43;
-        hold(l);
-    }
+static inline const u32 *clause_at(u32 id) {
+    u32 *w = where(id);
+    return w && *w ? arena.at + *w : NULL;
 }
 
 /* ---- certificates ---- */
@@ -383,8 +354,6 @@ static void proof_line(Text *t) {
     else if (any) refusal = 47;
     else {
         refusal = derive();
-        for (size_t i = 0; i < trail.len; i++) val[trail.at[i]] = 0;
-        trail.len = 0;
         if (!refusal) {
             own(id, clause.at, clause.len);
             closed = clause.len == 0;

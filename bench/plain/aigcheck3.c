@@ -13,6 +13,7 @@
  */
 #define PROGRAM "aigcheck3"
 #include "circuits.h"
+#include "derivations.h"
 
 static inline u32 field(Text *t, u64 most, u8 end) {
     u32 x = number(t, most, 3, 3);
@@ -112,9 +113,7 @@ static size_t used, arena_cap, filled, place_cap; /* words; ids that place knows
 typedef struct { u32 id, at; } Far;               /* an id far above the others, as only a strange certificate has */
 static Far *far_ids;
 static size_t nfar, far_cap, count;
-static u32 top, vars;
-static u8 *val;
-static List trail, clause, hints;
+static u32 top;
 
 /* Nothing, with room for a base of so many words and clauses. */
 static void begin(size_t words, size_t clauses, u32 variables) {
@@ -180,45 +179,9 @@ static void add(u32 id) {
     if (used > UINT32_MAX) fault("out of memory");
     top = id, count++;
 }
-static inline void hold(u32 l) {
-    val[l] = 1;
-    push(&trail, l);
-}
-/* What is left of a clause: 0 nothing, 1 several, else the one literal. */
-static inline u32 look(const u32 *c) {
-    u32 n = *c++, left = 0;
-    for (u32 i = 0; i < n; i++) {
-        u32 l = c[i];
-        if (val[l ^ 1]) continue;
-        if (left == 0) left = l;
-        else if (left != l) return 1;
-    }
-    return left;
-}
-static int follow(void) {
-    for (size_t i = 0; i < clause.len; i++) {
-        u32 l = clause.at[i];
-        if (l >> 1 > vars) return 51;
-        if (val[l] | val[l ^ 1]) return 48;
-        hold(l ^ 1);
-    }
-    if (!hints.len) return 46;
-    for (size_t i = 0;; i++) {
-        u32 at = where(hints.at[i]);
-        if (!at) return 40;
-        u32 l = look(arena + at);
-        if (i + 1 == hints.len) return l == 0 ? 0 : 44;
-        if (l == 0) return 45;
-        if (l == 1) return 42;
-        if (val[l]) return 43;
-        hold(l);
-    }
-}
-static int derive(void) {
-    int answer = follow();
-    for (size_t i = 0; i < trail.len; i++) val[trail.at[i]] = 0;
-    trail.len = 0;
-    return answer;
+static inline const u32 *clause_at(u32 id) {
+    u32 at = where(id);
+    return at ? arena + at : NULL;
 }
 
 /* ---- bases ---- */
