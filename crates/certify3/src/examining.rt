@@ -20,7 +20,7 @@ use std::alloc::Global;
 const MOST_CLAUSES: usize = MOST_VARIABLES as usize;
 
 /// Whether each literal is one of the circuit's, or constant.
-fn is_over(circuit: &Model, clause: &[Lit]) -> bool
+pub fn is_over(circuit: &Model, clause: &[Lit]) -> bool
     ensures { IsTrue result ↔ IsOverAll circuit.now clause.now }
 {
     circuit.well_formed();

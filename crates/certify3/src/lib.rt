@@ -12,6 +12,7 @@ mod additions;
 mod certified;
 mod certify_error;
 mod certifying;
+mod cone;
 mod counterexample;
 mod examining;
 mod formulas;
@@ -25,6 +26,7 @@ mod showing;
 mod subject;
 mod sweeping;
 mod text;
+mod translating;
 
 pub use additions::Extension;
 pub use certified::Certified;

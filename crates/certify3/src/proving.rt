@@ -6,13 +6,17 @@ ghost use Rattle.cnf.specs.Formulas.{IsInRange};
 ghost use Rattle.extension.specs.Inductive.{IsOverAll};
 ghost use Rattle.certify3.specs.ProveErrors.{IsProveError};
 
+use crate::certify_error::CertifyError;
+use crate::cone::Cone;
 use crate::counterexample::{Case, Counterexample};
+use crate::examining::{examine, is_over};
 use crate::formulas::{bad_formula, begin_formula, pair_formula};
 use crate::numbering::Numbering;
 use crate::prove_error::ProveError;
 use crate::showing::{Kind, Timed, show};
 use crate::subject::Subject;
-use base::{Budget, Lists};
+use crate::translating::translated;
+use base::{Budget, Lists, Refused};
 use cdcl::{Refuted, refute};
 use certificate3::Shown;
 use cnf::TimeFrame;
@@ -105,7 +109,7 @@ fn prove_last(
 }
 
 /// The proofs of the clauses over the circuit, one after the other. One solver is held at a time.
-pub fn prove(
+fn prove_whole(
     alloc: Global,
     subject: &Subject,
     invariant: &Lists<Lit>,
@@ -121,4 +125,64 @@ pub fn prove(
     let step = prove_step(alloc, &subject.circuit, invariant, budget)?;
     let last = prove_last(alloc, &subject.circuit, invariant, subject.bad, budget)?;
     Ok(Proofs { first, step, last })
+}
+
+/// The proofs of a part's clauses, where all are shown over the part.
+fn prove_part(
+    alloc: Global,
+    part: &Subject,
+    invariant: &Lists<Lit>,
+    budget: &mut Budget,
+) -> Result<Option<Proofs>, Refused>
+    ensures spends { Spends budget.old budget.new }
+{
+    match examine(alloc, &part.circuit, invariant) {
+        Ok(()) if is_over(&part.circuit, &[part.bad]) => {}
+        Err(CertifyError::OutOfMemory(refused)) => return Err(refused),
+        _ => return Ok(None),
+    }
+    match prove_whole(alloc, part, invariant, budget) {
+        Ok(proofs) => Ok(Some(proofs)),
+        Err(ProveError::OutOfMemory(refused)) => Err(refused),
+        Err(_) => Ok(None),
+    }
+}
+
+/// The proofs of the clauses by those over the part of the circuit that they are about, where that is small and all are
+/// shown over it.
+fn prove_near(
+    alloc: Global,
+    subject: &Subject,
+    invariant: &Lists<Lit>,
+    budget: &mut Budget,
+) -> Result<Option<Proofs>, Refused>
+    ensures spends { Spends budget.old budget.new }
+{
+    let Some(cone) = Cone::of(alloc, subject, invariant)? else {
+        return Ok(None);
+    };
+    match prove_part(alloc, &cone.subject, &cone.invariant, budget)? {
+        Some(proofs) => Ok(Some(translated(alloc, &subject.circuit, &cone, &proofs)?)),
+        None => Ok(None),
+    }
+}
+
+/// The proofs of the clauses over the circuit. One solver is held at a time. The part that the clauses are about is
+/// asked first, where it is small; where not all is shown over that, the circuit.
+pub fn prove(
+    alloc: Global,
+    subject: &Subject,
+    invariant: &Lists<Lit>,
+    budget: &mut Budget,
+) -> Result<Proofs, ProveError>
+    requires over { All (IsOverAll subject.now.circuit) invariant.now }
+    requires few { length invariant.now ≤ 4194303 }
+    requires bad { IsInRange subject.now.circuit.max_var subject.now.bad }
+    ensures spends { Spends budget.old budget.new }
+    ensures halted { IfErr result (IsProveError subject.now.circuit invariant.now subject.now.bad budget.new) }
+{
+    match prove_near(alloc, subject, invariant, budget)? {
+        Some(proofs) => Ok(proofs),
+        None => prove_whole(alloc, subject, invariant, budget),
+    }
 }

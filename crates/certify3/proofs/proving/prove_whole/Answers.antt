@@ -1,6 +1,6 @@
 use Rattle.lrat.proofs.Fit.{err_gives}
 use Rattle.certify3.specs.ProveErrors.{IsProveError}
-use Rattle.certify3.proofs.proving.prove.Goals as goal
+use Rattle.certify3.proofs.proving.prove_whole.Goals as goal
 
 pub returns-in_err-first-clause-halted : goal.returns-in_err-first-clause-halted
 returns-in_err-first-clause-halted c =
