@@ -1,5 +1,6 @@
 -- Latches and gates of an addition that are kept, by new variables.
-use Rattle.std.specs.Prelude.{◌≡◌, ◌++◌, Bool, false, not, List, filter, get_or, length, map}
+use Rattle.std.specs.Prelude.{◌≡◌, ℕ, ◌<◌, ◌++◌, Bool, true, false, not, ◌&&◌, ◌||◌, List, [], filter, get_or, length, map, nat_lt}
+use Rattle.std.specs.List.{list_all}
 use Rattle.graph.specs.declared.circuit.Lit.{Lit}
 use Rattle.graph.specs.declared.circuit.Latch.{Latch}
 use Rattle.graph.specs.declared.circuit.Gate.{Gate}
@@ -29,3 +30,21 @@ pub record IsTrimmed (literals : List Lit) (needed : List Bool) (a : Addition) (
   pub latches : t.addition.latches ≡ kept_latches literals needed a.latches
   pub gates : t.addition.gates ≡ needed_gates literals needed a.gates ++ other_gates literals needed a.gates
   pub count : t.needed ≡ length (needed_gates literals needed a.gates)
+
+-- whether the literal's variable is one of the model's, which are those below the first one, or is needed
+abbrev pub is_kept : ℕ → List Bool → Lit → Bool
+is_kept first needed a = nat_lt (variable a) first || is_needed needed a
+
+-- whether what a latch goes to and begins with is kept, where the latch is needed
+abbrev pub keeps_latch : ℕ → List Bool → Latch → Bool
+keeps_latch first needed l = not (is_needed needed l.lit) || (is_kept first needed l.next && is_kept first needed l.reset)
+
+-- whether what a gate reads is kept, where the gate is needed
+abbrev pub keeps_gate : ℕ → List Bool → Gate → Bool
+keeps_gate first needed g = not (is_needed needed g.lhs) || (is_kept first needed g.rhs0 && is_kept first needed g.rhs1)
+
+-- each clause's variables are kept, and what needed latches and gates rest on
+pub record AreKept (first : ℕ) (needed : List Bool) (a : Addition) (clauses : List (List Lit)) : Type 0 where
+  pub literals : (k : ℕ) → k < length clauses → list_all (is_kept first needed) (get_or clauses k []) ≡ true
+  pub latches : list_all (keeps_latch first needed) a.latches ≡ true
+  pub gates : list_all (keeps_gate first needed) a.gates ≡ true

@@ -1,9 +1,10 @@
 //! The conditions under which a circuit is a witness that a literal of another one, the model, is never set.
 
-ghost use Rattle.std.specs.Prelude.{◌≡◌, ◌&&◌, not, IfErr, IfOk};
+ghost use Rattle.std.specs.Prelude.{◌≡◌, ◌++◌, ◌&&◌, map, not, IfErr, IfOk, OnOk};
 ghost use Rattle.graph.specs.Circuits.{Valuation, value_of};
-ghost use Rattle.witness_circuits.specs.Conditions.{Asks, Follows, IsUnasked, all_true};
+ghost use Rattle.witness_circuits.specs.Conditions.{AreNext, AreOfStep, Asks, Follows, GoesOn, IsUnasked, all_true, has_next, seen};
 ghost use Rattle.witness_circuits.specs.Pairs.{IsRefused};
+ghost use Rattle.witness_circuits.specs.Renamed.{renamed};
 
 use crate::adopting::bad_of;
 use crate::drafting::{Draft, TRUE};
@@ -209,10 +210,15 @@ fn goes_on(
     latch: Latch,
     shared: Option<Lit>,
 ) -> Result<Lit, MakeError>
-    ensures { IfErr result IsUnasked }
+    ensures goes_on { OnOk result (GoesOn draft.old.gates draft.new.gates) }
+    ensures value { IfOk result (λ a. (x : Valuation) → Follows draft.new.gates x → value_of x a ≡ has_next (seen first.now x) (seen then.now x) latch shared) }
+    ensures refused { IfErr result IsUnasked }
 {
     match shared {
-        Some(_) => draft.equal(literal_of(then, latch.lit), literal_of(first, latch.next)),
+        Some(_) => {
+            let fact = draft.equal(literal_of(then, latch.lit), literal_of(first, latch.next))?;
+            Ok(fact)
+        }
         None => Ok(TRUE),
     }
 }
@@ -226,10 +232,13 @@ fn add_steps(
     latches: &[Latch],
     shared: &[Option<Lit>],
 ) -> Result<(), MakeError>
-    ensures { IfErr result IsUnasked }
+    ensures goes_on { OnOk result (GoesOn draft.old.gates draft.new.gates) }
+    ensures facts { OnOk result (AreNext draft.new.gates first.now then.now latches.now shared.now facts.old facts.new) }
+    ensures refused { IfErr result IsUnasked }
 {
-    for (position, latch) in latches.iter().enumerate() {
-        let fact = goes_on(draft, first, then, *latch, given_at(shared, position))?;
+    for position in 0..latches.len() {
+        let given = given_at(shared, position);
+        let fact = goes_on(draft, first, then, latches[position], given)?;
         facts.push(fact)?;
     }
     Ok(())
@@ -426,7 +435,9 @@ impl<'a> Pair<'a> {
     }
 
     /// Adds the witness's constraints.
-    fn add_own_constraints(self, facts: &mut Seq<Lit>, at: &Joined) -> Result<(), Refused> {
+    fn add_own_constraints(self, facts: &mut Seq<Lit>, at: &Joined) -> Result<(), Refused>
+        ensures { OnOk result (facts.new ≡ facts.old ++ map (renamed at.now.witness.items) self.entry.witness.now.constraints) }
+    {
         add_literals(facts, at.witness.as_slice(), self.witness.constraints())
     }
 
@@ -493,7 +504,9 @@ impl<'a> Pair<'a> {
         at: &Joined,
         later: &Joined,
     ) -> Result<(), MakeError>
-        ensures { IfErr result IsUnasked }
+        ensures goes_on { OnOk result (GoesOn draft.old.gates draft.new.gates) }
+        ensures wanted { OnOk result (AreOfStep draft.new.gates at.now.witness.items later.now.witness.items self.entry.witness.now.latches self.entry.shared.now.latches.items self.entry.witness.now.constraints facts.old.wanted facts.new.wanted) }
+        ensures refused { IfErr result IsUnasked }
     {
         let (own, shared) = (self.witness.latches(), self.shared.latches.as_slice());
         let (first, then) = (at.witness.as_slice(), later.witness.as_slice());

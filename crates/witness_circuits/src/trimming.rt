@@ -1,9 +1,10 @@
 //! The latches and gates of a witness that clauses need.
 
-ghost use Rattle.std.specs.Prelude.{◌≡◌, ◌++◌, Bool, List, IfOk, OnOk, map};
+ghost use Rattle.std.specs.List.{list_all};
+ghost use Rattle.std.specs.Prelude.{◌≡◌, ℕ, ◌<◌, ◌⊎◌, ◌++◌, [], Bool, true, List, All, IfOk, OnOk, get_or, length, map};
 ghost use Rattle.graph.specs.declared.circuit.Lit.{Lit};
 ghost use Rattle.witness_circuits.specs.Renamed.{renamed};
-ghost use Rattle.witness_circuits.specs.Trimmings.{IsTrimmed, is_needed, kept_latches, needed_gates, other_gates};
+ghost use Rattle.witness_circuits.specs.Trimmings.{AreKept, IsTrimmed, is_kept, is_needed, keeps_gate, keeps_latch, kept_latches, needed_gates, other_gates};
 
 use crate::naming::Addition;
 use crate::renaming::{gate_of, latch_of, literal_of, name};
@@ -91,8 +92,85 @@ fn variables_of(alloc: Global, addition: &Addition, first: u32) -> Result<Vec<Li
     Ok(variables)
 }
 
-/// For each variable whether the clauses need it, which are over the model and the addition.
-fn needed_by(
+/// Whether the literal's variable is needed.
+fn is_needed(needed: &[bool], lit: Lit) -> bool
+    ensures { result ≡ is_needed needed.now lit }
+{
+    match needed.get(lit.variable() as usize) {
+        Some(needed) => *needed,
+        None => false,
+    }
+}
+
+/// Whether the literal's variable is one of the model's, or is needed.
+fn is_kept(first: u32, needed: &[bool], lit: Lit) -> bool
+    ensures { result ≡ is_kept first needed.now lit }
+{
+    lit.variable() < first || is_needed(needed, lit)
+}
+
+/// Whether what the latch goes to and begins with is kept, where the latch is needed.
+fn keeps_latch(first: u32, needed: &[bool], latch: Latch) -> bool
+    ensures { result ≡ keeps_latch first needed.now latch }
+{
+    !is_needed(needed, latch.lit)
+        || (is_kept(first, needed, latch.next) && is_kept(first, needed, latch.reset))
+}
+
+/// Whether what the gate reads is kept, where the gate is needed.
+fn keeps_gate(first: u32, needed: &[bool], gate: Gate) -> bool
+    ensures { result ≡ keeps_gate first needed.now gate }
+{
+    !is_needed(needed, gate.lhs)
+        || (is_kept(first, needed, gate.rhs0) && is_kept(first, needed, gate.rhs1))
+}
+
+/// Whether the variables of these literals are kept.
+fn keeps_literals(first: u32, needed: &[bool], lits: &[Lit]) -> bool
+    ensures { result ≡ list_all (is_kept first needed.now) lits.now }
+{
+    lits.iter().all(|lit| is_kept(first, needed, *lit))
+}
+
+/// Whether what these latches rest on is kept.
+fn keeps_latches(first: u32, needed: &[bool], latches: &[Latch]) -> bool
+    ensures { result ≡ list_all (keeps_latch first needed.now) latches.now }
+{
+    latches
+        .iter()
+        .all(|latch| keeps_latch(first, needed, *latch))
+}
+
+/// Whether what these gates rest on is kept.
+fn keeps_gates(first: u32, needed: &[bool], gates: &[Gate]) -> bool
+    ensures { result ≡ list_all (keeps_gate first needed.now) gates.now }
+{
+    gates.iter().all(|gate| keeps_gate(first, needed, *gate))
+}
+
+/// Whether the variables of the clauses are kept.
+fn keeps_clauses(first: u32, needed: &[bool], clauses: &Lists<Lit>) -> bool
+    ensures { result ≡ true → (k : ℕ) → k < length clauses.now → list_all (is_kept first needed.now) (get_or clauses.now k []) ≡ true }
+{
+    for k in 0..clauses.len() {
+        if !keeps_literals(first, needed, clauses.list(k)) {
+            return false;
+        }
+    }
+    true
+}
+
+/// Whether the clauses' variables are kept, and what needed latches and gates rest on.
+fn are_kept(first: u32, needed: &[bool], addition: &Addition, clauses: &Lists<Lit>) -> bool
+    ensures { result ≡ true → AreKept first needed.now addition.now clauses.now }
+{
+    keeps_clauses(first, needed, clauses)
+        && keeps_latches(first, needed, addition.latches.as_slice())
+        && keeps_gates(first, needed, addition.gates.as_slice())
+}
+
+/// For each variable whether a walk from the clauses' variables marks it.
+fn walked(
     alloc: Global,
     addition: &Addition,
     first: u32,
@@ -114,14 +192,23 @@ fn needed_by(
     Ok(needed)
 }
 
-/// Whether the literal's variable is needed.
-fn is_needed(needed: &[bool], lit: Lit) -> bool
-    ensures { result ≡ is_needed needed.now lit }
+/// For each variable whether the clauses need it, which are over the model and the addition: all that they rest on is
+/// kept, or else each one is needed.
+fn needed_by(
+    alloc: Global,
+    addition: &Addition,
+    first: u32,
+    variables: &[Lit],
+    clauses: &Lists<Lit>,
+) -> Result<Vec<bool>, Refused>
+    ensures { IfOk result (λ v. AreKept first v.items addition.now clauses.now ⊎ All (λ b. b ≡ true) v.items) }
 {
-    match needed.get(lit.variable() as usize) {
-        Some(needed) => *needed,
-        None => false,
+    let needed = walked(alloc, addition, first, variables, clauses)?;
+    if are_kept(first, &needed, addition, clauses) {
+        return Ok(needed);
     }
+    let all = filled_like(alloc, true, variables)?;
+    Ok(all)
 }
 
 /// New variables for those of an addition.
@@ -258,14 +345,15 @@ fn renumbered(
 }
 
 /// The addition without the latches that the clauses do not need, and with the gates behind the others that they do not
-/// need. Its variables are those from the first one on: latches, and then gates.
+/// need. What the clauses rest on is kept. The addition's variables are those from the first one on: latches, and then
+/// gates.
 pub fn trim(
     alloc: Global,
     addition: &Addition,
     first: u32,
     clauses: &Lists<Lit>,
 ) -> Result<Trimmed, Refused>
-    ensures { IfOk result (λ t. (literals : List Lit) × (needed : List Bool) × IsTrimmed literals needed addition.now t) }
+    ensures { IfOk result (λ t. (literals : List Lit) × (needed : List Bool) × IsTrimmed literals needed addition.now t × (AreKept first needed addition.now clauses.now ⊎ All (λ b. b ≡ true) needed)) }
 {
     let variables = variables_of(alloc, addition, first)?;
     let needed = needed_by(alloc, addition, first, &variables, clauses)?;
