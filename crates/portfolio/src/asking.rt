@@ -236,13 +236,28 @@ impl Question<'_> {
         let (alloc, timing) = (rt.alloc(), self.timing);
         let engine = Ic3::new(timing.solver(alloc));
         let mut engine = engine.with_progress(Reporter::new(rt, timing.shown));
-        let mut progress = Reporter::new(rt, timing.shown);
-        let mut budget = timing.budget(steps);
+        self.counted_by(rt, position, steps, &mut engine, counters)
+    }
+
+    /// What an engine comes to about them.
+    fn counted_by<E: Engine>(
+        self,
+        rt: &HostRuntime,
+        position: u32,
+        steps: u64,
+        engine: &mut E,
+        counters: &mut Counters,
+    ) -> Result<(Counted, u64), DecideError>
+        ensures backed { IfOk result (λ r. AreBacked self.entry.circuit.now position r.0) }
+        ensures left { IfOk result (λ r. r.1 ≤ steps) }
+    {
+        let mut progress = Reporter::new(rt, self.timing.shown);
+        let mut budget = self.timing.budget(steps);
         let counted = decide_rounds(
-            alloc,
+            rt.alloc(),
             self.circuit,
             position,
-            &mut engine,
+            engine,
             &mut progress,
             &mut budget,
         )?;
