@@ -27,7 +27,8 @@ _aigmc() {
     to-safety) options='-p --rounds --verbose -v --help -h' ;;
     extract) options='-p --verbose -v --help -h' ;;
     witness) options='-p --clear --verbose -v --help -h' ;;
-    all | equal) options='--out --engine --depth --budget --seed --timeout --quiet --json --verbose -v --help -h' ;;
+    all) options='--out --engine --depth --budget --seed --timeout --quiet --json --verbose -v --help -h' ;;
+    equal) options='--out --map --engine --depth --budget --seed --timeout --quiet --json --verbose -v --help -h' ;;
     convert) options='--ascii --binary --verbose -v --help -h' ;;
     trace) options='--all --vcd --verbose -v --help -h' ;;
     *) options='--verbose -v --help -h' ;;

@@ -26,6 +26,7 @@ fn name_of<'a>(request: Request<'a>, role: Role) -> Option<&'a str> {
         (Request::Equal { file, .. }, Role::Circuit) => Some(file),
         (Request::Equal { other, .. }, Role::Other) => Some(other),
         (Request::Equal { folder, .. }, Role::Made) => folder,
+        (Request::Equal { map, .. }, Role::Map) => map,
         (Request::Cover { file, .. }, Role::Circuit) => Some(file),
         (Request::Certify(asked), Role::Circuit) => Some(asked.file),
         (Request::Certify(asked), Role::Invariant) => Some(asked.invariant),

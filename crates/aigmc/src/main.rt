@@ -37,7 +37,9 @@
 //! certificate to `P.cert`, a stimulus to `P.stim`.
 //!
 //! `aigmc equal A B` looks for a run in which two circuits differ: it does what `check` does of the bad literal of their miter
-//! (`transforms::miter_of`). With `--out DIR` that is `miter.aig` in the folder DIR, and the evidence `b0.cert` or `b0.stim`.
+//! (`transforms::miter_of`). With `--out DIR` that is `miter.aig` in the folder DIR, and the evidence `b0.cert` or `b0.stim`. With
+//! `--map OUT` the latches that the certificate's clauses say are equal (`latch_map::latch_map`) go to OUT before anything is
+//! printed. Where there is no certificate, standard error says that nothing is known of them.
 //!
 //! `aigmc cover FILE` prints a run of `--depth` steps that keeps the constraints. Where bounded search shows that there is none,
 //! the status is 1 and standard error says so.
@@ -86,9 +88,9 @@ mod explaining;
 use aiger::Layout;
 use aigmc_certificates::{adopt_witness, recertify};
 use aigmc_circuits::{
-    Pair, extract, make_fitting, make_shadow, make_witness, make_witness_circuit, trace,
+    Miter, Pair, extract, make_fitting, make_shadow, make_witness, make_witness_circuit, trace,
 };
-use aigmc_commands::{begin, certify_clauses, check, check_all, check_miter, cover};
+use aigmc_commands::{MapFile, begin, certify_clauses, check, check_all, check_miter, cover};
 use aigmc_files::{DONE, ExitError, FAULT, circuit, finished, print_table, stimulus_of, tell};
 use arguments::{AskedLayout, Request, Search, UsageError, parse};
 use base::push;
@@ -138,18 +140,21 @@ fn compare(
     one: &str,
     other: &str,
     folder: Option<&str>,
+    map: Option<&str>,
     search: Search,
 ) -> Result<u8, ExitError> {
     let pair = Pair {
         one,
         other,
         folder,
+        map,
         verbose: search.verbose,
     };
     let timing = begin(rt, search)?;
     let name = pair.name(rt.alloc())?;
-    let miter = pair.made(rt)?;
-    check_miter(rt, name.as_str(), &miter, pair.folder, timing)
+    let Miter { file, position } = pair.made(rt)?;
+    let map = map.map(|name| MapFile { name, position });
+    check_miter(rt, name.as_str(), &file, pair.folder, map, timing)
 }
 
 /// Does what is asked for.
@@ -181,8 +186,9 @@ fn done(rt: &HostRuntime, request: Request<'_>) -> Result<u8, ExitError> {
             file,
             other,
             folder,
+            map,
             search,
-        } => compare(rt, file, other, folder, search),
+        } => compare(rt, file, other, folder, map, search),
         Request::Cover { file, search } => cover(rt, file, search),
         Request::All {
             file,

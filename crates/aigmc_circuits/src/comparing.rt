@@ -2,7 +2,7 @@
 
 use aiger::Layout;
 use aigmc_files::{
-    ExitError, Role, at, circuit, circuit_of, expect_folder, is_taken, is_terminal, make,
+    ExitError, Role, at, circuit, circuit_of, expect_folder, is_same, is_taken, is_terminal, make,
 };
 use graph::{AigerFile, Model, Property};
 use inputs::is_standard;
@@ -10,7 +10,8 @@ use properties::{Evidence, evidence_name};
 use std::alloc::Global;
 use transforms::miter_of;
 
-/// Two circuits by the names of their files, and the folder for the miter and the evidence, where one is named.
+/// Two circuits by the names of their files, the folder for the miter and the evidence, where one is named, and the file to
+/// make of the map, likewise.
 #[derive(Clone, Copy)]
 pub struct Pair<'a> {
     /// the first circuit's file
@@ -19,8 +20,19 @@ pub struct Pair<'a> {
     pub other: &'a str,
     /// the folder
     pub folder: Option<&'a str>,
+    /// the map's file
+    pub map: Option<&'a str>,
     /// whether a fault says more than its line, where standard error is no terminal too
     pub verbose: bool,
+}
+
+/// The miter of two circuits.
+#[derive(Drop)]
+pub struct Miter {
+    /// its file
+    pub file: AigerFile,
+    /// the position of the second circuit's first latch
+    pub position: usize,
 }
 
 impl Pair<'_> {
@@ -78,20 +90,21 @@ impl Pair<'_> {
         rt: &HostRuntime,
         one: &AigerFile,
         other: &AigerFile,
-    ) -> Result<AigerFile, ExitError> {
+    ) -> Result<Miter, ExitError> {
         self.expect_comparable(rt, one.model(), other.model())?;
-        let miter = miter_of(rt.alloc(), one, other)?;
-        Ok(miter)
+        let file = miter_of(rt.alloc(), one, other)?;
+        let position = one.model().latches().len();
+        Ok(Miter { file, position })
     }
 
     /// The miter of a circuit and that in the other file.
-    fn miter_with(self, rt: &HostRuntime, one: &AigerFile) -> Result<AigerFile, ExitError> {
+    fn miter_with(self, rt: &HostRuntime, one: &AigerFile) -> Result<Miter, ExitError> {
         let other = circuit_of(rt, self.other, Role::Other)?;
         self.miter_of(rt, one, &other)
     }
 
     /// The miter of the circuits in the two files.
-    fn miter(self, rt: &HostRuntime) -> Result<AigerFile, ExitError> {
+    fn miter(self, rt: &HostRuntime) -> Result<Miter, ExitError> {
         let one = circuit(rt, self.one)?;
         self.miter_with(rt, &one)
     }
@@ -129,17 +142,48 @@ impl Pair<'_> {
         Ok(out)
     }
 
+    /// Refuses the file to make of the map.
+    fn refuse_map(self, rt: &HostRuntime, map: &str) -> Result<(), ExitError> {
+        if !self.is_told(rt) {
+            return Err(ExitError::BadArgument);
+        }
+        let _ = eprintln!(rt;
+            "aigmc: bad argument\n  {map}: it is read, or kept too, or standard output goes to it"
+        );
+        Err(ExitError::Told)
+    }
+
+    /// Refuses a map that would be a circuit's file, or that standard output goes to.
+    fn expect_map(self, rt: &HostRuntime) -> Result<(), ExitError> {
+        match self.map {
+            Some(map) if is_taken(rt, self.one, map) || is_taken(rt, self.other, map) => {
+                self.refuse_map(rt, map)
+            }
+            _ => Ok(()),
+        }
+    }
+
+    /// Makes the file of the miter, which is not the map's.
+    fn keep(self, rt: &HostRuntime, out: &str, miter: &Miter) -> Result<(), ExitError> {
+        make(rt, out, &miter.file, Layout::Binary)?;
+        match self.map {
+            Some(map) if is_same(rt, map, out) => self.refuse_map(rt, map),
+            _ => Ok(()),
+        }
+    }
+
     /// The miter of the two circuits. It is in the folder, where one is named.
-    pub fn made(self, rt: &HostRuntime) -> Result<AigerFile, ExitError> {
+    pub fn made(self, rt: &HostRuntime) -> Result<Miter, ExitError> {
         if is_standard(self.one) && is_standard(self.other) {
             return Err(ExitError::BadArgument);
         }
+        self.expect_map(rt)?;
         let Some(folder) = self.folder else {
             return self.miter(rt);
         };
         let out = self.file_in(rt, folder)?;
         let miter = self.miter(rt)?;
-        make(rt, out.as_str(), &miter, Layout::Binary)?;
+        self.keep(rt, out.as_str(), &miter)?;
         Ok(miter)
     }
 

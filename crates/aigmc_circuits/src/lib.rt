@@ -9,7 +9,7 @@ mod tracing;
 mod witnessing;
 
 pub use certifying::make_witness_circuit;
-pub use comparing::Pair;
+pub use comparing::{Miter, Pair};
 pub use making::{extract, make_fitting, make_shadow};
 pub use tracing::trace;
 pub use witnessing::make_witness;

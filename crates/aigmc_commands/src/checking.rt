@@ -3,6 +3,7 @@
 ghost use Rattle.std.specs.Prelude.{◌≡◌, ◌≢◌, ◌<◌, ◌≤◌, ◌⊎◌, IfOk, length};
 ghost use Rattle.portfolio.specs.Conclusions.{status_in};
 
+use crate::mapping::{MapFile, expect_other, keep_map};
 use crate::showing::Found;
 use crate::timing::{ask, begin, is_vacuous, now};
 use aigmc_files::{
@@ -286,13 +287,32 @@ fn keep_in_and_print(
     }
 }
 
+/// Makes the map of the miter's latches, where one is asked for. It has another file than the evidence.
+fn keep_map_first(
+    rt: &HostRuntime,
+    whole: Whole<'_>,
+    map: Option<MapFile<'_>>,
+    conclusion: &Conclusion,
+) -> Result<(), ExitError> {
+    let Some(to) = map else {
+        return Ok(());
+    };
+    keep_map(rt, whole.file, conclusion, to)?;
+    match evidence_in(rt, whole, Property::Bad(0), conclusion)? {
+        Some(evidence) => expect_other(rt, to, evidence.as_str()),
+        None => Ok(()),
+    }
+}
+
 /// Looks for a run in which two circuits differ, or for a certificate that there is none: about the one bad literal of their miter,
-/// which has this name. Prints the verdict. Evidence goes to the folder of that name first, where one is named.
+/// which has this name. Prints the verdict. Evidence goes to the folder of that name first, where one is named, and before that
+/// the latches that the certificate says are equal to the file of the map.
 pub fn check_miter<'a>(
     rt: &HostRuntime,
     name: &'a str,
     file: &'a AigerFile,
     folder: Option<&'a str>,
+    map: Option<MapFile<'_>>,
     timing: Timing,
 ) -> Result<u8, ExitError> {
     let whole = Whole {
@@ -310,6 +330,7 @@ pub fn check_miter<'a>(
         timing,
     };
     let answered = ask(rt, question, Seq::new(rt.alloc()))?;
+    keep_map_first(rt, whole, map, &answered.conclusion)?;
     let spent = Spent::by(&answered, begun);
     keep_in_and_print(rt, whole, property, &answered.conclusion, spent)
 }

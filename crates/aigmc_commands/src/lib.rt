@@ -3,6 +3,7 @@
 
 mod checking;
 mod covering;
+mod mapping;
 mod showing;
 mod strengthening;
 mod telling;
@@ -11,5 +12,6 @@ mod vacuity;
 
 pub use checking::{check, check_all, check_miter};
 pub use covering::cover;
+pub use mapping::MapFile;
 pub use strengthening::certify_clauses;
 pub use timing::begin;

@@ -53,6 +53,8 @@ pub enum Role {
     Invariant,
     /// What is made: a file, or a folder's files.
     Made,
+    /// The map of latches that is made beside it.
+    Map,
 }
 
 /// The properties that a circuit has.

@@ -262,11 +262,21 @@ pub fn make_stimulus(rt: &HostRuntime, name: &str, shown: &Stimulus) -> Result<(
     at(Role::Made, making.end(rt, written))
 }
 
+/// Makes the file of this name, with this role, with these bytes.
+fn make_as(rt: &HostRuntime, role: Role, name: &str, bytes: &[u8]) -> Result<(), ExitError> {
+    let (making, mut out) = at(role, Making::begin(rt, name))?;
+    let written = finished(out.write_all(bytes));
+    at(role, making.end(rt, written))
+}
+
 /// Makes the file of this name with these bytes.
 pub fn make_bytes(rt: &HostRuntime, name: &str, bytes: &[u8]) -> Result<(), ExitError> {
-    let (making, mut out) = at(Role::Made, Making::begin(rt, name))?;
-    let written = finished(out.write_all(bytes));
-    at(Role::Made, making.end(rt, written))
+    make_as(rt, Role::Made, name, bytes)
+}
+
+/// Makes the file of a map of latches with these bytes.
+pub fn make_map(rt: &HostRuntime, name: &str, bytes: &[u8]) -> Result<(), ExitError> {
+    make_as(rt, Role::Map, name, bytes)
 }
 
 /// Prints the values in the replay of a stimulus.

@@ -23,7 +23,7 @@ pub use exit_error::{
 };
 pub use files::{
     Shown, UNKNOWN, VIOLATED, circuit, circuit_of, circuit_text, is_taken, keep, keep_and_print,
-    make, make_bytes, make_stimulus, make_waveform, path_of, print_alone, print_status,
+    make, make_bytes, make_map, make_stimulus, make_waveform, path_of, print_alone, print_status,
     print_stimulus, print_table, print_trace, read_text, shown_of, status_of, stimulus_of,
 };
 pub use fitted::{EvidenceFile, Fitted};

@@ -276,7 +276,8 @@ compared.
 Status: 0 equal, 1 they differ, 2 unknown, 3 failed.
 Examples:
   aigmc equal old.aig new.aig
-  mkdir made; aigmc equal old.aig new.aig --out made && aigcheck all made/miter.aig made",
+  mkdir made; aigmc equal old.aig new.aig --out made && aigcheck all made/miter.aig made
+  aigmc equal rtl.aig netlist.aig --engine corr --map latches.txt",
         words: &[
             Argument {
                 name: "A",
@@ -292,6 +293,12 @@ Examples:
                 name: "out",
                 help: "The folder, which is there, for miter.aig and b0.cert or b0.stim",
                 value: "DIR",
+                ..OPTION
+            },
+            Argument {
+                name: "map",
+                help: "The file to make of which latches of A and B are equal, by the clauses of the certificate",
+                value: "OUT",
                 ..OPTION
             },
             BUDGET,

@@ -175,6 +175,8 @@ pub enum Request<'a> {
         other: &'a str,
         /// the folder for the miter and the evidence, where one is named
         folder: Option<&'a str>,
+        /// the file to make of the map of equal latches, where one is named
+        map: Option<&'a str>,
         /// how the search is to go
         search: Search,
     },
@@ -291,6 +293,7 @@ fn asked_equal<'a>(words: &ArgMatches<'a>) -> Request<'a> {
         file: word(words, "A"),
         other: word(words, "B"),
         folder: words.get_str("out"),
+        map: words.get_str("map"),
         search: asked_search(words),
     }
 }

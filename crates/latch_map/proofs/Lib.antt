@@ -1,0 +1,5 @@
+pub mod Tables
+pub mod Said
+pub mod Noted
+pub mod Lines
+pub mod Runs
