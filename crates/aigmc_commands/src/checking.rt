@@ -3,7 +3,7 @@
 ghost use Rattle.std.specs.Prelude.{◌≡◌, ◌≢◌, ◌<◌, ◌≤◌, ◌⊎◌, IfOk, length};
 ghost use Rattle.portfolio.specs.Conclusions.{status_in};
 
-use crate::mapping::{MapFile, expect_other, keep_map};
+use crate::mapping::{MapFile, map_text, tell_no_map};
 use crate::showing::Found;
 use crate::timing::{ask, begin, is_vacuous, now};
 use aigmc_files::{
@@ -287,26 +287,72 @@ fn keep_in_and_print(
     }
 }
 
-/// Makes the map of the miter's latches, where one is asked for. It has another file than the evidence.
-fn keep_map_first(
+/// A map's file, and the text that it gets.
+#[derive(Clone, Copy)]
+struct Mapped<'a> {
+    file: MapFile<'a>,
+    text: &'a [u8],
+}
+
+/// Prints a verdict about a miter that holds. Its evidence goes to the file first, where there is to be one, and then the map to
+/// its own.
+fn show_mapped<'a>(
+    rt: &HostRuntime,
+    whole: Whole<'a>,
+    map: Mapped<'_>,
+    conclusion: &'a Conclusion,
+    evidence: Option<EvidenceFile<'a>>,
+    spent: Spent<'a>,
+) -> Result<u8, ExitError> {
+    let found = whole.found(Property::Bad(0), conclusion, evidence, spent);
+    found.show_with_map(rt, map.file, map.text)
+}
+
+/// The same with the file of the evidence in the folder, where one is named.
+fn show_mapped_in(
     rt: &HostRuntime,
     whole: Whole<'_>,
-    map: Option<MapFile<'_>>,
+    map: Mapped<'_>,
     conclusion: &Conclusion,
-) -> Result<(), ExitError> {
-    let Some(to) = map else {
-        return Ok(());
-    };
-    keep_map(rt, whole.file, conclusion, to)?;
+    spent: Spent<'_>,
+) -> Result<u8, ExitError> {
     match evidence_in(rt, whole, Property::Bad(0), conclusion)? {
-        Some(evidence) => expect_other(rt, to, evidence.as_str()),
-        None => Ok(()),
+        Some(out) => {
+            let to = EvidenceFile::plain(out.as_str());
+            show_mapped(rt, whole, map, conclusion, Some(to), spent)
+        }
+        None => show_mapped(rt, whole, map, conclusion, None, spent),
+    }
+}
+
+/// Prints a verdict about a miter. Its evidence goes to the folder first, where one is named, and then the map to its file;
+/// without a certificate standard error says that there is none.
+fn print_with_map(
+    rt: &HostRuntime,
+    whole: Whole<'_>,
+    map: MapFile<'_>,
+    conclusion: &Conclusion,
+    spent: Spent<'_>,
+) -> Result<u8, ExitError> {
+    match map_text(rt, whole.file, conclusion, map.position)? {
+        Some(text) => {
+            let mapped = Mapped {
+                file: map,
+                text: text.as_slice(),
+            };
+            show_mapped_in(rt, whole, mapped, conclusion, spent)
+        }
+        None => {
+            let status = keep_in_and_print(rt, whole, Property::Bad(0), conclusion, spent)?;
+            tell_no_map(rt);
+            Ok(status)
+        }
     }
 }
 
 /// Looks for a run in which two circuits differ, or for a certificate that there is none: about the one bad literal of their miter,
-/// which has this name. Prints the verdict. Evidence goes to the folder of that name first, where one is named, and before that
-/// the latches that the certificate says are equal to the file of the map.
+/// which has this name. Prints the verdict. Evidence goes to the folder of that name first, where one is named, and then the
+/// latches that the certificate says are equal to the file of the map.
 pub fn check_miter<'a>(
     rt: &HostRuntime,
     name: &'a str,
@@ -330,9 +376,11 @@ pub fn check_miter<'a>(
         timing,
     };
     let answered = ask(rt, question, Seq::new(rt.alloc()))?;
-    keep_map_first(rt, whole, map, &answered.conclusion)?;
     let spent = Spent::by(&answered, begun);
-    keep_in_and_print(rt, whole, property, &answered.conclusion, spent)
+    match map {
+        Some(map) => print_with_map(rt, whole, map, &answered.conclusion, spent),
+        None => keep_in_and_print(rt, whole, property, &answered.conclusion, spent),
+    }
 }
 
 /// The status of `all` before the first verdict: that of an unknown where there is no property.

@@ -169,31 +169,43 @@ fn text_of(
     latches.texts(alloc, lines.as_slice())
 }
 
-/// Makes the file of the latches that the miter's certificate says are equal. Where there is no certificate, standard error
-/// says that nothing is known of them, and no file is made.
-pub(crate) fn keep_map(
+/// The text of the latches that the miter's certificate says are equal, or nothing where there is no certificate.
+pub(crate) fn map_text(
     rt: &HostRuntime,
     miter: &AigerFile,
     conclusion: &Conclusion,
-    to: MapFile<'_>,
-) -> Result<(), ExitError> {
+    position: usize,
+) -> Result<Option<Vec<u8>>, ExitError> {
     let Conclusion::Decided(Verdict::Safe(certificate)) = conclusion else {
-        let _ = eprintln!(rt; "aigmc: no map: nothing is known of equal latches");
-        return Ok(());
+        return Ok(None);
     };
-    let lines = latch_map(rt.alloc(), miter.model(), certificate, to.position)?;
-    let text = text_of(rt.alloc(), miter, to.position, &lines)?;
-    make_map(rt, to.name, text.as_slice())
+    let lines = latch_map(rt.alloc(), miter.model(), certificate, position)?;
+    let text = text_of(rt.alloc(), miter, position, &lines)?;
+    Ok(Some(text))
 }
 
-/// Refuses a file for evidence that is the map's, which is there.
-pub(crate) fn expect_other(
-    rt: &HostRuntime,
-    map: MapFile<'_>,
-    evidence: &str,
-) -> Result<(), ExitError> {
+/// Says that nothing is known of equal latches.
+pub(crate) fn tell_no_map(rt: &HostRuntime) {
+    let _ = eprintln!(rt; "aigmc: no map: nothing is known of equal latches");
+}
+
+/// Refuses a map that is the file of the evidence, which is there.
+fn expect_other(rt: &HostRuntime, map: MapFile<'_>, evidence: &str) -> Result<(), ExitError> {
     if is_same(rt, map.name, evidence) {
         return Err(ExitError::BadArgument);
     }
     Ok(())
+}
+
+/// Makes the file of the map, which is not that of the evidence, which is there where one is named.
+pub(crate) fn keep_map(
+    rt: &HostRuntime,
+    map: MapFile<'_>,
+    text: &[u8],
+    evidence: Option<&str>,
+) -> Result<(), ExitError> {
+    if let Some(evidence) = evidence {
+        expect_other(rt, map, evidence)?;
+    }
+    make_map(rt, map.name, text)
 }

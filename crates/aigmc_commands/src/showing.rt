@@ -4,6 +4,7 @@ ghost use Rattle.std.specs.Prelude.{◌≡◌, IfOk};
 ghost use Rattle.portfolio.specs.Conclusions.{status_in};
 ghost use Rattle.aigmc_commands.specs.Words.{checked_word, verdict_word};
 
+use crate::mapping::{MapFile, keep_map};
 use crate::telling::{CountedWhy, Why, conclude, tell_counters};
 use aigmc_files::{
     DONE, EvidenceFile, ExitError, UNKNOWN, finished, keep, keep_and_print, make_bytes,
@@ -175,17 +176,24 @@ impl Found<'_> {
         }
     }
 
+    /// Prints the verdict alone or as JSON. It takes no memory.
+    fn print(self, rt: &HostRuntime) -> Result<u8, ExitError>
+        ensures { IfOk result (λ status. status ≡ status_in self.entry.conclusion.now) }
+    {
+        if self.search.json {
+            self.print_line(rt)
+        } else {
+            self.print_short(rt)
+        }
+    }
+
     /// Makes the file of the evidence, where there is to be one, and prints the verdict alone or as JSON. Once there is that
     /// file, nothing takes memory.
     fn keep_and_print_short(self, rt: &HostRuntime) -> Result<u8, ExitError>
         ensures { IfOk result (λ status. status ≡ status_in self.entry.conclusion.now) }
     {
         self.keep(rt)?;
-        if self.search.json {
-            self.print_line(rt)
-        } else {
-            self.print_short(rt)
-        }
+        self.print(rt)
     }
 
     /// Makes the file of the evidence, where one is named, and prints the verdict as it is asked for.
@@ -200,17 +208,39 @@ impl Found<'_> {
         }
     }
 
+    /// Standard error says what was found where that is asked for.
+    fn tell(self, rt: &HostRuntime) {
+        if self.search.verbose {
+            let symbol = symbol_of(self.file, self.property);
+            tell_counters(rt, self.counters);
+            conclude(rt, self.property, self.conclusion, symbol, self.is_over);
+        }
+    }
+
     /// Makes the file of the evidence, where there is to be one, prints the verdict, and answers its status. Standard error says what
     /// was found where that is asked for.
     pub fn show(self, rt: &HostRuntime) -> Result<u8, ExitError>
         ensures { IfOk result (λ status. status ≡ status_in self.entry.conclusion.now) }
     {
         let status = self.keep_and_print(rt)?;
-        if self.search.verbose {
-            let symbol = symbol_of(self.file, self.property);
-            tell_counters(rt, self.counters);
-            conclude(rt, self.property, self.conclusion, symbol, self.is_over);
-        }
+        self.tell(rt);
+        Ok(status)
+    }
+
+    /// The same of a property that holds, with the file of a map behind that of the evidence. Once there is that file, nothing
+    /// takes memory.
+    pub fn show_with_map(
+        self,
+        rt: &HostRuntime,
+        map: MapFile<'_>,
+        text: &[u8],
+    ) -> Result<u8, ExitError>
+        ensures { IfOk result (λ status. status ≡ status_in self.entry.conclusion.now) }
+    {
+        self.keep(rt)?;
+        keep_map(rt, map, text, self.evidence.map(|to| to.name))?;
+        let status = self.print(rt)?;
+        self.tell(rt);
         Ok(status)
     }
 }
