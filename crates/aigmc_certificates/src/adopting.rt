@@ -10,6 +10,7 @@ use aigmc_files::{
 use arguments::Claim;
 use base::{Budget, Seq};
 use certify::{Certified, certify};
+use certify3::Effort;
 use graph::{AigerFile, Lit, Model, Property};
 use inputs::is_standard;
 use std::alloc::Global;
@@ -184,7 +185,16 @@ fn keep_over(
     let clauses = clauses_of(rt, asked.invariant, extended, property)?;
     let claimed = claimed_over(rt, circuit, extended.model(), property, clauses)?;
     let out = asked.certificate;
-    kept(rt, out, circuit, extended.model(), claimed, asked.budget)
+    let shown = extended.model();
+    kept(
+        rt,
+        out,
+        circuit,
+        shown,
+        claimed,
+        Effort::Quick,
+        asked.budget,
+    )
 }
 
 /// Makes a certificate of version 3 of the clauses in the file that is named, over the circuit in the file of the

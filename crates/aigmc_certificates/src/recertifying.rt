@@ -4,6 +4,7 @@ use crate::third::kept;
 use aigmc_files::{Claimed, ExitError, circuit, claimed_in, is_taken};
 use arguments::Recertification;
 use certificate3::Format;
+use certify3::Effort;
 use graph::{Model, Property};
 use inputs::is_standard;
 
@@ -29,7 +30,16 @@ fn recertify_over(
 ) -> Result<u8, ExitError> {
     let (_text, claimed) = claimed_in(rt, asked.certificate)?;
     expect_same_circuit(rt, &claimed)?;
-    kept(rt, asked.out, circuit, circuit, claimed, asked.budget)
+    let effort = Effort::Thorough;
+    kept(
+        rt,
+        asked.out,
+        circuit,
+        circuit,
+        claimed,
+        effort,
+        asked.budget,
+    )
 }
 
 /// Makes a certificate of version 3 of the claim and the clauses of a certificate, in the file of that name.

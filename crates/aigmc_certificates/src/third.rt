@@ -9,7 +9,7 @@ pub use aigmc_files::UNKNOWN;
 use aigmc_files::{Claimed, DONE, ExitError, Role, about, make_bytes};
 use base::{Budget, Refused, Seq};
 use certify::Case as EarlierCase;
-use certify3::{Case, Certified, Counterexample, Extension, certify};
+use certify3::{Case, Certified, Counterexample, Effort, Extension, certify};
 use graph::Model;
 use std::alloc::Global;
 
@@ -87,6 +87,7 @@ pub fn outcome_of(
     out: &str,
     circuit: &Model,
     claimed: Claimed,
+    effort: Effort,
     steps: u64,
 ) -> Result<Outcome, ExitError> {
     let Claimed {
@@ -107,6 +108,7 @@ pub fn outcome_of(
         claim,
         extension,
         invariant,
+        effort,
         &mut budget,
     );
     match about(Role::Circuit, outcome.map_err(ExitError::from))? {
@@ -134,9 +136,10 @@ pub fn kept(
     circuit: &Model,
     shown: &Model,
     claimed: Claimed,
+    effort: Effort,
     steps: u64,
 ) -> Result<u8, ExitError> {
-    match outcome_of(rt, out, circuit, claimed, steps)? {
+    match outcome_of(rt, out, circuit, claimed, effort, steps)? {
         Outcome::Made => Ok(DONE),
         Outcome::NotInvariant(found) => {
             let values = values_of(rt.alloc(), shown, &found)?;

@@ -10,7 +10,7 @@ use aigmc_files::{
 use arguments::Adoption;
 use base::{Budget, Refused, Seq};
 use certificate3::{Claim, Format};
-use certify3::{Case, Counterexample};
+use certify3::{Case, Counterexample, Effort};
 use graph::{AigerFile, Latch, Lit, Model, Property};
 use inputs::is_standard;
 use reset_functions::Begun;
@@ -128,7 +128,7 @@ fn kept_of(
     steps: u64,
 ) -> Result<u8, ExitError> {
     let own = Seq::from_slice(rt.alloc(), claimed.latches.as_slice())?;
-    match outcome_of(rt, out, circuit, claimed, steps)? {
+    match outcome_of(rt, out, circuit, claimed, Effort::Quick, steps)? {
         Outcome::Made => Ok(DONE),
         Outcome::NotInvariant(found) => {
             let mut values = values_of(rt.alloc(), circuit, &found)?;

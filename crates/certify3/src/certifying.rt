@@ -8,7 +8,6 @@ ghost use Rattle.extension.specs.Extended.{extended};
 ghost use Rattle.extension.specs.Inductive.{IsInductiveOver, IsOverAll};
 ghost use Rattle.certify3.specs.Causes.{HasCause, IsLate, IsUnspent};
 ghost use Rattle.certify3.specs.Outcomes.{IsCertified, IsOfClauses, of_prove_error};
-ghost use Rattle.certify3.specs.Subjects.{IsSubject};
 ghost use Rattle.certify3.specs.declared.certify_error.CertifyError.TheVariants.{OutOfMemory};
 ghost use Rattle.certify3.specs.declared.certified.Certified.TheVariants.{NotInvariant};
 ghost use Rattle.certify3.specs.declared.counterexample.Counterexample.{Counterexample as ACounterexample};
@@ -16,11 +15,12 @@ ghost use Rattle.certify3.specs.declared.counterexample.Counterexample.{Countere
 use crate::additions::Extension;
 use crate::certified::Certified;
 use crate::certify_error::CertifyError;
+use crate::effort::Effort;
 use crate::examining::examine;
 use crate::judging::judge;
 use crate::prove_error::ProveError;
 use crate::proving::{Proofs, prove};
-use crate::subject::{Subject, subject_of};
+use crate::subject::subject_of;
 use base::{Budget, Lists, Refused, Seq};
 use certificate3::{Claim, Evidence};
 use graph::{Lit, Model};
@@ -75,29 +75,6 @@ fn judged(
     judge(alloc, circuit, claim, &evidence)
 }
 
-/// A certificate of the claim by clauses over the circuit that it speaks of, with the latches and gates.
-fn certify_subject(
-    alloc: Global,
-    circuit: &Model,
-    claim: Claim,
-    extension: Extension,
-    invariant: Lists<Lit>,
-    subject: &Subject,
-    budget: &mut Budget,
-) -> Result<Certified, CertifyError>
-    requires subject { IsSubject circuit.now claim extension.latches.now extension.gates.now subject.now }
-    requires few { length invariant ≤ 4194303 }
-    requires over { All (IsOverAll subject.now.circuit) invariant }
-    ensures spends { Spends budget.old budget.new }
-    ensures certified { IfOk result (IsCertified circuit.now claim extension.entry.latches.now extension.entry.gates.now invariant budget.new) }
-    ensures refused { IfErr result IsLate }
-{
-    match prove(alloc, subject, &invariant, budget) {
-        Ok(proofs) => judged(alloc, circuit, claim, extension, invariant, proofs),
-        Err(halt) => halted(halt),
-    }
-}
-
 /// A certificate of version 3 of the claim, by clauses over any literals of the circuit that the claim
 /// speaks of, with the latches and gates. The clauses are not believed: each of their cases is to be
 /// refuted, and where something satisfies one, the case and the values are answered. They say that the
@@ -109,6 +86,9 @@ fn certify_subject(
 /// 4,194,303 clauses, and the first clause that is not over the circuit or that repeats or opposes a
 /// literal. Only then is anything spent.
 ///
+/// With `Effort::Thorough` what the budget has left is spent on shorter proofs. That it is exhausted then is
+/// no refusal: the proofs stand as they are.
+///
 /// It holds one solver at a time, over a formula of one or two times the circuit and the clauses, then
 /// the text, and the text's check.
 pub fn certify(
@@ -117,6 +97,7 @@ pub fn certify(
     claim: Claim,
     extension: Extension,
     invariant: Lists<Lit>,
+    effort: Effort,
     budget: &mut Budget,
 ) -> Result<Certified, CertifyError>
     ensures spends { Spends budget.old budget.new }
@@ -128,7 +109,8 @@ pub fn certify(
 {
     let subject = subject_of(alloc, circuit, claim, extension)?;
     examine(alloc, &subject.circuit, &invariant)?;
-    certify_subject(
-        alloc, circuit, claim, extension, invariant, &subject, budget,
-    )
+    match prove(alloc, &subject, &invariant, effort, budget) {
+        Ok(proofs) => judged(alloc, circuit, claim, extension, invariant, proofs),
+        Err(halt) => halted(halt),
+    }
 }

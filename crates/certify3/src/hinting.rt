@@ -24,7 +24,7 @@ pub struct Known<'a> {
 
 /// What a hint does.
 #[derive(Clone, Copy, PartialEq, Eq)]
-enum Effect {
+pub enum Effect {
     /// it sets a literal
     Sets,
     /// all literals of its clause are false
@@ -43,6 +43,23 @@ fn are_literals(trail: &Trail, literals: &[i32]) -> bool
         .all(|literal| *literal != 0 && literal.unsigned_abs() <= vars)
 }
 
+/// Goes on by the clause.
+pub fn apply(trail: &mut Trail, clause: &[i32]) -> Result<Effect, Refused>
+    ensures { trail.new.vars ≡ trail.old.vars }
+{
+    if !are_literals(trail, clause) {
+        return Ok(Effect::Nothing);
+    }
+    match look_at(trail, clause) {
+        Left::False => Ok(Effect::Conflicts),
+        Left::One(literal) if !trail.has_value(literal) => {
+            trail.set(literal)?;
+            Ok(Effect::Sets)
+        }
+        _ => Ok(Effect::Nothing),
+    }
+}
+
 impl<'a> Known<'a> {
     /// The clause with this id.
     fn clause(self, id: u32) -> Option<&'a [i32]> {
@@ -54,26 +71,6 @@ impl<'a> Known<'a> {
         match self.lines.get(place.checked_sub(clauses.len())?)? {
             Line::Add { clause, .. } => Some(clause.as_slice()),
             Line::Delete { .. } => None,
-        }
-    }
-
-    /// Goes on by the clause with this id.
-    fn apply(self, trail: &mut Trail, id: u32) -> Result<Effect, Refused>
-        ensures { trail.new.vars ≡ trail.old.vars }
-    {
-        let Some(clause) = self.clause(id) else {
-            return Ok(Effect::Nothing);
-        };
-        if !are_literals(trail, clause) {
-            return Ok(Effect::Nothing);
-        }
-        match look_at(trail, clause) {
-            Left::False => Ok(Effect::Conflicts),
-            Left::One(literal) if !trail.has_value(literal) => {
-                trail.set(literal)?;
-                Ok(Effect::Sets)
-            }
-            _ => Ok(Effect::Nothing),
         }
     }
 
@@ -92,7 +89,10 @@ impl<'a> Known<'a> {
         let mut taken = Vec::new(alloc);
         for hint in hints {
             let id = self.numbering.new_id(hint.unsigned_abs());
-            let effect = self.apply(trail, id)?;
+            let effect = match self.clause(id) {
+                Some(clause) => apply(trail, clause)?,
+                None => Effect::Nothing,
+            };
             if effect != Effect::Nothing {
                 push(&mut taken, id)?;
             }
@@ -105,7 +105,7 @@ impl<'a> Known<'a> {
 }
 
 /// Holds nothing but that the literals are false.
-fn suppose_false(trail: &mut Trail, literals: &[i32]) -> Result<(), Refused>
+pub fn suppose_false(trail: &mut Trail, literals: &[i32]) -> Result<(), Refused>
     ensures { trail.new.vars ≡ trail.old.vars }
 {
     trail.clear();

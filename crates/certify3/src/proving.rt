@@ -9,10 +9,12 @@ ghost use Rattle.certify3.specs.ProveErrors.{IsProveError};
 use crate::certify_error::CertifyError;
 use crate::cone::Cone;
 use crate::counterexample::{Case, Counterexample};
+use crate::effort::Effort;
 use crate::examining::{examine, is_over};
 use crate::formulas::{bad_formula, begin_formula, pair_formula};
 use crate::numbering::Numbering;
 use crate::prove_error::ProveError;
+use crate::shortening::shortened;
 use crate::showing::{Kind, Timed, show};
 use crate::subject::Subject;
 use crate::translating::translated;
@@ -168,11 +170,13 @@ fn prove_near(
 }
 
 /// The proofs of the clauses over the circuit. One solver is held at a time. The part that the clauses are about is
-/// asked first, where it is small; where not all is shown over that, the circuit.
+/// asked first, where it is small; where not all is shown over that, the circuit. A thorough effort shortens what was
+/// made, while the budget lasts.
 pub fn prove(
     alloc: Global,
     subject: &Subject,
     invariant: &Lists<Lit>,
+    effort: Effort,
     budget: &mut Budget,
 ) -> Result<Proofs, ProveError>
     requires over { All (IsOverAll subject.now.circuit) invariant.now }
@@ -181,8 +185,12 @@ pub fn prove(
     ensures spends { Spends budget.old budget.new }
     ensures halted { IfErr result (IsProveError subject.now.circuit invariant.now subject.now.bad budget.new) }
 {
-    match prove_near(alloc, subject, invariant, budget)? {
-        Some(proofs) => Ok(proofs),
-        None => prove_whole(alloc, subject, invariant, budget),
+    let proofs = match prove_near(alloc, subject, invariant, budget)? {
+        Some(proofs) => proofs,
+        None => prove_whole(alloc, subject, invariant, budget)?,
+    };
+    match effort {
+        Effort::Quick => Ok(proofs),
+        Effort::Thorough => Ok(shortened(alloc, subject, invariant, proofs, budget)?),
     }
 }

@@ -20,7 +20,7 @@ ghost use Rattle.rounds.specs.declared.asking.Tried.TheVariants.{Exceeded};
 use crate::counted::Cause;
 use base::{Budget, Lists, Refused, Seq};
 use certificate3::Claim;
-use certify3::{Certified, CertifyError, Extension, certify};
+use certify3::{Certified, CertifyError, Effort, Extension, certify};
 use engine::{Engine, Finding, Reason};
 use extension::{accepted_law, count_rounds, rounds_laws};
 use graph::{Lit, Model, Property};
@@ -150,7 +150,8 @@ fn of_clauses(
         gates: &[],
     };
     let invariant = listed(alloc, clauses)?;
-    of_certified(certify(alloc, circuit, claim, extension, invariant, budget))
+    let effort = Effort::Quick;
+    of_certified(certify(alloc, circuit, claim, extension, invariant, effort, budget))
 }
 
 /// Why nothing is known, where an engine says so.
