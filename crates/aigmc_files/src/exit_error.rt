@@ -9,6 +9,8 @@ ghost use Rattle.certify.specs.Numbers.{number_of as certify_number, place_of as
 ghost use Rattle.certify3.specs.Numbers.{number_of as third_number, place_of as third_place};
 ghost use Rattle.live_safe.specs.Causes.{number_of as live_number, place_of as live_place};
 ghost use Rattle.transforms.specs.Causes.{number_of as transform_number, place_of as transform_place};
+ghost use Rattle.witness_circuits.specs.Causes.{number_of as make_number, place_of as make_place};
+ghost use Rattle.witness_circuits.specs.Pairs.{number_of as pair_number, place_of as pair_place};
 ghost use Rattle.aigmc_files.specs.ExitErrors.{IsAt, IsOfDevice, IsOfFile, IsOfText};
 ghost use Rattle.aigmc_files.specs.declared.command_error.CommandError.TheVariants.{OutOfMemory};
 ghost use Rattle.aigmc_files.specs.declared.exit_error.ExitError.TheVariants.{Fault, Refused as IsRefused};
@@ -195,6 +197,8 @@ impl From<TransformError> for ExitError {
 }
 
 impl From<MakeError> for ExitError {
+    ghost from_gives = { λ e s. s ≡ Fault (make_number e) (make_place e) };
+
     fn from(e: MakeError) -> ExitError {
         ExitError::Fault {
             number: e.number(),
@@ -204,6 +208,8 @@ impl From<MakeError> for ExitError {
 }
 
 impl From<PairError> for ExitError {
+    ghost from_gives = { λ e s. s ≡ Fault (pair_number e) (pair_place e) };
+
     fn from(e: PairError) -> ExitError {
         ExitError::Fault {
             number: e.number(),
