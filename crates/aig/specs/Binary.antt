@@ -18,15 +18,15 @@ IsDelta (c ∷ []) n = (n < 128) × (c ≡ n)
 IsDelta (c ∷ d ∷ ds) n = (128 ≤ n) × (c ≡ 128 + n % 128) × IsDelta (d ∷ ds) (n / 128)
 
 -- a latch's next literal with its reset, and without it
-abbrev pub long_latch : Latch → List ℕ
-long_latch l = decimal l.next.0 ++ 32 ∷ decimal l.reset.0 ++ 10 ∷ []
+abbrev pub long_binary_latch : Latch → List ℕ
+long_binary_latch l = decimal l.next.0 ++ 32 ∷ decimal l.reset.0 ++ 10 ∷ []
 
-abbrev pub short_latch : Latch → List ℕ
-short_latch l = decimal l.next.0 ++ 10 ∷ []
+abbrev pub short_binary_latch : Latch → List ℕ
+short_binary_latch l = decimal l.next.0 ++ 10 ∷ []
 
 -- a latch without its literal; its reset may be left out where it is 0
 pub record IsBinaryLatchLine (max : ℕ) (text : List ℕ) (l : Latch) : Type 0 where
-  pub spells : (text ≡ long_latch l) ⊎ ((l.reset.0 ≡ 0) × (text ≡ short_latch l))
+  pub spells : (text ≡ long_binary_latch l) ⊎ ((l.reset.0 ≡ 0) × (text ≡ short_binary_latch l))
   pub next : IsCircuitLiteral max l.next
   pub reset : HasReset l
 

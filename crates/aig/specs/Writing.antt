@@ -7,11 +7,11 @@ use Rattle.graph.specs.File.{File}
 use Rattle.aag.specs.Tail.{symbol_line}
 use Rattle.aag.specs.Writing.{header_line, use_lines, comment_lines}
 use Rattle.aig.specs.Delta.{delta_text}
-use Rattle.aig.specs.Binary.{long_latch, short_latch}
+use Rattle.aig.specs.Binary.{long_binary_latch, short_binary_latch}
 
 -- a latch without its literal, and without its reset where that is 0
 abbrev pub latch_line : Latch → List ℕ
-latch_line l = if l.reset.0 == 0 then short_latch l else long_latch l
+latch_line l = if l.reset.0 == 0 then short_binary_latch l else long_binary_latch l
 
 -- the differences of a gate's literals; subtraction stops at 0, so it is their text only where they descend, which the
 -- writer's contract asks (IsOrdered)

@@ -21,7 +21,7 @@ use Rattle.aig.specs.Sections.{circuit_at as binary_circuit}
 use Rattle.aig.proofs.CircuitLaws.{circuit_reads as binary_reads}
 use Rattle.aig.proofs.TextLaws.{text_again as binary_again}
 use Rattle.aig.proofs.WellFormedLaws.{well_formed_of}
-use Rattle.aiger.specs.Layouts.{Begins, IsBinary, SpellsFile, SpellsModel, IsRefusalNumber}
+use Rattle.aiger.specs.Layouts.{BeginsWith, IsBinary, SpellsFile, SpellsModel, IsRefusalNumber}
 use Rattle.aiger.specs.Loading.{IsRefusal}
 use Rattle.aiger.specs.declared.load_error.LoadError.TheVariants.{Refused}
 
@@ -33,11 +33,11 @@ one_file xs f g (inr a) (inl b) = absurd (a.0 b.0)
 one_file xs f g (inr a) (inr b) = same_Some f g (sym (ascii_again xs f a.1) ∙ ascii_again xs g b.1)
 
 -- what a text begins with is read
-begins_read : {A : Type 0} (at : List ℕ → Read A) (R : List ℕ → A → Type 0) → Reads at R → (xs : List ℕ) (x : A) → Begins R xs x →
+begins_read : {A : Type 0} (at : List ℕ → Read A) (R : List ℕ → A → Type 0) → Reads at R → (xs : List ℕ) (x : A) → BeginsWith R xs x →
     (rest : List ℕ) × (at xs ≡ Some (x, rest))
 begins_read at R reads xs x (front, rest, is, spells) = (rest, ap at is ∙ reads.complete front x rest spells)
 
-begins_one : {A : Type 0} (at : List ℕ → Read A) (R : List ℕ → A → Type 0) → Reads at R → (xs : List ℕ) (x y : A) → Begins R xs x → Begins R xs y → x ≡ y
+begins_one : {A : Type 0} (at : List ℕ → Read A) (R : List ℕ → A → Type 0) → Reads at R → (xs : List ℕ) (x y : A) → BeginsWith R xs x → BeginsWith R xs y → x ≡ y
 begins_one at R reads xs x y a b =
     let (one, is) = begins_read at R reads xs x a in
     let (other, again) = begins_read at R reads xs y b in

@@ -17,13 +17,13 @@ abbrev pub SpellsFile : List ℕ → File → Type 0
 SpellsFile xs f = (IsBinary xs × SpellsBinary xs f) ⊎ ((IsBinary xs → ⊥) × SpellsAscii xs f)
 
 -- the text begins with one that spells the value
-abbrev pub Begins : {A : Type 0} → (List ℕ → A → Type 0) → List ℕ → A → Type 0
-Begins R text x = (front : List ℕ) × (rest : List ℕ) × (text ≡ front ++ rest) × R front x
+abbrev pub BeginsWith : {A : Type 0} → (List ℕ → A → Type 0) → List ℕ → A → Type 0
+BeginsWith R text x = (front : List ℕ) × (rest : List ℕ) × (text ≡ front ++ rest) × R front x
 
 -- the text begins with this circuit, in the binary layout where its second byte is `i`, and else in ASCII; what follows (symbols and
 -- a comment) says nothing of it
 abbrev pub SpellsModel : List ℕ → Parts → Type 0
-SpellsModel xs m = (IsBinary xs × Begins SpellsOrdered xs m) ⊎ ((IsBinary xs → ⊥) × Begins SpellsCircuit xs m)
+SpellsModel xs m = (IsBinary xs × BeginsWith SpellsOrdered xs m) ⊎ ((IsBinary xs → ⊥) × BeginsWith SpellsCircuit xs m)
 
 -- the number is that of a refusal by the reader of the text's layout
 abbrev pub IsRefusalNumber : List ℕ → ℕ → Type 0

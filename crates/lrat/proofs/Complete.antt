@@ -6,7 +6,7 @@ use Rattle.std.proofs.lemmas.Bool.Decides.{Decides-int_eq}
 use Rattle.std.proofs.lemmas.List.{get_or_default, length-take, get_or-take}
 use Rattle.std.proofs.lemmas.List.Elements.{All-contains}
 use Rattle.lrat.specs.Literals.{Finder, IsProper}
-use Rattle.lrat.specs.Lines.{IsDenied, LeavesOnly, LeavesSeveral, Leads, SetsOne, Conflicts, Shows, IsAcceptedLine}
+use Rattle.lrat.specs.Lines.{IsDenied, LeavesOnly, LeavesSeveral, Leads, SetsOne, Conflicts, AreHintsFor, IsAcceptedLine}
 use Rattle.lrat.specs.Faults.{IsImproper, Stops, StopsLast}
 use Rattle.lrat.specs.Refusals.{IsRefusedLine, StopsEarlier, StopsAtEnd}
 use Rattle.lrat.specs.declared.fault.Fault.{Fault}
@@ -95,7 +95,7 @@ snoc_same (a ∷ xs) (b ∷ ys) x y e =
     let r = snoc_same xs ys x y f in
     ((λ i. g i ∷ r.0 i), r.1)
 
-earlier_not : (m : Finder) (c : List ℤ) (hints : List ℕ) (e : Fault) → StopsEarlier m (map neg_ℤ c) hints e → e ≢ OutOfMemory witness → Shows m c hints → ⊥
+earlier_not : (m : Finder) (c : List ℤ) (hints : List ℕ) (e : Fault) → StopsEarlier m (map neg_ℤ c) hints e → e ≢ OutOfMemory witness → AreHintsFor m c hints → ⊥
 earlier_not m c hints e at ne shows =
     let same = snoc_same at.first shows.first at.last shows.last (sym at.are ∙ shows.are) in
     let stops = at.stops in
@@ -105,7 +105,7 @@ earlier_not m c hints e at ne shows =
     let met : stops.3 ≡ parts.0 = leads_unique m stops.0 (map neg_ℤ c) stops.3 parts.0 stops.5 parts.1 in
     stops_not_set m stops.3 stops.1 parts.2.0 e stops.6 ne (subst (λ s. SetsOne m s stops.1 parts.2.0) (sym met) parts.2.1)
 
-at_end_not : (m : Finder) (c : List ℤ) (hints : List ℕ) (e : Fault) → StopsAtEnd m (map neg_ℤ c) hints e → e ≢ OutOfMemory witness → Shows m c hints → ⊥
+at_end_not : (m : Finder) (c : List ℤ) (hints : List ℕ) (e : Fault) → StopsAtEnd m (map neg_ℤ c) hints e → e ≢ OutOfMemory witness → AreHintsFor m c hints → ⊥
 at_end_not m c hints e at ne shows =
     let same = snoc_same at.first shows.first at.last shows.last (sym at.are ∙ shows.are) in
     let there : Leads m (map neg_ℤ c) at.first shows.reached = subst (λ ids. Leads m (map neg_ℤ c) ids shows.reached) (sym same.0) shows.leads in

@@ -2,7 +2,7 @@
 use Rattle.std.proofs.Common.{◌≡◌, ℕ, suc, zero, Bool, true, false, not, ◌≢◌, List, [], ◌∷◌, ◌++◌, map, All, ℤ, pos, negsuc, neg_ℤ, ◌⊎◌, inl, inr, arith, refl, sym, ap, subst}
 use Rattle.std.proofs.lemmas.List.Elements.{All-push, All-nil, All-cons, All-map, All-contains, Contains-append_right}
 use Rattle.lrat.specs.Literals.{Finder, is_true, IsSatisfied, Satisfies}
-use Rattle.lrat.specs.Lines.{IsDenied, LeavesOnly, Leads, Conflicts, Shows}
+use Rattle.lrat.specs.Lines.{IsDenied, LeavesOnly, Leads, Conflicts, AreHintsFor}
 
 negated : (b : Bool) → not b ≡ false → b ≡ true
 negated true p = refl
@@ -66,7 +66,7 @@ true_or_none v (l ∷ c) =
       ]
     ] refl
 
-pub shown_true : (v : ℕ → Bool) (m : Finder) (c : List ℤ) (hints : List ℕ) → All (λ l. l ≢ pos 0) c → Satisfies v m → Shows m c hints → IsSatisfied v c
+pub shown_true : (v : ℕ → Bool) (m : Finder) (c : List ℤ) (hints : List ℕ) → All (λ l. l ≢ pos 0) c → Satisfies v m → AreHintsFor m c hints → IsSatisfied v c
 shown_true v m c hints nz sat shows =
     elim (true_or_none v c) [
       | inl p ↦ p

@@ -8,7 +8,7 @@ use Rattle.std.specs.FinMap as fin
 use Rattle.std.specs.Ordering.{nat_cmp, eq_by_cmp}
 use Rattle.std.specs.Cmp.{nat_cmp_total}
 use Rattle.lrat.specs.Literals.{Finder}
-use Rattle.lrat.specs.Lines.{Leads, Shows}
+use Rattle.lrat.specs.Lines.{Leads, AreHintsFor}
 use Rattle.lrat.specs.Store.{ById}
 use Rattle.lrat.specs.Stages.{Stage, TakesOut, is_nil, Goes, GoAlong}
 use Rattle.lrat.specs.Proofs.{first_stage, IsAcceptedProof}
@@ -33,7 +33,7 @@ leads_too m n (id ∷ ids) s t agree (l, one, rest) = (
   leads_too m n ids (s ++ l ∷ []) t (λ q has. agree q (Contains-append_right (id ∷ []) ids q has)) rest,
 )
 
-pub shows_too : (m n : Finder) (c : List ℤ) (hints : List ℕ) → Agree m n hints → Shows m c hints → Shows n c hints
+pub shows_too : (m n : Finder) (c : List ℤ) (hints : List ℕ) → Agree m n hints → AreHintsFor m c hints → AreHintsFor n c hints
 shows_too m n c hints agree s =
     let all : Agree m n (s.first ++ s.last ∷ []) = subst (Agree m n) s.are agree in
     record {

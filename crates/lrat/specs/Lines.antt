@@ -39,7 +39,7 @@ pub record Conflicts (m : Finder) (s : List ℤ) (id : ℕ) : Type 0 where
   pub denied : All (IsDenied s) clause
 
 -- the hints show the clause: from its denials they lead to a set that denies the last one
-pub record Shows (m : Finder) (c : List ℤ) (hints : List ℕ) : Type 0 where
+pub record AreHintsFor (m : Finder) (c : List ℤ) (hints : List ℕ) : Type 0 where
   pub first : List ℕ
   pub last : ℕ
   pub are : hints ≡ first ++ last ∷ []
@@ -50,4 +50,4 @@ pub record Shows (m : Finder) (c : List ℤ) (hints : List ℕ) : Type 0 where
 -- the line is accepted over these clauses
 pub record IsAcceptedLine (n : ℕ) (m : Finder) (c : List ℤ) (hints : List ℕ) : Type 0 where
   pub proper : IsProper n c
-  pub shown : Shows m c hints
+  pub shown : AreHintsFor m c hints
