@@ -3,6 +3,7 @@ use Rattle.std.proofs.Common.{◌≡◌, ℕ, zero, suc, ◌+◌, ◌<◌, ◌�
 use Rattle.std.specs.Prelude.{max}
 use Rattle.std.proofs.lemmas.Bool.{cases_lt, false≢true}
 use Rattle.std.proofs.lemmas.Option.{get_or_from_slice_get}
+use Rattle.std.specs.Result.{IfErr, IsErrAnd}
 use Rattle.base.specs.Budget.{Spends, Steps}
 use Rattle.graph.specs.declared.circuit.Lit.{Lit}
 use Rattle.graph.specs.declared.circuit.Property.{Property}
@@ -54,6 +55,11 @@ asked_there m one (Justice n) asked = asked.showable.exists
 pub engine_refused : (m : Parts) (p : Property) (e : EngineError) → HasProperty m p → HasCause m p (of_engine e)
 engine_refused m p (engine.Limit used_up) there = there
 engine_refused m p (engine.OutOfMemory refused) there = there
+
+-- its refusal is handed on
+pub handed_on : (m : Parts) (p : Property) (e : EngineError) (r : Result Verdict DecideError) → IsErrAnd r (λ d. d ≡ of_engine e) → HasProperty m p → IfErr r (HasCause m p)
+handed_on m p e (Ok v) is there = tt
+handed_on m p e (Err d) is there = subst (HasCause m p) (sym is) (engine_refused m p e there)
 
 -- ---- runs
 

@@ -23,7 +23,7 @@ use Rattle.engine.specs.declared.finding.Finding.{Finding}
 use Rattle.engine.specs.declared.finding.Finding.TheVariants as finding
 use Rattle.engine.specs.declared.finding.Reason.{Reason}
 use Rattle.engine.specs.declared.finding.Reason.TheVariants.{NoEvidence}
-use Rattle.verdict.specs.Asked.{AskedInOrder, HaveTold, IsVerdictOf, IsOfClauses, IsOfReplay, IsOfRun, Stops}
+use Rattle.verdict.specs.Asked.{AskedInOrder, ComesOfFinding, HaveTold, IsVerdictOf, IsOfClauses, IsOfReplay, IsOfRun, Stops}
 use Rattle.verdict.specs.Causes.{of_certify}
 use Rattle.verdict.specs.Reasons.{reason_in, reason_of, weightier_of}
 use Rattle.verdict.specs.Verdicts.{IsBacked, IsMeant, IsUnsafe, IsViolation, IsWhy}
@@ -34,10 +34,13 @@ use Rattle.verdict.specs.declared.verdict.Verdict.TheVariants.{Safe, Unsafe, Unk
 
 -- ---- what comes of one answer
 
-pub answered_unknown : (answers : Steps → Result Finding EngineError → Steps → Type 0) (m : Parts) (p : Property) (before left : Steps) (f : Finding) (reason : Reason) → answers before (Ok f) left →
-    f ≡ finding.Unknown reason → IsVerdictOf answers m p before (Ok (Unknown reason)) left
-answered_unknown answers m p before left f reason answered is =
-    record { answer = Ok (finding.Unknown reason); left = left; answered = subst (λ (g : Finding). answers before (Ok g) left) is answered; comes = (refl, refl) }
+-- an engine's finding, and what comes of it
+pub answered_by : (answers : Steps → Result Finding EngineError → Steps → Type 0) (m : Parts) (p : Property) (before left after : Steps) (f : Finding) (r : Result Verdict DecideError) →
+    answers before (Ok f) left → ComesOfFinding m p f left r after → IsVerdictOf answers m p before r after
+answered_by answers m p before left after f r answered comes = record { answer = Ok f; left = left; answered = answered; comes = comes }
+
+pub found_unknown : (m : Parts) (p : Property) (left : Steps) (f : Finding) (reason : Reason) → f ≡ finding.Unknown reason → ComesOfFinding m p f left (Ok (Unknown reason)) left
+found_unknown m p left f reason is = subst (λ (g : Finding). ComesOfFinding m p g left (Ok (Unknown reason)) left) (sym is) (refl, refl)
 
 no_violation : (reason : Reason) (s : Stimulus) → Unknown reason ≡ Unsafe s → ⊥
 no_violation reason s is = cc
@@ -54,24 +57,17 @@ comes_of_run : (m : Parts) (p : Property) (initial : List Bool) (inputs : List (
 comes_of_run m p initial inputs (Ok v) backed only shown = of_run m p initial inputs v backed only shown
 comes_of_run m p initial inputs (Err e) backed only shown = tt
 
-pub answered_run : (answers : Steps → Result Finding EngineError → Steps → Type 0) (m : Parts) (p : Property) (before left : Steps) (f : Finding) (initial : List Bool) (inputs : List (List Bool)) (r : Result Verdict DecideError) →
-    answers before (Ok f) left → f ≡ finding.Run initial inputs → IfOk r (IsBacked m p) → IfOk r IsOfReplay → (IsViolation m p initial inputs → IfOk r IsUnsafe) →
-    IfErr r (λ e. e ≡ OutOfMemory witness) → IsVerdictOf answers m p before r left
-answered_run answers m p before left f initial inputs r answered is backed only shown memory = record {
-  answer = Ok (finding.Run initial inputs);
-  left = left;
-  answered = subst (λ (g : Finding). answers before (Ok g) left) is answered;
-  comes = (comes_of_run m p initial inputs r backed only shown, memory, refl);
-}
+pub found_run : (m : Parts) (p : Property) (left : Steps) (f : Finding) (initial : List Bool) (inputs : List (List Bool)) (r : Result Verdict DecideError) →
+    f ≡ finding.Run initial inputs → IfOk r (IsBacked m p) → IfOk r IsOfReplay → (IsViolation m p initial inputs → IfOk r IsUnsafe) →
+    IfErr r (λ e. e ≡ OutOfMemory witness) → ComesOfFinding m p f left r left
+found_run m p left f initial inputs r is backed only shown memory =
+    subst (λ (g : Finding). ComesOfFinding m p g left r left) (sym is) (comes_of_run m p initial inputs r backed only shown, memory, refl)
 
-pub answered_clauses : (answers : Steps → Result Finding EngineError → Steps → Type 0) (m : Parts) (p : Property) (before left after : Steps) (f : Finding) (inv given : List (List Lit)) (r : Result Verdict DecideError) →
-    answers before (Ok f) left → f ≡ finding.Invariant inv → given ≡ inv → IfOk r (IsOfClauses m p given after) → IfErr r (Stops m p given) → Spends left after → IsVerdictOf answers m p before r after
-answered_clauses answers m p before left after f inv given r answered is same comes stopped spends = record {
-  answer = Ok (finding.Invariant inv);
-  left = left;
-  answered = subst (λ (g : Finding). answers before (Ok g) left) is answered;
-  comes = (subst (λ (i : List (List Lit)). IfOk r (IsOfClauses m p i after)) same comes, subst (λ (i : List (List Lit)). IfErr r (Stops m p i)) same stopped, spends);
-}
+pub found_clauses : (m : Parts) (p : Property) (left after : Steps) (f : Finding) (inv given : List (List Lit)) (r : Result Verdict DecideError) →
+    f ≡ finding.Invariant inv → given ≡ inv → IfOk r (IsOfClauses m p given after) → IfErr r (Stops m p given) → Spends left after → ComesOfFinding m p f left r after
+found_clauses m p left after f inv given r is same comes stopped spends =
+    subst (λ (g : Finding). ComesOfFinding m p g left r after) (sym is)
+    (subst (λ (i : List (List Lit)). IfOk r (IsOfClauses m p i after)) same comes, subst (λ (i : List (List Lit)). IfErr r (Stops m p i)) same stopped, spends)
 
 -- ---- clauses
 

@@ -14,7 +14,7 @@ ghost use Rattle.certify.specs.Causes.{HasCause as HasCertifyCause};
 ghost use Rattle.certify.specs.Outcomes.{IsCertified};
 ghost use Rattle.certify.specs.declared.certified.Certified.TheVariants.{NotInvariant};
 ghost use Rattle.certify.specs.declared.counterexample.Counterexample.{Counterexample as ACounterexample};
-ghost use Rattle.verdict.specs.Asked.{IsVerdictOf, IsOfClauses, IsOfReplay, Stops};
+ghost use Rattle.verdict.specs.Asked.{ComesOfFinding, IsOfClauses, IsOfReplay, IsVerdictOf, Stops};
 ghost use Rattle.verdict.specs.Causes.{HasCause, of_certify, verdict_on};
 ghost use Rattle.verdict.specs.Verdicts.{IsAsked, IsBacked, IsMeant, IsUnsafe, IsViolation};
 ghost use Rattle.verdict.specs.declared.decide_error.DecideError.TheVariants.{OutOfMemory};
@@ -175,7 +175,38 @@ fn of_refusal(error: CertifyError) -> Result<Verdict, DecideError>
     }
 }
 
-/// What one engine's answer says of the property, when it is asked about `circuit`.
+/// What an engine's finding says of the property, when it was asked about `asked` and this is left of the budget.
+fn of_finding(
+    alloc: Global,
+    circuit: &Model,
+    property: Property,
+    asked: &Model,
+    finding: Finding,
+    budget: &mut Budget,
+) -> Result<Verdict, DecideError>
+    requires asked { IsAsked circuit.now property asked.now }
+    ensures spends { Spends budget.old budget.new }
+    ensures backed { IfOk result (IsBacked circuit.now property) }
+    ensures meant { IsSo asked.now budget.old finding → IfOk result (IsMeant circuit.now property budget.new) }
+    ensures comes { ComesOfFinding circuit.now property finding budget.old result budget.new }
+    ensures refused { IfErr result (HasCause circuit.now property) }
+{
+    circuit.well_formed();
+    match finding {
+        Finding::Run { initial, inputs } => of_run(alloc, circuit, property, initial, inputs),
+        Finding::Invariant(clauses) => of_clauses(
+            alloc,
+            circuit,
+            property,
+            asked,
+            clauses.as_slice(),
+            budget,
+        ),
+        Finding::Unknown(reason) => Ok(Verdict::Unknown(reason)),
+    }
+}
+
+/// What the answer of one of several engines says of the property, when it is asked about `asked`.
 pub fn verdict_of(
     engine: &mut Box<dyn Engine>,
     alloc: Global,
@@ -192,17 +223,27 @@ pub fn verdict_of(
     ensures answered { IsVerdictOf (answers engine.old asked.now) circuit.now property budget.old result budget.new }
     ensures refused { IfErr result (HasCause circuit.now property) }
 {
-    circuit.well_formed();
-    match ask(engine, alloc, asked, budget)? {
-        Finding::Run { initial, inputs } => of_run(alloc, circuit, property, initial, inputs),
-        Finding::Invariant(clauses) => of_clauses(
-            alloc,
-            circuit,
-            property,
-            asked,
-            clauses.as_slice(),
-            budget,
-        ),
-        Finding::Unknown(reason) => Ok(Verdict::Unknown(reason)),
-    }
+    let finding = ask(engine, alloc, asked, budget)?;
+    of_finding(alloc, circuit, property, asked, finding, budget)
+}
+
+/// The same of an engine that is asked alone.
+pub fn verdict_by<E: Engine>(
+    engine: &mut E,
+    alloc: Global,
+    circuit: &Model,
+    property: Property,
+    asked: &Model,
+    budget: &mut Budget,
+) -> Result<Verdict, DecideError>
+    requires asked { IsAsked circuit.now property asked.now }
+    ensures spends { Spends budget.old budget.new }
+    ensures stays { E.honest engine.old → E.honest engine.new }
+    ensures backed { IfOk result (IsBacked circuit.now property) }
+    ensures meant { E.honest engine.old → IfOk result (IsMeant circuit.now property budget.new) }
+    ensures answered { IsVerdictOf (E.answers engine.old asked.now) circuit.now property budget.old result budget.new }
+    ensures refused { IfErr result (HasCause circuit.now property) }
+{
+    let finding = engine.find(alloc, asked, budget)?;
+    of_finding(alloc, circuit, property, asked, finding, budget)
 }

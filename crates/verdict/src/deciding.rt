@@ -6,14 +6,14 @@ ghost use Rattle.base.specs.Budget.{Spends};
 ghost use Rattle.checker2.specs.Accepted.{circuit_of};
 ghost use Rattle.graph.specs.Circuits.{HasProperty};
 ghost use Rattle.engine.specs.declared.finding.Reason.TheVariants.{NoEvidence};
-ghost use Rattle.verdict.specs.Asked.{AskedInOrder, Asks};
+ghost use Rattle.verdict.specs.Asked.{AskedInOrder, Asks, AsksOne};
 ghost use Rattle.verdict.specs.Causes.{HasCause};
 ghost use Rattle.verdict.specs.Verdicts.{IsAsked, IsBacked, IsMeant};
 ghost use Rattle.verdict.specs.declared.decide_error.DecideError.TheVariants.{Limit, IdsTaken};
 ghost use Rattle.solver.specs.Full.{full};
 ghost use Rattle.verdict.specs.declared.verdict.Verdict.TheVariants.{Unknown};
 
-use crate::asking::verdict_of;
+use crate::asking::{verdict_by, verdict_of};
 use crate::decide_error::DecideError;
 use crate::reasons::{reason, weightier};
 use crate::verdict::Verdict;
@@ -128,4 +128,27 @@ pub fn decide(
 {
     let asked = circuit_for(alloc, circuit, property)?;
     verdict_of_each(alloc, circuit, property, &asked, engines, budget)
+}
+
+/// The same by one engine, which is asked once.
+pub fn decide_by<E: Engine>(
+    alloc: Global,
+    circuit: &Model,
+    property: Property,
+    engine: &mut E,
+    budget: &mut Budget,
+) -> Result<Verdict, DecideError>
+    ensures spends { Spends budget.old budget.new }
+    ensures stays { E.honest engine.old → E.honest engine.new }
+    // Whatever it answers, what is answered here has its evidence.
+    ensures backed { IfOk result (IsBacked circuit.now property) }
+    // Where it is honest, the unknown means what it says.
+    ensures honest { E.honest engine.old → IfOk result (IsMeant circuit.now property budget.new) }
+    // It is asked about the circuit that is meant.
+    ensures asked { AsksOne (E.answers engine.old) circuit.now property budget.old result budget.new }
+    ensures exists { OnOk result (HasProperty circuit.now property) }
+    ensures refused { IfErr result (HasCause circuit.now property) }
+{
+    let asked = circuit_for(alloc, circuit, property)?;
+    verdict_by(engine, alloc, circuit, property, &asked, budget)
 }
