@@ -1,1 +1,2 @@
 pub mod Parted
+pub mod Told

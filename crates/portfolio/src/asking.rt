@@ -1,10 +1,12 @@
 //! What the engines say of a property.
 
-ghost use Rattle.std.specs.Prelude.{◌≡◌, ◌≤◌, IfOk, IfSome};
-ghost use Rattle.portfolio.specs.Conclusions.{IsConcluded};
+ghost use Rattle.std.specs.Prelude.{◌≡◌, ◌≤◌, ◌<◌, ◌-◌, ◌⊎◌, All, IfOk, IfSome, length};
+ghost use Rattle.engine.specs.declared.finding.Reason.TheVariants.{NoEvidence};
+ghost use Rattle.portfolio.specs.Conclusions.{AreMeantWith, IsConcluded, IsMeantIn, IsMeantWith, IsTold, IsWithoutRounds};
 ghost use Rattle.portfolio.specs.declared.conclusion.Conclusion.TheVariants as conclusion;
 ghost use Rattle.rounds.specs.Counted.{IsBacked as AreBacked};
 ghost use Rattle.verdict.specs.Verdicts.{IsBacked};
+ghost use Rattle.verdict.specs.declared.verdict.Verdict.TheVariants.{Unknown};
 
 use crate::beginning::Beginning;
 use crate::conclusion::Conclusion;
@@ -13,7 +15,7 @@ use crate::reporter::Reporter;
 use crate::timed::{Deadline, Timed};
 use crate::timing::Timing;
 use arguments::EngineKind;
-use base::{Budget, Refused, Seq, boxed, push};
+use base::{Budget, Refused, Seq};
 use cdcl::Cdcl;
 use cone_of_influence::ConeOfInfluence;
 use correspondence::Corresponding;
@@ -23,7 +25,7 @@ use graph::{Lit, Model, Property};
 use ic3::Ic3;
 use rounds::{Counted, decide_rounds};
 use std::alloc::Global;
-use verdict::{DecideError, Verdict, decide};
+use verdict::{DecideError, Verdict, decide, decide_by};
 
 /// Bounded search and IC3 are asked first with one of so many parts of the budget.
 const FIRST_PARTS: u64 = 8;
@@ -74,14 +76,6 @@ pub struct Answered {
     pub counters: Counters,
 }
 
-/// Adds what each engine counted.
-fn count_all(engines: &[Box<dyn Engine>], counters: &mut Counters) -> Result<(), Refused> {
-    for engine in engines {
-        engine.count(counters)?;
-    }
-    Ok(())
-}
-
 impl Question<'_> {
     /// How many steps bounded search looks through behind IC3: more than at first, where the times do not have too many
     /// variables together.
@@ -97,6 +91,39 @@ impl Question<'_> {
         times.max(self.timing.search.depth)
     }
 
+    /// What this engine says. Answers how many steps are left too.
+    #[tactic(auto, using(crate::proofs::Told::meant_with))]
+    fn decided_by<E: Engine>(
+        self,
+        rt: &HostRuntime,
+        engine: &mut E,
+        steps: u64,
+        counters: &mut Counters,
+    ) -> Result<(Verdict, u64), DecideError>
+        ensures backed { IfOk result (λ r. IsBacked self.entry.circuit.now self.entry.property r.0) }
+        ensures meant { E.honest engine.old → IfOk result (λ r. IsMeantWith self.entry.circuit.now self.entry.property r.1 r.0) }
+        ensures left { IfOk result (λ r. r.1 ≤ steps) }
+    {
+        let mut budget = self.timing.budget(steps);
+        let verdict = decide_by(rt.alloc(), self.circuit, self.property, engine, &mut budget)?;
+        engine.count(counters)?;
+        Ok((verdict, budget.left()))
+    }
+
+    /// What is said where no engine is asked: nothing is known. A property that is not there is refused.
+    fn decided_by_none(self, rt: &HostRuntime) -> Result<Verdict, DecideError>
+        ensures { IfOk result (λ v. v ≡ Unknown NoEvidence) }
+    {
+        let mut budget = Budget::new(0);
+        decide(
+            rt.alloc(),
+            self.circuit,
+            self.property,
+            &mut [],
+            &mut budget,
+        )
+    }
+
     /// What register correspondence says, and bounded search behind it.
     fn corresponded(
         self,
@@ -105,20 +132,14 @@ impl Question<'_> {
         counters: &mut Counters,
     ) -> Result<(Verdict, u64), DecideError>
         ensures backed { IfOk result (λ r. IsBacked self.entry.circuit.now self.entry.property r.0) }
+        ensures meant { IfOk result (λ r. IsMeantWith self.entry.circuit.now self.entry.property r.1 r.0) }
         ensures left { IfOk result (λ r. r.1 ≤ steps) }
     {
         let (alloc, timing) = (rt.alloc(), self.timing);
-        let mut engines: Vec<Box<dyn Engine>> = Vec::new(alloc);
         let bounded = bounded_by(rt, timing, timing.search.depth);
         let engine = Corresponding::new(timing.solver(alloc), bounded);
-        let engine = engine.with_progress(Reporter::new(rt, timing.shown));
-        let engine: Box<dyn Engine> = boxed(alloc, engine)?;
-        push(&mut engines, engine)?;
-        let mut budget = self.timing.budget(steps);
-        let engines = engines.as_mut_slice();
-        let verdict = decide(alloc, self.circuit, self.property, engines, &mut budget)?;
-        count_all(engines, counters)?;
-        Ok((verdict, budget.left()))
+        let mut engine = engine.with_progress(Reporter::new(rt, timing.shown));
+        self.decided_by(rt, &mut engine, steps, counters)
     }
 
     /// What register correspondence says, and bounded search, IC3 and deeper bounded search behind it.
@@ -132,18 +153,11 @@ impl Question<'_> {
         counters: &mut Counters,
     ) -> Result<(Verdict, u64), DecideError>
         ensures backed { IfOk result (λ r. IsBacked self.entry.circuit.now self.entry.property r.0) }
+        ensures meant { IfOk result (λ r. IsMeantWith self.entry.circuit.now self.entry.property r.1 r.0) }
         ensures left { IfOk result (λ r. r.1 ≤ steps) }
     {
-        let alloc = rt.alloc();
-        let mut engines: Vec<Box<dyn Engine>> = Vec::new(alloc);
-        let engine = Merging::new(rt, self.timing, first, last, candidates)?;
-        let engine: Box<dyn Engine> = boxed(alloc, engine)?;
-        push(&mut engines, engine)?;
-        let mut budget = self.timing.budget(steps);
-        let engines = engines.as_mut_slice();
-        let verdict = decide(alloc, self.circuit, self.property, engines, &mut budget)?;
-        count_all(engines, counters)?;
-        Ok((verdict, budget.left()))
+        let mut engine = Merging::new(rt, self.timing, first, last, candidates)?;
+        self.decided_by(rt, &mut engine, steps, counters)
     }
 
     /// What bounded search says with at most half of so many steps, and IC3 and deeper bounded search with the others.
@@ -157,68 +171,73 @@ impl Question<'_> {
         counters: &mut Counters,
     ) -> Result<(Verdict, u64), DecideError>
         ensures backed { IfOk result (λ r. IsBacked self.entry.circuit.now self.entry.property r.0) }
+        ensures meant { IfOk result (λ r. IsMeantWith self.entry.circuit.now self.entry.property r.1 r.0) }
         ensures left { IfOk result (λ r. r.1 ≤ steps) }
     {
-        let alloc = rt.alloc();
-        let mut engines: Vec<Box<dyn Engine>> = Vec::new(alloc);
         let is_whole = !candidates.is_empty();
-        let engine = Beginning::new(rt, self.timing, first, last, candidates)?;
+        let mut engine = Beginning::new(rt, self.timing, first, last, candidates)?;
         if is_whole {
-            let engine: Box<dyn Engine> = boxed(alloc, engine)?;
-            push(&mut engines, engine)?;
+            self.decided_by(rt, &mut engine, steps, counters)
         } else {
-            let engine: Box<dyn Engine> = boxed(alloc, ConeOfInfluence::new(engine))?;
-            push(&mut engines, engine)?;
+            let mut engine = ConeOfInfluence::new(engine);
+            self.decided_by(rt, &mut engine, steps, counters)
         }
-        let mut budget = self.timing.budget(steps);
-        let engines = engines.as_mut_slice();
-        let verdict = decide(alloc, self.circuit, self.property, engines, &mut budget)?;
-        count_all(engines, counters)?;
-        Ok((verdict, budget.left()))
     }
 
-    /// What bounded search, IC3 or random simulation says. IC3 tries these clauses first. Answers how many steps are left too.
-    fn searched(
+    /// What bounded search says.
+    fn bounded(
         self,
         rt: &HostRuntime,
-        candidates: Seq<Seq<Lit>>,
-        depth: u8,
         steps: u64,
         counters: &mut Counters,
     ) -> Result<(Verdict, u64), DecideError>
         ensures backed { IfOk result (λ r. IsBacked self.entry.circuit.now self.entry.property r.0) }
+        ensures meant { IfOk result (λ r. IsMeantWith self.entry.circuit.now self.entry.property r.1 r.0) }
         ensures left { IfOk result (λ r. r.1 ≤ steps) }
     {
-        let (alloc, timing) = (rt.alloc(), self.timing);
-        let search = timing.search;
-        let mut engines: Vec<Box<dyn Engine>> = Vec::new(alloc);
-        if search.engine.has_bounded() {
-            let bounded = bounded_by(rt, timing, depth);
-            let engine: Box<dyn Engine> = boxed(alloc, ConeOfInfluence::new(bounded))?;
-            push(&mut engines, engine)?;
+        let engine = bounded_by(rt, self.timing, self.timing.search.depth);
+        let mut engine = ConeOfInfluence::new(engine);
+        self.decided_by(rt, &mut engine, steps, counters)
+    }
+
+    /// What IC3 says, which tries these clauses first.
+    fn inductive(
+        self,
+        rt: &HostRuntime,
+        candidates: Seq<Seq<Lit>>,
+        steps: u64,
+        counters: &mut Counters,
+    ) -> Result<(Verdict, u64), DecideError>
+        ensures backed { IfOk result (λ r. IsBacked self.entry.circuit.now self.entry.property r.0) }
+        ensures meant { IfOk result (λ r. IsMeantWith self.entry.circuit.now self.entry.property r.1 r.0) }
+        ensures left { IfOk result (λ r. r.1 ≤ steps) }
+    {
+        let is_whole = !candidates.is_empty();
+        let engine = Ic3::with_candidates(self.timing.solver(rt.alloc()), candidates);
+        let mut engine = engine.with_progress(Reporter::new(rt, self.timing.shown));
+        if is_whole {
+            self.decided_by(rt, &mut engine, steps, counters)
+        } else {
+            let mut engine = ConeOfInfluence::new(engine);
+            self.decided_by(rt, &mut engine, steps, counters)
         }
-        if search.engine.has_inductive() {
-            let is_whole = !candidates.is_empty();
-            let inductive = Ic3::with_candidates(timing.solver(alloc), candidates);
-            let inductive = inductive.with_progress(Reporter::new(rt, timing.shown));
-            if is_whole {
-                let engine: Box<dyn Engine> = boxed(alloc, inductive)?;
-                push(&mut engines, engine)?;
-            } else {
-                let engine: Box<dyn Engine> = boxed(alloc, ConeOfInfluence::new(inductive))?;
-                push(&mut engines, engine)?;
-            }
-        }
-        if search.engine == EngineKind::Random {
-            let random = Random::new(search.seed, u32::from(depth)).with_watch(timing.deadline);
-            let engine: Box<dyn Engine> = boxed(alloc, random)?;
-            push(&mut engines, engine)?;
-        }
-        let mut budget = self.timing.budget(steps);
-        let engines = engines.as_mut_slice();
-        let verdict = decide(alloc, self.circuit, self.property, engines, &mut budget)?;
-        count_all(engines, counters)?;
-        Ok((verdict, budget.left()))
+    }
+
+    /// What random simulation says.
+    fn simulated(
+        self,
+        rt: &HostRuntime,
+        steps: u64,
+        counters: &mut Counters,
+    ) -> Result<(Verdict, u64), DecideError>
+        ensures backed { IfOk result (λ r. IsBacked self.entry.circuit.now self.entry.property r.0) }
+        ensures meant { IfOk result (λ r. IsMeantWith self.entry.circuit.now self.entry.property r.1 r.0) }
+        ensures left { IfOk result (λ r. r.1 ≤ steps) }
+    {
+        let search = self.timing.search;
+        let engine = Random::new(search.seed, u32::from(search.depth));
+        let mut engine = engine.with_watch(self.timing.deadline);
+        self.decided_by(rt, &mut engine, steps, counters)
     }
 
     /// What IC3 comes to about the circuits that count rounds of the justice property at the position. Answers how many steps
@@ -231,6 +250,7 @@ impl Question<'_> {
         counters: &mut Counters,
     ) -> Result<(Counted, u64), DecideError>
         ensures backed { IfOk result (λ r. AreBacked self.entry.circuit.now position r.0) }
+        ensures meant { IfOk result (λ r. AreMeantWith self.entry.circuit.now position r.1 r.0) }
         ensures left { IfOk result (λ r. r.1 ≤ steps) }
     {
         let (alloc, timing) = (rt.alloc(), self.timing);
@@ -240,6 +260,7 @@ impl Question<'_> {
     }
 
     /// What an engine comes to about them.
+    #[tactic(auto, using(crate::proofs::Told::are_meant_with))]
     fn counted_by<E: Engine>(
         self,
         rt: &HostRuntime,
@@ -249,6 +270,7 @@ impl Question<'_> {
         counters: &mut Counters,
     ) -> Result<(Counted, u64), DecideError>
         ensures backed { IfOk result (λ r. AreBacked self.entry.circuit.now position r.0) }
+        ensures meant { E.honest engine.old → IfOk result (λ r. AreMeantWith self.entry.circuit.now position r.1 r.0) }
         ensures left { IfOk result (λ r. r.1 ≤ steps) }
     {
         let mut progress = Reporter::new(rt, self.timing.shown);
@@ -274,6 +296,7 @@ impl Question<'_> {
         counters: &mut Counters,
     ) -> Result<(Option<Counted>, u64), DecideError>
         ensures concluded { IfOk result (λ r. IfSome r.0 (λ c. IsConcluded self.entry.circuit.now self.entry.property (conclusion.Counted c))) }
+        ensures meant { IfOk result (λ r. IfSome r.0 (λ c. IsMeantIn self.entry.circuit.now self.entry.property r.1 (conclusion.Counted c))) }
         ensures left { IfOk result (λ r. r.1 ≤ steps) }
     {
         let Property::Justice(position) = self.property else {
@@ -298,6 +321,7 @@ impl Question<'_> {
         counters: &mut Counters,
     ) -> Result<(Conclusion, u64), DecideError>
         ensures concluded { IfOk result (λ r. IsConcluded self.entry.circuit.now self.entry.property r.0) }
+        ensures meant { IfOk result (λ r. IsMeantIn self.entry.circuit.now self.entry.property r.1 r.0) }
         ensures left { IfOk result (λ r. r.1 ≤ steps) }
     {
         let (bound, rest) = self.rounds_bound(rt, steps, counters)?;
@@ -324,6 +348,7 @@ impl Question<'_> {
         counters: &mut Counters,
     ) -> Result<(Conclusion, u64), DecideError>
         ensures concluded { IfOk result (λ r. IsConcluded self.entry.circuit.now self.entry.property r.0) }
+        ensures meant { IfOk result (λ r. IsMeantIn self.entry.circuit.now self.entry.property r.1 r.0) }
         ensures left { IfOk result (λ r. r.1 ≤ self.entry.timing.search.budget) }
     {
         let all = self.timing.search.budget;
@@ -351,13 +376,13 @@ impl Question<'_> {
         counters: &mut Counters,
     ) -> Result<(Conclusion, u64), DecideError>
         ensures concluded { IfOk result (λ r. IsConcluded self.entry.circuit.now self.entry.property r.0) }
+        ensures meant { IfOk result (λ r. IsMeantIn self.entry.circuit.now self.entry.property r.1 r.0 ⊎ IsWithoutRounds self.entry.property r.0) }
         ensures left { IfOk result (λ r. r.1 ≤ self.entry.timing.search.budget) }
     {
         let steps = self.timing.search.budget;
         let Property::Justice(position) = self.property else {
-            let none = Seq::new(rt.alloc());
-            let (verdict, left) = self.searched(rt, none, 0, steps, counters)?;
-            return Ok((Conclusion::Decided(verdict), left));
+            let verdict = self.decided_by_none(rt)?;
+            return Ok((Conclusion::Decided(verdict), steps));
         };
         let (counted, left) = self.counted(rt, position, steps, counters)?;
         Ok((Conclusion::Counted(counted), left))
@@ -371,6 +396,7 @@ impl Question<'_> {
         counters: &mut Counters,
     ) -> Result<(Conclusion, u64), DecideError>
         ensures concluded { IfOk result (λ r. IsConcluded self.entry.circuit.now self.entry.property r.0) }
+        ensures meant { IfOk result (λ r. IsTold self.entry.timing.search.engine self.entry.circuit.now self.entry.property r.1 r.0) }
         ensures left { IfOk result (λ r. r.1 ≤ self.entry.timing.search.budget) }
     {
         let budget = self.timing.search.budget;
@@ -378,9 +404,27 @@ impl Question<'_> {
             EngineKind::All => return self.staged(rt, candidates, counters),
             EngineKind::Rounds => return self.rounds_alone(rt, counters),
             EngineKind::Corresponding => self.corresponded(rt, budget, counters)?,
-            _ => self.searched(rt, candidates, self.timing.search.depth, budget, counters)?,
+            EngineKind::Bounded => self.bounded(rt, budget, counters)?,
+            EngineKind::Inductive => self.inductive(rt, candidates, budget, counters)?,
+            EngineKind::Random => self.simulated(rt, budget, counters)?,
         };
         Ok((Conclusion::Decided(verdict), left))
+    }
+
+    /// What is answered where so many steps are left.
+    fn answered(self, conclusion: Conclusion, left: u64, counters: Counters) -> Answered
+        requires few { left ≤ self.timing.search.budget }
+        requires concluded { IsConcluded self.circuit.now self.property conclusion }
+        requires meant { IsTold self.timing.search.engine self.circuit.now self.property left conclusion }
+        ensures concluded { IsConcluded self.entry.circuit.now self.entry.property result.conclusion }
+        ensures meant { IsTold self.entry.timing.search.engine self.entry.circuit.now self.entry.property (self.entry.timing.search.budget - result.steps) result.conclusion }
+        ensures few { result.steps ≤ self.entry.timing.search.budget }
+    {
+        Answered {
+            conclusion,
+            steps: self.timing.search.budget.saturating_sub(left),
+            counters,
+        }
     }
 
     /// Asks the engines for evidence about the property. IC3 tries these clauses first. Where it is asked for, or standard
@@ -388,17 +432,15 @@ impl Question<'_> {
     pub fn ask(self, rt: &HostRuntime, candidates: Seq<Seq<Lit>>) -> Result<Answered, DecideError>
         // Whatever the engines answered, what is known has its evidence.
         ensures concluded { IfOk result (λ a. IsConcluded self.entry.circuit.now self.entry.property a.conclusion) }
+        // Where nothing is known, the reason stands: the budget is spent, or nothing violates the property so far.
+        ensures meant { IfOk result (λ a. IsTold self.entry.timing.search.engine self.entry.circuit.now self.entry.property (self.entry.timing.search.budget - a.steps) a.conclusion) }
         ensures few { IfOk result (λ a. a.steps ≤ self.entry.timing.search.budget) }
     {
         let mut counters = Counters::new(rt.alloc());
         let answer = self.concluded(rt, candidates, &mut counters);
         self.timing.shown.wipe(rt);
         let (conclusion, left) = answer?;
-        Ok(Answered {
-            conclusion,
-            steps: self.timing.search.budget.saturating_sub(left),
-            counters,
-        })
+        Ok(self.answered(conclusion, left, counters))
     }
 }
 
@@ -408,12 +450,9 @@ pub fn is_shown_safe(
     circuit: &Model,
     deadline: Deadline,
 ) -> Result<bool, DecideError> {
-    let mut engines: Vec<Box<dyn Engine>> = Vec::new(alloc);
     let solver = Timed::new(Cdcl::new(alloc), deadline);
-    let engine: Box<dyn Engine> = boxed(alloc, Ic3::new(solver))?;
-    push(&mut engines, engine)?;
+    let mut engine = Ic3::new(solver);
     let mut budget = Budget::new(OWN_STEPS);
-    let engines = engines.as_mut_slice();
-    let verdict = decide(alloc, circuit, Property::Bad(0), engines, &mut budget)?;
+    let verdict = decide_by(alloc, circuit, Property::Bad(0), &mut engine, &mut budget)?;
     Ok(matches!(verdict, Verdict::Safe(_)))
 }
