@@ -1,5 +1,5 @@
 -- The own resets of a witness, latch by latch.
-use Rattle.std.proofs.Common.{◌≡◌, ℕ, Bool, true, false, not, eqb, None, Some, ◌+◌, ◌<◌, List, [], ◌∷◌, ◌++◌, Option, length, drop, get_or, sym, ap, refl, ◌∙◌, append_assoc}
+use Rattle.std.proofs.Common.{◌≡◌, ◌≢◌, inl, inr, subst, Result, Ok, Err, IfErr, IsErrAnd, ℕ, Bool, true, false, not, eqb, None, Some, ◌+◌, ◌<◌, List, [], ◌∷◌, ◌++◌, Option, length, drop, get_or, sym, ap, refl, ◌∙◌, append_assoc}
 use Rattle.std.specs.Cmp.Lexicographic.{pointwise}
 use Rattle.std.specs.Option.{option_eq}
 use Rattle.std.proofs.lemmas.Bool.{and_parts, eqb-true}
@@ -8,7 +8,8 @@ use Rattle.graph.specs.declared.circuit.Lit.{Lit}
 use Rattle.graph.specs.declared.parts.Parts.{Parts}
 use Rattle.reset_functions.specs.Made.{head, with_gates}
 use Rattle.reset_functions.proofs.Loops.{others_drop}
-use Rattle.aigmc_certificates.specs.WitnessFiles.{own_reset, own_resets, plain_witness}
+use Rattle.aigmc_files.specs.declared.exit_error.ExitError.{ExitError}
+use Rattle.aigmc_certificates.specs.WitnessFiles.{IsUnadopted, IsUnmade, IsUnpaired, own_reset, own_resets, plain_witness}
 
 -- ---- a test of two lists
 
@@ -53,3 +54,17 @@ own_step given resets k d g r v xs ys target k_in is_reset is_given is_own pushe
     let split : own_resets (drop k given) (drop k resets) ≡ one ++ rest =
     ap (own_resets (drop k given)) (drop_more resets k d k_in) ∙ rw (others_drop given k, is_own, is_reset, is_given) refl in
     ap (λ (q : List (Option Lit)). q ++ rest) pushed ∙ append_assoc xs one rest ∙ ap (λ (q : List (Option Lit)). xs ++ q) (sym split) ∙ h
+
+-- ---- why nothing is adopted
+
+some_resets : (resets : List (Option Lit)) (n : ℕ) → n ≡ length resets → false ≡ eqb n 0 → resets ≢ []
+some_resets [] n long some same = let none : n ≡ 0 = long in let no : false ≡ true = some ∙ rw none refl in cc
+some_resets (x ∷ xs) n long some same = cc
+
+pub unmade : {A : Type 0} (r : Result A ExitError) (e : ExitError) (w : Parts) (given resets : List (Option Lit)) (n : ℕ) → n ≡ length resets → false ≡ eqb n 0 → IsErrAnd r (λ x. x ≡ e) → IsUnmade w given resets e → IfErr r (IsUnadopted w given resets)
+unmade (Ok x) e w given resets n long some is why = absurd is
+unmade (Err x) e w given resets n long some is why = subst (IsUnadopted w given resets) (sym is) (inl (some_resets resets n long some, why))
+
+pub unpaired : {A : Type 0} (r : Result A ExitError) (w : Parts) (given resets : List (Option Lit)) (m : Parts) (n : ℕ) → n ≡ length resets → false ≡ eqb n 0 → m ≡ with_gates w (own_resets given resets) → IfErr r (IsUnpaired m) → IfErr r (IsUnadopted w given resets)
+unpaired (Ok x) w given resets m n long some is why = tt
+unpaired (Err e) w given resets m n long some is why = inr (subst (λ (q : Parts). IsUnpaired q e) (plain_made w given resets m n long some is) why)

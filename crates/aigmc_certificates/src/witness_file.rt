@@ -1,14 +1,11 @@
 //! The witness circuit of `adopt-witness`, of whose latches each may have any literal as its reset.
 
-ghost use Rattle.std.specs.Prelude.{◌≡◌, ◌⊎◌, IfErr, IfOk, IsErr, IsTrue, drop};
-ghost use Rattle.base.specs.Witness.{witness as no_memory};
+ghost use Rattle.std.specs.Prelude.{◌≡◌, IfErr, IfOk, drop};
 ghost use Rattle.graph.specs.WellFormed.{IsWellFormed};
 ghost use Rattle.reset_functions.specs.Begun.{RunsAs};
 ghost use Rattle.reset_functions.specs.Made.{head, with_gates};
 ghost use Rattle.witness_circuits.specs.Spread.{IsAdopted};
-ghost use Rattle.aigmc_files.specs.declared.command_error.CommandError.TheVariants.{OutOfMemory};
-ghost use Rattle.aigmc_files.specs.declared.exit_error.ExitError.TheVariants.{Refused as IsRefused};
-ghost use Rattle.aigmc_certificates.specs.WitnessFiles.{IsStop, own_reset, own_resets, plain_witness};
+ghost use Rattle.aigmc_certificates.specs.WitnessFiles.{IsStop, IsUnadopted, IsUnmade, IsUnpaired, own_reset, own_resets, plain_witness};
 
 use aigmc_files::{ExitError, Role, about, circuit_text};
 use base::{Refused, push};
@@ -96,7 +93,7 @@ fn with_gates(rt: &HostRuntime, witness: &Model, shared: &Shared) -> Result<Mode
     ensures made { IfOk result (λ m. m ≡ with_gates witness.now (own_resets shared.now.latches.items shared.now.resets.items)) }
     ensures runs { IfOk result (RunsAs witness.now (own_resets shared.now.latches.items shared.now.resets.items)) }
     ensures in_order { IfOk result (λ _. IsWellFormed (with_gates witness.now shared.now.resets.items)) }
-    ensures refused { IfErr result (λ e. (e ≡ IsRefused (OutOfMemory no_memory)) ⊎ IsStop (with_gates witness.now (own_resets shared.now.latches.items shared.now.resets.items)) e ⊎ IsStop (with_gates witness.now shared.now.resets.items) e) }
+    ensures refused { IfErr result (IsUnmade witness.now shared.now.latches.items shared.now.resets.items) }
 {
     let own = own_resets(rt.alloc(), &shared.latches, &shared.resets)?;
     if own.as_slice() != shared.resets.as_slice() {
@@ -107,6 +104,19 @@ fn with_gates(rt: &HostRuntime, witness: &Model, shared: &Shared) -> Result<Mode
     Ok(made)
 }
 
+/// The same of a witness of whose resets none is a function.
+fn adopted_plainly(
+    rt: &HostRuntime,
+    circuit: &Model,
+    witness: &Model,
+    shared: &Shared,
+) -> Result<Adopted, ExitError>
+    ensures clauses { IfOk result (λ x. IsAdopted circuit.now witness.now x.latches x.gates x.of_property x.invariant) }
+    ensures refused { IfErr result (IsUnpaired witness.now) }
+{
+    Ok(adopt(rt.alloc(), circuit, witness, shared)?)
+}
+
 /// What the witness adds to the circuit, and what is to be inductive.
 pub fn adopted_of(
     rt: &HostRuntime,
@@ -115,10 +125,11 @@ pub fn adopted_of(
     shared: &Shared,
 ) -> Result<Adopted, ExitError>
     ensures clauses { IfOk result (λ x. IsAdopted circuit.now (plain_witness witness.now shared.now.latches.items shared.now.resets.items) x.latches x.gates x.of_property x.invariant) }
+    ensures refused { IfErr result (IsUnadopted witness.now shared.now.latches.items shared.now.resets.items) }
 {
     if shared.resets.is_empty() {
-        return Ok(adopt(rt.alloc(), circuit, witness, shared)?);
+        return adopted_plainly(rt, circuit, witness, shared);
     }
     let made = with_gates(rt, witness, shared)?;
-    Ok(adopt(rt.alloc(), circuit, &made, shared)?)
+    adopted_plainly(rt, circuit, &made, shared)
 }
