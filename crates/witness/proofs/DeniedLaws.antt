@@ -9,13 +9,13 @@ use Rattle.stimulus.specs.declared.judge_error.JudgeError.TheVariants.{OutOfMemo
 use Rattle.witness.specs.Strict.{IsDeniedWithState, ShowsNeither}
 
 -- what follows from what a refusal says
-pub denied_so : {T : Type 0} (X Y : Type 0) (r : Result T JudgeError) → (X → Y) → IfErr r (λ e. e ≢ OutOfMemory witness → X) → IfErr r (λ e. e ≢ OutOfMemory witness → Y)
-denied_so X Y (Ok x) f h = tt
-denied_so X Y (Err e) f h = λ some. f (h some)
+pub denied_so : {T : Type 0} (Denied Follows : Type 0) (result : Result T JudgeError) → (Denied → Follows) → IfErr result (λ e. e ≢ OutOfMemory witness → Denied) → IfErr result (λ e. e ≢ OutOfMemory witness → Follows)
+denied_so Denied Follows (Ok x) so denied = tt
+denied_so Denied Follows (Err e) so denied = λ some. so (denied some)
 
 -- the first row is the first state
 pub denied_first : (m : Parts) (p : Property) (rows : List (List (Option Bool))) (state : List (Option Bool)) → 1 ≤ length rows → state ≡ get_or rows 0 state → ShowsNeither m p state (take (length rows - 1) (drop 1 rows)) → IsDeniedWithState m p rows
-denied_first m p [] state some is h = absurd (omega (arith, some))
-denied_first m p (row ∷ rows) state some is h =
+denied_first m p [] state some is_first neither = absurd (omega (arith, some))
+denied_first m p (row ∷ rows) state some is_first neither =
     let whole : take (length (row ∷ rows) - 1) rows ≡ rows = take_all (length (row ∷ rows) - 1) rows (omega arith) in
-    subst (λ (s : List (Option Bool)). ShowsNeither m p s rows) is (subst (ShowsNeither m p state) whole h)
+    subst (λ (first : List (Option Bool)). ShowsNeither m p first rows) is_first (subst (ShowsNeither m p state) whole neither)

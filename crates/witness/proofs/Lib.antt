@@ -1,7 +1,10 @@
 pub mod CompletionLaws
-pub mod WatchedLaws
 pub mod ClearLaws
 pub mod NextLaws
 pub mod WalkLaws
 pub mod EnoughLaws
 pub mod DeniedLaws
+pub mod CuttingLaws
+pub mod ShownLaws
+pub mod SeenLaws
+pub mod LassoLaws

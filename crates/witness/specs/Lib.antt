@@ -1,4 +1,6 @@
 pub mod Completions
+pub mod Cutting
+pub mod Lassos
 pub mod Strict
 pub mod Cleared
 pub mod Numbers

@@ -8,6 +8,7 @@ use Rattle.stimulus.specs.declared.value.Stimulus.TheVariants.{Holds, Violated, 
 use Rattle.stimulus.specs.Texts.{property_of}
 use Rattle.stimulus.specs.Shown.{Shows}
 use Rattle.witness.specs.Completions.{CompleteFirst, completion}
+use Rattle.witness.specs.Cutting.{NeverShows}
 use Rattle.witness.specs.declared.loose.Loose.{Loose}
 use Rattle.witness.specs.declared.witness_error.WitnessError.{WitnessError}
 use Rattle.witness.specs.declared.witness_error.WitnessError.TheVariants.{NoViolation, Property as NoProperty, Character, Truncated, LineLength, NotShown, OutOfMemory}
@@ -35,13 +36,14 @@ AreAsked m (Some p) named asked = asked ≡ p ∷ []
 AreAsked m None [] asked = AreAll m asked
 AreAsked m None (p ∷ ps) asked = asked ≡ p ∷ ps
 
--- the stimulus of all rows, with this value in place of each that doesn't matter, but in the first state a latch's reset
-abbrev pub choice : Parts → Property → List (Option Bool) → List (List (Option Bool)) → Bool → Stimulus
-choice m p state rows other = Violated p (completion m.latches other state) (map (completion [] other) rows)
+-- with this value in place of each that doesn't matter, but in the first state a latch's reset, the first rows, however many, do not show
+-- the violation
+abbrev pub ShowsNone : Parts → Property → List (Option Bool) → List (List (Option Bool)) → Bool → Type 0
+ShowsNone m p state rows other = NeverShows m p (completion m.latches other state) (map (completion [] other) rows)
 
--- neither with 0 nor with 1 in place of what doesn't matter the violation is shown
+-- neither with 0 nor with 1 in place of what doesn't matter
 abbrev pub ShowsNeither : Parts → Property → List (Option Bool) → List (List (Option Bool)) → Type 0
-ShowsNeither m p state rows = (Shows m (choice m p state rows false) → ⊥) × (Shows m (choice m p state rows true) → ⊥)
+ShowsNeither m p state rows = ShowsNone m p state rows false × ShowsNone m p state rows true
 
 -- not with the first row as the first state
 abbrev pub IsDeniedWithState : Parts → Property → List (List (Option Bool)) → Type 0
@@ -52,12 +54,12 @@ IsDeniedWithState m p (state ∷ rows) = ShowsNeither m p state rows
 abbrev pub IsDeniedByInputs : Parts → Property → List (List (Option Bool)) → Type 0
 IsDeniedByInputs m p rows = ShowsNeither m p (replicate (length m.latches) None) rows
 
--- no choice of what doesn't matter shows the property's violation, by any reading of the rows
+-- no choice of what doesn't matter shows the property's violation with its first rows, by any reading of them
 pub record IsDenied (m : Parts) (loose : Loose) (p : Property) : Type 0 where
   pub with_state : loose.has_state ≡ true → IsDeniedWithState m p loose.rows
   pub inputs_alone : (loose.has_state ≡ false) ⊎ (loose.has_inputs_alone ≡ true) → IsDeniedByInputs m p loose.rows
 
--- why there is no strict stimulus: no choice shows the violation of any property that is asked for, or out of memory
+-- why there is no strict stimulus: no choice shows the violation of any property that is asked for with its first rows, or out of memory
 abbrev pub IsRefused : Parts → Loose → List Property → WitnessError → Type 0
 IsRefused m loose asked (NoViolation place) = ⊥
 IsRefused m loose asked (NoProperty place) = ⊥

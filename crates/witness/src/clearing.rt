@@ -1,6 +1,6 @@
 //! What a violation rests on.
 
-ghost use Rattle.std.specs.Prelude.{◌≡◌, ◌+◌, [], false, IfOk, IfSome, IsTrue, All, None, Some, length, map, replicate, slice_index_or};
+ghost use Rattle.std.specs.Prelude.{◌≡◌, ◌+◌, [], false, IfOk, IfSome, IsTrue, All, None, Some, length, map, replicate, slice_get, slice_index_or};
 ghost use Rattle.graph.specs.Circuits.{variable, IsWatched};
 ghost use Rattle.cones.specs.Marks.{IsKnown};
 ghost use Rattle.cones.specs.Reach.{IsGateTable};
@@ -11,7 +11,6 @@ ghost use Rattle.stimulus.specs.declared.value.Stimulus.TheVariants.{Violated};
 ghost use Rattle.stimulus.specs.Shown.{Shows};
 
 use crate::cleared::Cleared;
-use crate::cutting::nth;
 use crate::resting::{Left, Tables, latch_literals, left_of_time};
 use base::{Refused, Seq, filled_like, push};
 use cones::{GateTable, value_laws};
@@ -164,6 +163,13 @@ fn clear_bad(
         })),
         None => Ok(None),
     }
+}
+
+/// The literal at a position, if there is one.
+fn nth(lits: &[Lit], n: u32) -> Option<Lit>
+    ensures { result ≡ slice_get lits.now n }
+{
+    lits.get(n as usize).copied()
 }
 
 /// The literal that a property of the circuit watches; none of a justice property, or of one that there is not.

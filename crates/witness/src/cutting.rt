@@ -1,20 +1,24 @@
 //! Where a violation is: what follows it is cut off.
 
-ghost use Rattle.std.specs.Prelude.{◌≡◌, ◌≤◌, All, length, slice_get, IfSome};
-ghost use Rattle.graph.specs.Circuits.{variable};
-ghost use Rattle.stimulus.specs.Causes.{IsPlayable};
+ghost use Rattle.std.specs.Prelude.{◌≡◌, ◌≢◌, ◌≤◌, ℕ, All, length, take, IfErr, IfOk, MatchOption};
+ghost use Rattle.base.specs.Witness.{witness};
+ghost use Rattle.graph.specs.declared.circuit.Property.{Property as AProperty};
+ghost use Rattle.graph.specs.Circuits.{HasProperty, IsWatched, variable};
+ghost use Rattle.stimulus.specs.Causes.{HasFitLines};
+ghost use Rattle.witness.specs.Cutting.{EndsFirst, IsNoStart, NeverEnds, NeverShows, SetsLast, ShowsFirst};
 
 use crate::lasso::first_lasso;
 use base::Seq;
 use graph::{Lit, Model, Property};
 use simulate::Replay;
 use std::alloc::Global;
-use stimulus::{JudgeError, check_playable};
+use stimulus::JudgeError;
 
 /// How many times pass up to the first at which the replay sets the literal, that one with it.
 fn times_to_set(replay: &mut Replay<'_>, lit: Lit, lines: &[Seq<bool>]) -> Option<usize>
     requires lengths { All (λ line. length line ≡ length replay.old.circuit.inputs) lines.now }
     requires in_range { variable lit ≤ replay.old.circuit.max_var }
+    ensures { MatchOption result (NeverEnds (SetsLast lit) replay.old.circuit replay.old.state lines.now) (EndsFirst (SetsLast lit) replay.old.circuit replay.old.state lines.now) }
 {
     for (t, line) in lines.iter().enumerate() {
         replay.step(line.as_slice());
@@ -25,7 +29,8 @@ fn times_to_set(replay: &mut Replay<'_>, lit: Lit, lines: &[Seq<bool>]) -> Optio
     None
 }
 
-/// How many times pass up to the first at which a run of these lines sets the literal.
+/// How many times pass up to the first at which a run of these lines sets the literal. What is said holds of each property that
+/// watches the literal.
 fn times_to_bad(
     alloc: Global,
     circuit: &Model,
@@ -34,29 +39,53 @@ fn times_to_bad(
     lines: &[Seq<bool>],
 ) -> Result<Option<usize>, JudgeError>
     requires in_range { variable lit ≤ circuit.now.max_var }
-    requires playable { IsPlayable circuit.now initial.now lines.now }
+    requires fit { HasFitLines circuit.now initial.now lines.now }
+    ensures first { (p : AProperty) → IsWatched circuit.now p lit → IfOk result (λ times. MatchOption times (NeverShows circuit.now p initial.now lines.now) (ShowsFirst circuit.now p initial.now lines.now)) }
+    ensures refused { IfErr result (IsNoStart circuit.now initial.now) }
 {
     let mut replay = Replay::new(alloc, circuit, initial)?;
     Ok(times_to_set(&mut replay, lit, lines))
 }
 
-/// The literal at a position, if there is one.
-pub fn nth(lits: &[Lit], n: u32) -> Option<Lit>
-    ensures { result ≡ slice_get lits.now n }
+/// How many times pass up to the first violation of the property in the run of these lines. The property is there, and the lines
+/// have their lengths.
+fn times_in_run(
+    alloc: Global,
+    circuit: &Model,
+    property: Property,
+    initial: &[bool],
+    lines: &[Seq<bool>],
+) -> Result<Option<usize>, JudgeError>
+    requires there { HasProperty circuit.now property }
+    requires fit { HasFitLines circuit.now initial.now lines.now }
+    ensures first { IfOk result (λ times. MatchOption times (NeverShows circuit.now property initial.now lines.now) (ShowsFirst circuit.now property initial.now lines.now)) }
+    ensures refused { IfErr result (IsNoStart circuit.now initial.now) }
 {
-    lits.get(n as usize).copied()
+    circuit.well_formed();
+    match property {
+        Property::Bad(n) => times_to_bad(alloc, circuit, circuit.bad()[n as usize], initial, lines),
+        Property::Justice(j) => first_lasso(alloc, circuit, j, initial, lines),
+        Property::Output(n) => times_to_bad(
+            alloc,
+            circuit,
+            circuit.outputs()[n as usize],
+            initial,
+            lines,
+        ),
+    }
 }
 
-/// The literal that a property watches, where the circuit has the property.
-fn watched(circuit: &Model, property: Property) -> Option<Lit>
-    ensures { IfSome result (λ a. variable a ≤ circuit.now.max_var) }
+/// The lines before the first of another length.
+fn fit_lines(lines: &[Seq<bool>], long: usize) -> &[Seq<bool>]
+    ensures fit { All (λ line. length line ≡ long) result.now }
+    ensures most { (k : ℕ) → All (λ line. length line ≡ long) (take k lines.now) → take k lines.now ≡ take k result.now }
 {
-    let parts = circuit.parts();
-    match property {
-        Property::Bad(n) => nth(parts.bad.as_slice(), n),
-        Property::Output(n) => nth(parts.outputs.as_slice(), n),
-        Property::Justice(_) => None,
+    for (t, line) in lines.iter().enumerate() {
+        if line.len() != long {
+            return &lines[..t];
+        }
     }
+    lines
 }
 
 /// How many times pass up to the first violation of the property in the run of these lines, where there is one.
@@ -66,15 +95,14 @@ pub fn times_to_violation(
     property: Property,
     initial: &[bool],
     lines: &[Seq<bool>],
-) -> Result<Option<usize>, JudgeError> {
-    if check_playable(circuit.parts(), initial, lines).is_err() {
+) -> Result<Option<usize>, JudgeError>
+    ensures first { IfOk result (λ times. MatchOption times (NeverShows circuit.now property initial.now lines.now) (ShowsFirst circuit.now property initial.now lines.now)) }
+    ensures refused { IfErr result (λ e. e ≢ JudgeError.OutOfMemory witness → NeverShows circuit.now property initial.now lines.now) }
+{
+    let parts = circuit.parts();
+    if !parts.has_property(property) || initial.len() != parts.latches.len() {
         return Ok(None);
     }
-    if let Property::Justice(j) = property {
-        return first_lasso(alloc, circuit, j, initial, lines);
-    }
-    match watched(circuit, property) {
-        Some(lit) => times_to_bad(alloc, circuit, lit, initial, lines),
-        None => Ok(None),
-    }
+    let fit = fit_lines(lines, parts.inputs.len());
+    times_in_run(alloc, circuit, property, initial, fit)
 }

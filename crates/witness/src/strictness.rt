@@ -1,13 +1,14 @@
 //! The strict stimulus of a loose text.
 
-ghost use Rattle.std.specs.Prelude.{◌≡◌, ◌≢◌, ◌∷◌, [], List, Bool, Option, Some, IfOk, IfErr, take};
+ghost use Rattle.std.specs.Prelude.{◌≡◌, ◌≢◌, ◌∷◌, [], ℕ, List, Bool, Option, Some, IfOk, IfErr, take};
 ghost use Rattle.base.specs.Witness.{witness};
 ghost use Rattle.graph.specs.declared.circuit.Property.{Property as AProperty};
 ghost use Rattle.stimulus.specs.Shown.{Shows};
 ghost use Rattle.stimulus.specs.Texts.{property_of};
 ghost use Rattle.stimulus.specs.declared.value.Stimulus.TheVariants.{Violated};
 ghost use Rattle.witness.specs.Completions.{CompleteFirst};
-ghost use Rattle.witness.specs.Strict.{AreAsked, HasValues, IsStrict, IsDenied, IsDeniedByInputs, IsDeniedWithState, IsRefused, ShowsNeither, choice};
+ghost use Rattle.witness.specs.Cutting.{NeverShows};
+ghost use Rattle.witness.specs.Strict.{AreAsked, HasValues, IsStrict, IsDenied, IsDeniedByInputs, IsDeniedWithState, IsRefused, ShowsNeither, ShowsNone};
 
 use crate::completion::{completed, completed_rows};
 use crate::cutting::times_to_violation;
@@ -58,7 +59,9 @@ fn up_to_violation(
     initial: &[bool],
     inputs: Seq<Seq<bool>>,
 ) -> Result<Seq<Seq<bool>>, JudgeError>
-    ensures { (rows : List (List (Option Bool))) → CompleteFirst rows inputs → IfOk result (CompleteFirst rows) }
+    ensures complete { (rows : List (List (Option Bool))) → CompleteFirst rows inputs → IfOk result (CompleteFirst rows) }
+    ensures shows { (k : ℕ) → Shows circuit.now (Violated property initial.now (take k inputs)) → IfOk result (λ lines. Shows circuit.now (Violated property initial.now lines)) }
+    ensures refused { IfErr result (λ e. e ≢ JudgeError.OutOfMemory witness → NeverShows circuit.now property initial.now inputs) }
 {
     match times_to_violation(alloc, circuit, property, initial, inputs.as_slice())? {
         Some(times) => Ok(shortened(inputs, times)),
@@ -68,46 +71,6 @@ fn up_to_violation(
 
 /// The stimulus with this first state and inputs, with that value in place of what doesn't matter, up to the first violation, where
 /// that shows it.
-fn try_cut(
-    alloc: Global,
-    circuit: &Model,
-    property: Property,
-    state: &[Option<bool>],
-    rows: &[Seq<Option<bool>>],
-    other: bool,
-) -> Result<Stimulus, JudgeError>
-    ensures shows { IfOk result (Shows circuit.now) }
-    ensures property { IfOk result (λ s. property_of s ≡ property) }
-    ensures values { IfOk result (HasValues (state.now ∷ rows.now)) }
-    ensures inputs { IfOk result (HasValues rows.now) }
-{
-    let initial = completed(alloc, state, circuit.latches(), other)?;
-    let inputs = completed_rows(alloc, rows, other)?;
-    let inputs = up_to_violation(alloc, circuit, property, initial.as_slice(), inputs)?;
-    judged(alloc, circuit, property, initial, inputs)
-}
-
-/// The same with all inputs, where they show the violation.
-fn try_whole(
-    alloc: Global,
-    circuit: &Model,
-    property: Property,
-    state: &[Option<bool>],
-    rows: &[Seq<Option<bool>>],
-    other: bool,
-) -> Result<Stimulus, JudgeError>
-    ensures shows { IfOk result (Shows circuit.now) }
-    ensures property { IfOk result (λ s. property_of s ≡ property) }
-    ensures values { IfOk result (HasValues (state.now ∷ rows.now)) }
-    ensures inputs { IfOk result (HasValues rows.now) }
-    ensures denied { IfErr result (λ e. e ≢ JudgeError.OutOfMemory witness → Shows circuit.now (choice circuit.now property state.now rows.now other) → ⊥) }
-{
-    let initial = completed(alloc, state, circuit.latches(), other)?;
-    let inputs = completed_rows(alloc, rows, other)?;
-    judged(alloc, circuit, property, initial, inputs)
-}
-
-/// The same up to the first violation, or else with all inputs.
 fn try_values(
     alloc: Global,
     circuit: &Model,
@@ -120,13 +83,12 @@ fn try_values(
     ensures property { IfOk result (λ s. property_of s ≡ property) }
     ensures values { IfOk result (HasValues (state.now ∷ rows.now)) }
     ensures inputs { IfOk result (HasValues rows.now) }
-    ensures denied { IfErr result (λ e. e ≢ JudgeError.OutOfMemory witness → Shows circuit.now (choice circuit.now property state.now rows.now other) → ⊥) }
+    ensures denied { IfErr result (λ e. e ≢ JudgeError.OutOfMemory witness → ShowsNone circuit.now property state.now rows.now other) }
 {
-    match try_cut(alloc, circuit, property, state, rows, other) {
-        Ok(stimulus) => Ok(stimulus),
-        Err(JudgeError::OutOfMemory(refused)) => Err(JudgeError::from(refused)),
-        Err(_) => try_whole(alloc, circuit, property, state, rows, other),
-    }
+    let initial = completed(alloc, state, circuit.latches(), other)?;
+    let lines = completed_rows(alloc, rows, other)?;
+    let inputs = up_to_violation(alloc, circuit, property, initial.as_slice(), lines)?;
+    judged(alloc, circuit, property, initial, inputs)
 }
 
 /// The same with 0 in place of what doesn't matter, or else with 1.
@@ -211,8 +173,8 @@ fn try_property(
 /// The strict stimulus of a loose text: it shows the violation of one of the properties, the first of which this is found, and
 /// it has each value that the text gives, up to the violation. What doesn't matter is first taken as 0 and then as 1, in the first state as the
 /// latch's reset; with the first row as the first state, where that may be, and then with all rows as inputs. What follows the first violation is
-/// cut off. Each try costs two replays and their judging, and of a justice property a map of the states; one that is refused is judged
-/// once more with all lines, and the last refusal is reported: then none of these choices shows a violation.
+/// cut off. Each try costs a replay and a judging, and of a justice property a map of the states. The last refusal is reported: then
+/// no choice shows a violation with its first rows, however many.
 pub fn strict(
     alloc: Global,
     circuit: &Model,
