@@ -11,6 +11,22 @@ use std::collections::BTreeSet;
 /// The greatest variable of a trail.
 const MOST_VARS: u32 = i32::MAX as u32;
 
+/// The zeros, spaces and the end of a line.
+const LINE_BYTES: u64 = 5;
+
+/// The least numbers of more than one, two, .. digits.
+static POWERS: [u32; 9] = [
+    10,
+    100,
+    1_000,
+    10_000,
+    100_000,
+    1_000_000,
+    10_000_000,
+    100_000_000,
+    1_000_000_000,
+];
+
 /// What a derived clause is for.
 #[derive(Clone, Copy, PartialEq, Eq)]
 pub enum Role {
@@ -165,6 +181,29 @@ impl Derivation {
         count
     }
 
+    /// How many bytes the derived clause at a place takes in a text: a line with its id, a goal with the number of its hints.
+    fn length_at(&self, place: usize) -> u64 {
+        let hints = self.hints(place);
+        let length = length_of_ids(hints);
+        match self.role(place) {
+            Role::Goal => length.saturating_add(digits(hints.len().min(u32::MAX as usize) as u32)),
+            Role::Line => {
+                let id = self.id(place);
+                let clause = length_of_literals(self.clause(id)).saturating_add(LINE_BYTES);
+                length.saturating_add(clause).saturating_add(digits(id))
+            }
+        }
+    }
+
+    /// How many bytes its lines and goals take in a text, but for the ends of the goals.
+    pub fn text_length(&self) -> u64 {
+        let mut length: u64 = 0;
+        for place in 0..self.chains.len() {
+            length = length.saturating_add(self.length_at(place));
+        }
+        length
+    }
+
     /// The same clauses by other hints.
     pub fn with_chains(self, chains: Lists<u32>) -> Derivation {
         Derivation {
@@ -217,6 +256,37 @@ impl Derivation {
         kept.reverse();
         Ok(kept)
     }
+}
+
+/// How many digits a number has.
+fn digits(number: u32) -> u64 {
+    let mut digits: u64 = 1;
+    for power in &POWERS {
+        if number >= *power {
+            digits = digits.saturating_add(1);
+        }
+    }
+    digits
+}
+
+/// How many bytes ids take, with a space before each.
+fn length_of_ids(ids: &[u32]) -> u64 {
+    let mut length: u64 = 0;
+    for id in ids {
+        length = length.saturating_add(digits(*id)).saturating_add(1);
+    }
+    length
+}
+
+/// How many bytes literals take, with a space before each.
+fn length_of_literals(literals: &[i32]) -> u64 {
+    let mut length: u64 = 0;
+    for literal in literals {
+        let sign = u64::from(*literal < 0);
+        length = length.saturating_add(digits(literal.unsigned_abs()));
+        length = length.saturating_add(sign).saturating_add(1);
+    }
+    length
 }
 
 /// Wants the variables of the literals.

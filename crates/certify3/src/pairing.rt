@@ -267,8 +267,8 @@ fn paired_once(
     Pairing::new(alloc, derivation, resting)?.paired(alloc, derivation, resting)
 }
 
-/// The derivation with lines in place of what many chains have in common. It looks at all chains as long as more lines come
-/// and the budget lasts.
+/// The derivation with lines in place of what many chains have in common. It looks at all chains as long as the text gets
+/// shorter and the budget lasts.
 pub fn paired(
     alloc: Global,
     derivation: Derivation,
@@ -284,11 +284,10 @@ pub fn paired(
             return Ok(current);
         }
         let next = paired_once(alloc, &current, &mut resting)?;
-        let is_last = next.lines() == current.lines();
-        current = next;
-        if is_last {
+        if next.text_length() >= current.text_length() {
             return Ok(current);
         }
+        current = next;
     }
     Ok(current)
 }
