@@ -1,10 +1,12 @@
 -- What is found of the evidence, and of a certificate.
-use Rattle.std.proofs.Common.{◌≡◌, ℕ, List, ◌++◌, Option, None, Some, Result, Ok, inl, inr, sym, subst}
+use Rattle.std.proofs.Common.{◌≡◌, ℕ, ◌+◌, eqb, true, List, [], ◌∷◌, ◌++◌, Option, None, Some, Result, Ok, inl, inr, sym, subst, length, arith, append-nil}
+use Rattle.std.proofs.lemmas.Bool.{eqb-true}
 use Rattle.base.specs.Devices.{Leaves, Reads}
 use Rattle.graph.specs.declared.circuit.Lit.{Lit}
 use Rattle.graph.specs.declared.circuit.Latch.{Latch}
 use Rattle.graph.specs.declared.circuit.Gate.{Gate}
 use Rattle.graph.specs.declared.parts.Parts.{Parts}
+use Rattle.graph.specs.WellFormed.{IsWellFormed}
 use Rattle.certificate.specs.declared.reader_error.ReaderError.{ReaderError}
 use Rattle.certificate.specs.Streams.{FindsWith}
 use Rattle.extension.specs.Accepted.{Evidence, IsShowable, bad_of, circuit_of, grown_by}
@@ -64,3 +66,20 @@ pub clauses_skipped : (m : Parts) (a : Lit) (ls : List Latch) (gs : List Gate) (
 clauses_skipped m a ls gs r before after held later none one =
     reads_to Skips (IsJudgedFor m a) (clauses_at ls gs) (tt {0}) (Some r) before after held later
     (λ bytes rest e is u. let w = ((clauses_reads ls gs).sound bytes e rest is).1 in skipped_here m a ls gs w.invariant w.proofs e r w.is none) one
+
+-- ---- without latches and gates
+
+none_same : (m : Parts) → m ≡ extended m [] []
+none_same m =
+    let most : m.max_var ≡ m.max_var + 0 + 0 = omega arith in
+    λ i. record m { max_var = most i; latches = sym (append-nil m.latches) i; gates = sym (append-nil m.gates) i }
+
+pub nothing_same : (m : Parts) (ls : List Latch) (gs : List Gate) → true ≡ eqb (length ls) 0 → true ≡ eqb (length gs) 0 → m ≡ extended m ls gs
+nothing_same m [] [] l g = none_same m
+nothing_same m [] (x ∷ gs) l g = absurd (omega (arith, eqb-true (length (x ∷ gs)) 0 (sym g)))
+nothing_same m (x ∷ ls) gs l g = absurd (omega (arith, eqb-true (length (x ∷ ls)) 0 (sym l)))
+
+pub nothing_grown : (m : Parts) (ls : List Latch) (gs : List Gate) → true ≡ eqb (length ls) 0 → true ≡ eqb (length gs) 0 → IsWellFormed m → IsGrown m ls gs
+nothing_grown m [] [] l g formed = record { extends = record { latches = tt; gates = tt }; well_formed = subst IsWellFormed (none_same m) formed }
+nothing_grown m [] (x ∷ gs) l g formed = absurd (omega (arith, eqb-true (length (x ∷ gs)) 0 (sym g)))
+nothing_grown m (x ∷ ls) gs l g formed = absurd (omega (arith, eqb-true (length (x ∷ ls)) 0 (sym l)))

@@ -19,7 +19,7 @@ use crate::sections::{Claims, check_proofs};
 use base::Source;
 use certificate::{Reader, ReaderError, read_clauses};
 use certificate3::{SizesLine, read_gates, read_latches, skip_clauses, skip_proofs};
-use graph::{Lit, Model};
+use graph::{Gate, Latch, Lit, Model};
 use std::alloc::Global;
 
 /// Reads the sections of these clauses, and checks the clauses and them. After the first fault they
@@ -92,6 +92,32 @@ fn refuse_growth<S: Source>(
     }
 }
 
+/// Reads the clauses and the sections behind these latches and gates, and checks them over the circuit that they extend: where there
+/// are none, over the circuit itself, of which no copy is made. After the first fault they are only read.
+fn check_over<S: Source>(
+    alloc: Global,
+    circuit: &Model,
+    bad: Lit,
+    latches: &[Latch],
+    gates: &[Gate],
+    reader: &mut Reader,
+    from: &mut S,
+) -> Result<Option<CheckError>, ReaderError>
+    requires source { S.failed from.old < 2 ^ 64 - 1 }
+    requires bad { IsInRange circuit.now.max_var bad }
+    ensures says { Reads (S.leaves from.old) (S.leaves from.new) (λ ys zs. FindsWith (IsJudgedFor circuit.now bad) (clauses_at latches.now gates.now (reader.old.held ++ ys)) result reader.new.held zs) }
+    ensures device { FailsOnce result Device (S.failed from.old) (S.failed from.new) }
+{
+    circuit.well_formed();
+    if latches.is_empty() && gates.is_empty() {
+        return check_clauses(alloc, circuit, bad, reader, from);
+    }
+    match grow(alloc, circuit, latches, gates) {
+        Ok(extended) => check_clauses(alloc, &extended, bad, reader, from),
+        Err(error) => refuse_growth(alloc, error, reader, from),
+    }
+}
+
 /// Reads all that is behind the property, and checks it for this one of the circuit's literals. After
 /// the first fault it is only read.
 pub fn check_evidence<S: Source>(
@@ -109,8 +135,13 @@ pub fn check_evidence<S: Source>(
     let sizes = reader.line::<SizesLine, S>(alloc, (), from)?;
     let latches = read_latches(alloc, sizes.latches, reader, from)?;
     let gates = read_gates(alloc, sizes.gates, reader, from)?;
-    match grow(alloc, circuit, latches.as_slice(), gates.as_slice()) {
-        Ok(extended) => check_clauses(alloc, &extended, bad, reader, from),
-        Err(error) => refuse_growth(alloc, error, reader, from),
-    }
+    check_over(
+        alloc,
+        circuit,
+        bad,
+        latches.as_slice(),
+        gates.as_slice(),
+        reader,
+        from,
+    )
 }

@@ -1,14 +1,10 @@
-use Rattle.std.proofs.Common.{◌≡◌, ap, arith}
 use Rattle.scan.specs.Reading.{◌>>=◌}
 use Rattle.scan.specs.Lists.{many_at}
-use Rattle.graph.specs.declared.parts.Parts.{Parts}
-use Rattle.extension.specs.Extended.{extended}
 use Rattle.certificate3.specs.Reading.{clauses_at, evidence_at, gate_at, latch_at, sizes_at}
 use Rattle.certificate3.proofs.ChainLaws.{goes_on, same_reads, stops}
 use Rattle.certificate3.proofs.PartLaws.{evidence_is, then_gates, then_latches}
 use Rattle.certificate3.proofs.PieceLaws.{sizes_of_piece}
-use Rattle.checker3.specs.Judged.{IsGrown, IsJudgedFor, IsNoGrowth}
-use Rattle.checker3.proofs.Judging.{clauses_over}
+use Rattle.checker3.specs.Judged.{IsJudgedFor}
 use Rattle.checker3.proofs.evidence.check_evidence.Goals as goal
 
 pub line-requires-clause-line : goal.line-requires-clause-line
@@ -38,39 +34,14 @@ returns-in_err-gates-clause-says g c =
     (goes_on P (many_at latch_at s.latches) (then_gates s) ls _ _ _ _ _ _ _ c.in_ok-latches.ensures.says
     (stops P (many_at gate_at s.gates) (clauses_at ls) c.in_err-gates.field-0.0 _ _ _ _ _ c.from_residual-in_err-gates.ensures.1 c.in_err-gates.ensures.says)))
 
-pub check_clauses-requires-clause-bad : goal.check_clauses-requires-clause-bad
-check_clauses-requires-clause-bad g c =
-    let range = c.requires.bad in
-    let same = ap (λ (p : Parts). p.max_var) c.in-Ok.ensures.grown.0 in
-    omega (arith, range, same)
-
-pub returns-in-Ok-clause-says : goal.returns-in-Ok-clause-says
-returns-in-Ok-clause-says g c =
-    let m = c.args.circuit.now in
-    let a = c.args.bad in
-    let P = IsJudgedFor m a in
-    let s = c.in_ok-sizes.sizes in
-    let ls = c.in_ok-latches.latches in
-    let gs = c.in_ok-gates.gates in
-    let same : c.in-Ok.extended ≡ extended m ls gs = rw (c.as_slice.ensures, c.as_slice-2.ensures) at c.in-Ok.ensures.grown.0 in
-    let grown : IsGrown m ls gs = rw (c.as_slice.ensures, c.as_slice-2.ensures) at c.in-Ok.ensures.grown.1 in
-    same_reads P (λ bytes. sizes_at bytes >>= λ s. then_latches s.0 s.1) evidence_at _ _ _ _ _ evidence_is
-    (goes_on P sizes_at then_latches s _ _ _ _ _ _ _ c.in_ok-sizes.ensures.says
-    (goes_on P (many_at latch_at s.latches) (then_gates s) ls _ _ _ _ _ _ _ c.in_ok-latches.ensures.says
-    (goes_on P (many_at gate_at s.gates) (clauses_at ls) gs _ _ _ _ _ _ _ c.in_ok-gates.ensures.says
-    (clauses_over m c.in-Ok.extended a ls gs _ _ _ _ _ same grown (c.check_clauses.ensures.says ls gs)))))
-
 pub returns-clause-says : goal.returns-clause-says
 returns-clause-says g c =
-    let m = c.args.circuit.now in
-    let a = c.args.bad in
-    let P = IsJudgedFor m a in
+    let P = IsJudgedFor c.args.circuit.now c.args.bad in
     let s = c.in_ok-sizes.sizes in
     let ls = c.in_ok-latches.latches in
     let gs = c.in_ok-gates.gates in
-    let refused : IsNoGrowth m ls gs c.in-Err.error = rw (c.as_slice.ensures, c.as_slice-2.ensures) at c.in-Err.ensures.refused in
     same_reads P (λ bytes. sizes_at bytes >>= λ s. then_latches s.0 s.1) evidence_at _ _ _ _ _ evidence_is
     (goes_on P sizes_at then_latches s _ _ _ _ _ _ _ c.in_ok-sizes.ensures.says
     (goes_on P (many_at latch_at s.latches) (then_gates s) ls _ _ _ _ _ _ _ c.in_ok-latches.ensures.says
     (goes_on P (many_at gate_at s.gates) (clauses_at ls) gs _ _ _ _ _ _ _ c.in_ok-gates.ensures.says
-    (c.refuse_growth.ensures.says m a ls gs refused))))
+    (rw (c.as_slice.ensures, c.as_slice-2.ensures) at c.check_over.ensures.says))))
