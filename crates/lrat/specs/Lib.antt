@@ -3,6 +3,7 @@ pub mod Store
 pub mod Slots
 pub mod Places
 pub mod Inside
+pub mod Found
 pub mod Lines
 pub mod Faults
 pub mod Refusals

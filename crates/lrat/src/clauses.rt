@@ -6,6 +6,7 @@ ghost use Rattle.lrat.specs.Literals.{IsLiteral};
 ghost use Rattle.lrat.specs.Store.{find_in};
 
 use crate::clause::Clause;
+use crate::found_clause::FoundClause;
 use crate::lookup::Lookup;
 use base::{Refused, insert};
 use std::alloc::Global;
@@ -79,9 +80,9 @@ impl Lookup for Clauses {
         self.vars
     }
 
-    fn get(&self, id: u32) -> Option<&[i32]> {
+    fn get(&self, id: u32) -> Option<FoundClause<'_>> {
         match self.by_id.get(&id) {
-            Some(clause) => Some(clause.as_slice()),
+            Some(clause) => Some(FoundClause::Slice(clause.as_slice())),
             None => None,
         }
     }

@@ -1,7 +1,10 @@
 //! Where a proof's check finds the clauses that hints name.
 
 ghost use Rattle.std.specs.Prelude.{◌≡◌, ℕ, ℤ, List, Option, All, IfSome, option_map};
+ghost use Rattle.lrat.specs.Found.{literals_of};
 ghost use Rattle.lrat.specs.Literals.{IsLiteral};
+
+use crate::found_clause::FoundClause;
 
 /// Clauses by their ids, over the variables 1 to `vars`.
 pub trait Lookup {
@@ -16,7 +19,7 @@ pub trait Lookup {
         ensures { result ≡ vars self.now };
 
     /// The clause with this id, if there is one.
-    fn get(&self, id: u32) -> Option<&[i32]>
-        ensures value { option_map (λ c. c.now) result ≡ find self.now id }
-        ensures in_range { IfSome result (λ c. All (IsLiteral (vars self.now)) c.now) };
+    fn get(&self, id: u32) -> Option<FoundClause<'_>>
+        ensures value { option_map literals_of result ≡ find self.now id }
+        ensures in_range { IfSome result (λ c. All (IsLiteral (vars self.now)) (literals_of c)) };
 }

@@ -12,6 +12,7 @@ ghost use Rattle.lrat.specs.Layers.{bare, find_present, AreFresh, IsLiveAt};
 use crate::clause::Clause;
 use crate::clause_row::ClauseRow;
 use crate::formula::Formula;
+use crate::found_clause::FoundClause;
 use crate::lookup::Lookup;
 use crate::row::Row;
 use base::{Refused, push};
@@ -177,9 +178,9 @@ impl Lookup for Stack {
     }
 
     #[inline(always)]
-    fn get(&self, id: u32) -> Option<&[i32]> {
+    fn get(&self, id: u32) -> Option<FoundClause<'_>> {
         match find(&self.row, id) {
-            Some(index) => Some(self.row.clause(index)),
+            Some(index) => Some(FoundClause::Slice(self.row.clause(index))),
             None => None,
         }
     }
