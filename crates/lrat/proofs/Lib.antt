@@ -16,7 +16,6 @@ pub mod Maps
 pub mod Rising
 pub mod Kept
 pub mod Layering
-pub mod Listing
 pub mod Halting
 pub mod Refusing
 pub mod Extending
@@ -25,3 +24,4 @@ pub mod Walked
 pub mod TextLaws
 pub mod ProofLaws
 pub mod PutLaws
+pub mod Rowed

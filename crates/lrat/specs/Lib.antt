@@ -16,7 +16,8 @@ pub mod Halts
 pub mod Proofs
 pub mod Shared
 pub mod Layers
-pub mod Listed
+pub mod Shelves
+pub mod Rows
 pub mod Lemmas
 pub mod Courses
 pub mod Trimming

@@ -1,13 +1,14 @@
 //! Clauses that a refuter takes over.
 
-ghost use Rattle.std.specs.Prelude.{◌≡◌, ◌<◌, ◌+◌, ◌^◌, ◌++◌, ◌∷◌, [], All, OnOk, length};
-ghost use Rattle.lrat.specs.Layers.{AreFresh};
-ghost use Rattle.lrat.specs.Literals.{IsLiteral};
+ghost use Rattle.std.specs.Prelude.{◌≡◌, ◌<◌, ◌≤◌, ◌+◌, ◌*◌, ◌^◌, ◌++◌, ◌∷◌, [], All, IfErr, IfOk, OnOk, get_or, length};
+ghost use Rattle.lrat.specs.Found.{literals_of};
+ghost use Rattle.lrat.specs.Rows.{AreRows, AreRuns, HasNegations, gate_clauses, rows, run_of};
 
 use crate::clause::Clause;
-use crate::place::Place;
-use crate::row::{Row, add_literals};
-use base::{Refused, Seq, push};
+use crate::found_clause::FoundClause;
+use crate::gate_literals::GateLiterals;
+use crate::run::Run;
+use base::{Lists, Refused, Seq, push};
 use std::alloc::Global;
 use std::marker::Model;
 
@@ -21,6 +22,11 @@ pub trait AddClause {
     /// Adds a clause behind the others.
     fn add_clause(&mut self, alloc: Global, clause: &[i32]) -> Result<(), Refused>
         ensures { OnOk result (clauses self.new ≡ clauses self.old ++ clause.now ∷ []) };
+
+    /// Adds the three clauses of an AND gate behind the others.
+    fn add_gate(&mut self, alloc: Global, gate: GateLiterals) -> Result<(), Refused>
+        requires { HasNegations gate }
+        ensures { OnOk result (clauses self.new ≡ clauses self.old ++ gate_clauses gate) };
 }
 
 impl AddClause for Seq<Clause> {
@@ -29,39 +35,38 @@ impl AddClause for Seq<Clause> {
     fn add_clause(&mut self, alloc: Global, clause: &[i32]) -> Result<(), Refused> {
         self.push(Clause::from_slice(alloc, clause)?)
     }
-}
 
-/// The id of the clause that comes behind this number of clauses, where ids are left.
-fn next_id(count: usize) -> u32
-    ensures { count + 1 < 2 ^ 32 → result ≡ count + 1 }
-{
-    if count < u32::MAX as usize {
-        count as u32 + 1
-    } else {
-        u32::MAX
+    fn add_gate(&mut self, alloc: Global, gate: GateLiterals) -> Result<(), Refused> {
+        self.add_clause(alloc, &[-gate.output, gate.left])?;
+        self.add_clause(alloc, &[-gate.output, gate.right])?;
+        self.add_clause(alloc, &[gate.output, -gate.left, -gate.right])
     }
 }
 
-/// Clauses in one flat list, in the form in which a `Refuter` keeps those of a formula: it takes
-/// them over and copies nothing. A clause costs 24 bytes and 4 for each literal. A contract sees the
-/// list of the clauses.
+/// Clauses in the form in which a `Refuter` keeps those of a formula: it takes them over and copies
+/// nothing. A clause costs 16 bytes and 4 for each literal, and an AND gate, which stands for three
+/// clauses, 12 bytes. A contract sees the list of the clauses.
 #[derive(Drop)]
 pub struct ClauseRow {
-    /// the literals of the clauses, one clause after the other
-    literals: Vec<i32>,
-    /// for each clause, where it lies
-    places: Vec<Place>,
+    /// the clauses that were added as such
+    lists: Lists<i32>,
+    /// the gates
+    gates: Vec<GateLiterals>,
+    /// in which order they came: where each run ends, but for the last one
+    runs: Vec<Run>,
+    /// how many lists there are up to the gates of the last run
+    before: usize,
 }
 
 impl Model for ClauseRow {
     ghost use Rattle.std.specs.Prelude.{ℤ, List};
-    ghost use Rattle.lrat.specs.Listed.{AreListed, clauses_at};
+    ghost use Rattle.lrat.specs.Rows.{AreRows, rows};
 
     ghost Value = { List (List ℤ) };
 
-    ghost view = { λ r. clauses_at r.literals.items r.places.items };
+    ghost view = { λ r. rows r.lists r.gates.items r.before r.runs.items 0 0 };
 
-    ghost invariant = { λ r. AreListed r.literals.items r.places.items };
+    ghost invariant = { λ r. AreRows r.lists r.gates.items r.before r.runs.items };
 }
 
 impl ClauseRow {
@@ -70,19 +75,29 @@ impl ClauseRow {
         ensures { result ≡ [] }
     {
         ClauseRow {
-            literals: Vec::new(alloc),
-            places: Vec::new(alloc),
+            lists: Lists::new(alloc),
+            gates: Vec::new(alloc),
+            runs: Vec::new(alloc),
+            before: 0,
         }
     }
 
-    /// The clauses under the ids 1, 2 and so on.
-    pub(crate) fn into_row(self, vars: u32) -> Row
-        requires in_range { All (λ c. All (IsLiteral vars) c) self }
-        requires few { length self < 2 ^ 32 }
-        ensures vars { result.vars ≡ vars }
-        ensures fresh { AreFresh result.slots self }
+    /// How many clauses there are.
+    pub(crate) fn len(&self) -> usize
+        requires few { length self.now < 2 ^ 32 }
+        ensures { result ≡ length self.now }
     {
-        Row::of_places(vars, self.literals, self.places)
+        self.lists.len() + 3 * self.gates.len()
+    }
+
+    /// The clause at the index. It costs the number of runs: one more for each time that clauses came
+    /// and then gates.
+    #[inline]
+    pub(crate) fn clause(&self, index: usize) -> FoundClause<'_>
+        requires { index < length self.now }
+        ensures { literals_of result ≡ get_or self.now index [] }
+    {
+        clause_at(&self.lists, &self.gates, &self.runs, self.before, index)
     }
 }
 
@@ -91,19 +106,82 @@ impl AddClause for ClauseRow {
 
     #[inline(always)]
     fn add_clause(&mut self, _alloc: Global, clause: &[i32]) -> Result<(), Refused> {
-        let start = self.literals.len();
-        let id = next_id(self.places.len());
-        add_literals(&mut self.literals, clause)?;
-        let place = Place {
-            start,
-            len: clause.len(),
-            id,
-            live: true,
-        };
-        if let Err(refused) = push(&mut self.places, place) {
-            self.literals.truncate(start);
-            return Err(refused);
-        }
+        self.lists.push(clause)?;
         Ok(())
     }
+
+    #[inline(always)]
+    fn add_gate(&mut self, _alloc: Global, gate: GateLiterals) -> Result<(), Refused> {
+        if self.before < self.lists.len() {
+            let run = Run {
+                lists: self.before,
+                gates: self.gates.len(),
+            };
+            push(&mut self.runs, run)?;
+            self.before = self.lists.len();
+        }
+        push(&mut self.gates, gate)?;
+        Ok(())
+    }
+}
+
+/// The clause at the index.
+#[inline(always)]
+fn clause_at<'a>(
+    lists: &'a Lists<i32>,
+    gates: &[GateLiterals],
+    runs: &[Run],
+    before: usize,
+    index: usize,
+) -> FoundClause<'a>
+    requires are { AreRows lists.now gates.now before runs.now }
+    requires within { index < length (rows lists.now gates.now before runs.now 0 0) }
+    ensures { literals_of result ≡ get_or (rows lists.now gates.now before runs.now 0 0) index [] }
+{
+    let mut begin = Run { lists: 0, gates: 0 };
+    let mut left = index;
+    for run in runs {
+        match clause_in(lists, gates, begin, *run, left) {
+            Ok(clause) => return clause,
+            Err(later) => left = later,
+        }
+        begin = *run;
+    }
+    let end = Run {
+        lists: before,
+        gates: gates.len(),
+    };
+    match clause_in(lists, gates, begin, end, left) {
+        Ok(clause) => clause,
+        Err(later) => FoundClause::Slice(lists.list(before + later)),
+    }
+}
+
+/// The clause at the index of a run, or how far behind the run it is.
+#[inline(always)]
+fn clause_in<'a>(
+    lists: &'a Lists<i32>,
+    gates: &[GateLiterals],
+    begin: Run,
+    end: Run,
+    index: usize,
+) -> Result<FoundClause<'a>, usize>
+    requires negations { All HasNegations gates.now }
+    requires lists { (begin.lists ≤ end.lists) × (end.lists ≤ length lists.now) }
+    requires gates { (begin.gates ≤ end.gates) × (end.gates ≤ length gates.now) }
+    ensures within { IfOk result (λ c. index < length (run_of lists.now gates.now begin.lists begin.gates end.lists end.gates)) }
+    ensures found { IfOk result (λ c. literals_of c ≡ get_or (run_of lists.now gates.now begin.lists begin.gates end.lists end.gates) index []) }
+    ensures behind { IfErr result (λ later. index ≡ length (run_of lists.now gates.now begin.lists begin.gates end.lists end.gates) + later) }
+{
+    let many = end.lists - begin.lists;
+    if index < many {
+        return Ok(FoundClause::Slice(lists.list(begin.lists + index)));
+    }
+    let behind = index - many;
+    let gate = behind / 3;
+    let many_gates = end.gates - begin.gates;
+    if gate < many_gates {
+        return Ok(gates[begin.gates + gate].clause(behind - 3 * gate));
+    }
+    Err(behind - 3 * many_gates)
 }

@@ -14,14 +14,15 @@ pub struct Place {
     pub live: bool,
 }
 
-/// At which index the id is. It is looked for at `id - 1` first, where it is if no id up to it is
-/// missing, then where it is if none behind it is, and then in time of the logarithm.
+/// At which index the id is, where so many ids come before. It is looked for first where it is if no
+/// other id up to it is missing, then where it is if none behind it is, and then in time of the
+/// logarithm.
 #[inline(always)]
-pub fn position(places: &[Place], id: u32) -> Option<usize>
+pub fn position(places: &[Place], id: u32, before: usize) -> Option<usize>
     requires { IsRising 0 (ids_of places.now) }
     ensures { MatchOption result (Contains (ids_of places.now) id → ⊥) (λ i. (i < length places.now) × (get_or (ids_of places.now) i 0 ≡ id)) }
 {
-    let guess = (id as usize).saturating_sub(1);
+    let guess = (id as usize).saturating_sub(1).saturating_sub(before);
     if guess < places.len() && places[guess].id == id {
         return Some(guess);
     }

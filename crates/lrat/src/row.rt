@@ -1,6 +1,6 @@
 //! Clauses in one flat list, by rising ids.
 
-ghost use Rattle.std.specs.Prelude.{◌≡◌, ◌<◌, ◌++◌, ◌∷◌, [], true, false, All, Contains, MatchOption, OnOk, OnErr, get_or, if◌then◌else◌, is_ok, length, set, take};
+ghost use Rattle.std.specs.Prelude.{◌≡◌, ◌<◌, ◌++◌, ◌∷◌, [], true, false, All, Contains, MatchOption, OnOk, OnErr, get_or, if◌then◌else◌, is_ok, length, set, take, ◌^◌};
 ghost use Rattle.lrat.specs.Literals.{IsLiteral};
 ghost use Rattle.lrat.specs.Places.{kept_at, AreInside};
 ghost use Rattle.lrat.specs.Slots.{IsRising, IsTidied, blank, ids_in, live_slots, live_slots_from};
@@ -67,19 +67,6 @@ impl Row {
         }
     }
 
-    /// The clauses at these places of the list. It takes no memory.
-    pub fn of_places(vars: u32, literals: Vec<i32>, places: Vec<Place>) -> Row
-        requires { AreInside vars literals.items places.items }
-        ensures { result ≡ record { vars = vars; slots = kept_at literals.items places.items } }
-    {
-        Row {
-            vars,
-            places,
-            literals,
-            dead: 0,
-        }
-    }
-
     /// The greatest variable.
     pub fn vars(&self) -> u32
         ensures { result ≡ self.now.vars }
@@ -87,9 +74,15 @@ impl Row {
         self.vars
     }
 
+    /// What asks for memory.
+    pub fn allocator(&self) -> Global {
+        *self.places.allocator()
+    }
+
     /// How many clauses have a place, also those that were taken out and not closed up.
     pub fn len(&self) -> usize
-        ensures { result ≡ length self.now.slots }
+        ensures value { result ≡ length self.now.slots }
+        ensures few { length self.now.slots < 2 ^ 63 }
     {
         self.places.len()
     }
@@ -102,6 +95,28 @@ impl Row {
         ensures ok { OnOk result (self.new.slots ≡ self.old.slots ++ record { id = id; live = true; clause = clause.now } ∷ []) }
         ensures err { OnErr result (self.new ≡ self.old) }
     {
+        self.add_slot(id, true, clause)
+    }
+
+    /// Adds the clause at an index of another row, live or not as it is there.
+    pub fn add_from(&mut self, from: &Row, index: usize) -> Result<(), Refused>
+        requires within { index < length from.now.slots }
+        requires same_vars { from.now.vars ≡ self.old.vars }
+        ensures vars { self.new.vars ≡ self.old.vars }
+        ensures ok { OnOk result (self.new.slots ≡ self.old.slots ++ get_or from.now.slots index blank ∷ []) }
+    {
+        let place = from.places[index];
+        self.add_slot(place.id, place.live, from.clause(index))
+    }
+
+    /// Adds a clause behind the others, live or not. Without memory nothing changes.
+    #[inline(always)]
+    fn add_slot(&mut self, id: u32, live: bool, clause: &[i32]) -> Result<(), Refused>
+        requires { All (IsLiteral self.old.vars) clause.now }
+        ensures vars { self.new.vars ≡ self.old.vars }
+        ensures ok { OnOk result (self.new.slots ≡ self.old.slots ++ record { id = id; live = live; clause = clause.now } ∷ []) }
+        ensures err { OnErr result (self.new ≡ self.old) }
+    {
         let start = self.literals.len();
         add_literals(&mut self.literals, clause)?;
         push(
@@ -110,19 +125,19 @@ impl Row {
                 start,
                 len: clause.len(),
                 id,
-                live: true,
+                live,
             },
         )?;
         Ok(())
     }
 
-    /// At which index the id is: in constant time where no id up to it is missing, or none behind
-    /// it, and else in time of the logarithm.
-    pub fn position(&self, id: u32) -> Option<usize>
+    /// At which index the id is, where so many ids come before: in constant time where no other id up
+    /// to it is missing, or none behind it, and else in time of the logarithm.
+    pub fn position(&self, id: u32, before: usize) -> Option<usize>
         requires { IsRising 0 (ids_in self.now.slots) }
         ensures { MatchOption result (Contains (ids_in self.now.slots) id → ⊥) (λ i. (i < length self.now.slots) × (get_or (ids_in self.now.slots) i 0 ≡ id)) }
     {
-        position(self.places.as_slice(), id)
+        position(self.places.as_slice(), id, before)
     }
 
     /// Whether the clause at the index is live.

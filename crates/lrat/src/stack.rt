@@ -1,20 +1,20 @@
 //! Clauses that many refutations share.
 
-ghost use Rattle.std.specs.Prelude.{◌≡◌, ◌+◌, ◌<◌, ◌^◌, ◌⊎◌, ℕ, true, None, map, length, OnOk, OnErr, IfOk, MatchOption, All, Contains};
+ghost use Rattle.std.specs.Prelude.{◌≡◌, ◌+◌, ◌≤◌, ◌<◌, ◌^◌, ◌⊎◌, ℕ, true, None, map, length, OnOk, OnErr, IfOk, MatchOption, All, Contains};
 ghost use Rattle.std.specs.FinMap as fin;
 ghost use Rattle.lrat.specs.Limits.{IsFormula};
 ghost use Rattle.lrat.specs.Literals.{IsLiteral};
 ghost use Rattle.lrat.specs.Proofs.{numbered_from};
 ghost use Rattle.lrat.specs.Shared.{base_of, unit_clauses};
 ghost use Rattle.lrat.specs.Slots.{IsRising, ids_in, live_at, live_of, revived};
-ghost use Rattle.lrat.specs.Layers.{bare, find_present, AreFresh, IsLiveAt};
+ghost use Rattle.lrat.specs.Layers.{bare, find_present, IsLiveAt};
 
 use crate::clause::Clause;
-use crate::clause_row::ClauseRow;
+use crate::clause_row::{AddClause, ClauseRow};
 use crate::formula::Formula;
 use crate::found_clause::FoundClause;
 use crate::lookup::Lookup;
-use crate::row::Row;
+use crate::shelf::Shelf;
 use base::{Refused, push};
 use std::alloc::Global;
 use std::marker::Model;
@@ -26,7 +26,7 @@ use std::marker::Model;
 #[derive(Drop)]
 pub struct Stack {
     /// the shared clauses, and then the refutation's own
-    row: Row,
+    shelf: Shelf,
     /// how many clauses are shared
     mark: u32,
     /// the greatest id that was ever present when they were shared
@@ -39,14 +39,15 @@ pub struct Stack {
 
 impl Model for Stack {
     ghost use Rattle.lrat.specs.Layers.{Layers, layers_code, layers_of, AreLayered};
+    ghost use Rattle.lrat.specs.Shelves.{AreLoose};
 
     ghost Value = { Layers };
 
     ghost coded = { layers_code };
 
-    ghost view = { λ s. layers_of s.row s.mark s.shared_top s.top };
+    ghost view = { λ s. layers_of s.shelf.row s.mark s.shared_top s.top };
 
-    ghost invariant = { λ s. AreLayered s.row.slots s.mark s.shared_top s.hidden.items s.top };
+    ghost invariant = { λ s. AreLayered s.shelf.row.slots s.mark s.shared_top s.hidden.items s.top × AreLoose s.shelf.given s.mark s.hidden.items };
 }
 
 impl Stack {
@@ -55,16 +56,8 @@ impl Stack {
         requires { IsFormula formula.now }
         ensures { IfOk result (λ s. s ≡ bare (base_of formula.now)) }
     {
-        let shared = formula.clauses.as_slice();
-        let row = number(alloc, formula.vars, shared)?;
-        let mark = shared.len() as u32;
-        Ok(Stack {
-            row,
-            mark,
-            shared_top: mark,
-            hidden: Vec::new(alloc),
-            top: mark,
-        })
+        let clauses = listed(alloc, formula.clauses.as_slice())?;
+        Ok(Stack::over(alloc, formula.vars, clauses))
     }
 
     /// These clauses, shared, under the ids 1, 2 and so on. It takes no memory.
@@ -72,10 +65,10 @@ impl Stack {
         requires { IsFormula (record { vars = vars; clauses = clauses }) }
         ensures { result ≡ bare (base_of (record { vars = vars; clauses = clauses })) }
     {
-        let row = clauses.into_row(vars);
-        let mark = row.len() as u32;
+        let shelf = Shelf::over(alloc, vars, clauses);
+        let mark = shelf.given() as u32;
         Stack {
-            row,
+            shelf,
             mark,
             shared_top: mark,
             hidden: Vec::new(alloc),
@@ -105,7 +98,7 @@ impl Stack {
         ensures ok { OnOk result (self.new ≡ record { base = self.old.base; present = fin.insert self.old.present id clause.now; top = id }) }
         ensures err { OnErr result (self.new ≡ self.old) }
     {
-        self.row.add(id, clause)?;
+        self.shelf.add(id, clause)?;
         self.top = id;
         Ok(())
     }
@@ -132,17 +125,18 @@ impl Stack {
         ensures ok { OnOk result (self.new ≡ record { base = self.old.base; present = fin.remove self.old.present id; top = self.old.top }) }
         ensures err { OnErr result (self.new ≡ self.old) }
     {
-        let Some(index) = find(&self.row, id) else {
+        let Some(index) = find(&self.shelf, id) else {
             return Ok(false);
         };
+        self.shelf.loosen(index)?;
         let mark = self.mark as usize;
         if index < mark {
             push(&mut self.hidden, index as u32)?;
-            self.row.mark(index, false);
+            self.shelf.mark(index, false);
             return Ok(true);
         }
-        self.row.drop_at(index);
-        self.row.tidy(mark);
+        self.shelf.drop_at(index);
+        self.shelf.tidy(mark);
         Ok(true)
     }
 
@@ -151,9 +145,9 @@ impl Stack {
     pub fn share(&mut self)
         ensures { self.new ≡ bare (record { vars = self.old.base.vars; present = self.old.present; top = self.old.top }) }
     {
-        self.row.compact();
+        self.shelf.compact();
         self.hidden.clear();
-        self.mark = self.row.len() as u32;
+        self.mark = self.shelf.len() as u32;
         self.shared_top = self.top;
     }
 
@@ -161,8 +155,8 @@ impl Stack {
     pub fn rewind(&mut self)
         ensures { self.new ≡ bare self.old.base }
     {
-        self.row.truncate(self.mark as usize);
-        revive(&mut self.row, self.hidden.as_slice());
+        self.shelf.truncate(self.mark as usize);
+        revive(&mut self.shelf, self.hidden.as_slice());
         self.hidden.clear();
         self.top = self.shared_top;
     }
@@ -174,55 +168,54 @@ impl Lookup for Stack {
     ghost find = { find_present };
 
     fn vars(&self) -> u32 {
-        self.row.vars()
+        self.shelf.vars()
     }
 
     #[inline(always)]
     fn get(&self, id: u32) -> Option<FoundClause<'_>> {
-        match find(&self.row, id) {
-            Some(index) => Some(FoundClause::Slice(self.row.clause(index))),
+        match find(&self.shelf, id) {
+            Some(index) => Some(self.shelf.clause(index)),
             None => None,
         }
     }
 }
 
-/// The clauses under the ids 1, 2 and so on.
-fn number(alloc: Global, vars: u32, formula: &[Clause]) -> Result<Row, Refused>
-    requires are_literals { All (λ c. All (IsLiteral vars) c) formula.now }
-    requires few { length formula.now < 2 ^ 32 }
-    ensures vars { IfOk result (λ r. r.vars ≡ vars) }
-    ensures fresh { IfOk result (λ r. AreFresh r.slots formula.now) }
+/// The formula's clauses in a row.
+fn listed(alloc: Global, formula: &[Clause]) -> Result<ClauseRow, Refused>
+    ensures { IfOk result (λ r. r ≡ formula.now) }
 {
-    let mut row = Row::new(alloc, vars);
-    for (i, clause) in formula.iter().enumerate() {
-        row.add(i as u32 + 1, clause.as_slice())?;
+    let mut row = ClauseRow::new(alloc);
+    for clause in formula {
+        row.add_clause(alloc, clause.as_slice())?;
     }
     Ok(row)
 }
 
 /// At which index the live clause with this id is.
 #[inline(always)]
-fn find(row: &Row, id: u32) -> Option<usize>
-    requires { IsRising 0 (ids_in row.now.slots) }
-    ensures { MatchOption result (fin.get (live_of row.now.slots) id ≡ None) (IsLiveAt row.now.slots id) }
+fn find(shelf: &Shelf, id: u32) -> Option<usize>
+    requires { IsRising 0 (ids_in shelf.now.row.slots) }
+    ensures { MatchOption result (fin.get (live_of shelf.now.row.slots) id ≡ None) (IsLiveAt shelf.now.row.slots id) }
 {
-    let Some(index) = row.position(id) else {
+    let Some(index) = shelf.position(id) else {
         return None;
     };
-    if !row.is_live(index) {
+    if !shelf.is_live(index) {
         return None;
     }
     Some(index)
 }
 
 /// Makes the clauses at these indices live again.
-fn revive(row: &mut Row, indices: &[u32])
-    requires { All (λ i. i < length row.old.slots) indices.now }
-    ensures vars { row.new.vars ≡ row.old.vars }
-    ensures same { map revived row.new.slots ≡ map revived row.old.slots }
-    ensures live { (i : ℕ) → live_at row.old.slots i ≡ true ⊎ Contains indices.now i → live_at row.new.slots i ≡ true }
+fn revive(shelf: &mut Shelf, indices: &[u32])
+    requires within { All (λ i. i < length shelf.old.row.slots) indices.now }
+    requires loose { All (λ i. shelf.old.given ≤ i) indices.now }
+    ensures given { shelf.new.given ≡ shelf.old.given }
+    ensures vars { shelf.new.row.vars ≡ shelf.old.row.vars }
+    ensures same { map revived shelf.new.row.slots ≡ map revived shelf.old.row.slots }
+    ensures live { (i : ℕ) → live_at shelf.old.row.slots i ≡ true ⊎ Contains indices.now i → live_at shelf.new.row.slots i ≡ true }
 {
     for index in indices {
-        row.mark(*index as usize, true);
+        shelf.mark(*index as usize, true);
     }
 }
