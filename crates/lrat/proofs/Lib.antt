@@ -25,3 +25,4 @@ pub mod TextLaws
 pub mod ProofLaws
 pub mod PutLaws
 pub mod Rowed
+pub mod Shelved

@@ -26,17 +26,17 @@ drop_all (l ∷ ls) xs = drop_all ls xs
 pub kept_unchanged : (n : ℕ) (ls xs : List ℤ) (ps : List Place) → AreInside n ls ps → kept_at (ls ++ xs) ps ≡ kept_at ls ps
 kept_unchanged n ls xs ps are = kept_same ls xs ps are.inside
 
-pub kept_pushed : (ls xs : List ℤ) (ps : List Place) (id : ℕ) → All (λ (p : Place). p.start + p.len ≤ length ls) ps → kept_at (ls ++ xs) (ps ++ record { start = length ls; len = length xs; id = id; live = true } ∷ []) ≡ kept_at ls ps ++ record { id = id; live = true; clause = xs } ∷ []
-kept_pushed ls xs ps id inside =
+pub kept_pushed : (ls xs : List ℤ) (ps : List Place) (id : ℕ) (live : Bool) → All (λ (p : Place). p.start + p.len ≤ length ls) ps → kept_at (ls ++ xs) (ps ++ record { start = length ls; len = length xs; id = id; live = live } ∷ []) ≡ kept_at ls ps ++ record { id = id; live = live; clause = xs } ∷ []
+kept_pushed ls xs ps id live inside =
     let e = kept_same ls xs ps inside in
     let f : take (length xs) (drop (length ls) (ls ++ xs)) ≡ xs = ap (take (length xs)) (drop_all ls xs) ∙ take_all (length xs) xs (omega arith) in
-    let p : Place = record { start = length ls; len = length xs; id = id; live = true } in
+    let p : Place = record { start = length ls; len = length xs; id = id; live = live } in
     map-append (kept_of (ls ++ xs)) ps (p ∷ [])
     ∙ ap (λ ks. ks ++ kept_of (ls ++ xs) p ∷ []) e
-    ∙ ap (λ c. kept_at ls ps ++ record { id = id; live = true; clause = c } ∷ []) f
+    ∙ ap (λ c. kept_at ls ps ++ record { id = id; live = live; clause = c } ∷ []) f
 
-pub kept_push : (n : ℕ) (ls xs : List ℤ) (ps : List Place) (id : ℕ) → AreInside n ls ps → kept_at (ls ++ xs) (ps ++ record { start = length ls; len = length xs; id = id; live = true } ∷ []) ≡ kept_at ls ps ++ record { id = id; live = true; clause = xs } ∷ []
-kept_push n ls xs ps id are = kept_pushed ls xs ps id are.inside
+pub kept_push : (n : ℕ) (ls xs : List ℤ) (ps : List Place) (id : ℕ) (live : Bool) → AreInside n ls ps → kept_at (ls ++ xs) (ps ++ record { start = length ls; len = length xs; id = id; live = live } ∷ []) ≡ kept_at ls ps ++ record { id = id; live = live; clause = xs } ∷ []
+kept_push n ls xs ps id live are = kept_pushed ls xs ps id live are.inside
 
 -- the clause of a place
 pub kept_here : (ls : List ℤ) (ps : List Place) (i : ℕ) (p : Place) → i < length ps → p ≡ get_or ps i p → get_or (kept_at ls ps) i blank ≡ kept_of ls p
@@ -66,9 +66,9 @@ kept_short n ls ps i p lt at are =
 
 -- ---- what stays of the layout
 
-pub inside_push : (n : ℕ) (ls xs : List ℤ) (ps : List Place) (id : ℕ) → All (IsLiteral n) xs → AreInside n ls ps → AreInside n (ls ++ xs) (ps ++ record { start = length ls; len = length xs; id = id; live = true } ∷ [])
-inside_push n ls xs ps id lits are =
-    let p : Place = record { start = length ls; len = length xs; id = id; live = true } in
+pub inside_push : (n : ℕ) (ls xs : List ℤ) (ps : List Place) (id : ℕ) (live : Bool) → All (IsLiteral n) xs → AreInside n ls ps → AreInside n (ls ++ xs) (ps ++ record { start = length ls; len = length xs; id = id; live = live } ∷ [])
+inside_push n ls xs ps id live lits are =
+    let p : Place = record { start = length ls; len = length xs; id = id; live = live } in
     record {
       inside = All-push (λ (q : Place). q.start + q.len ≤ length (ls ++ xs)) ps p (λ k d lt. let le = are.inside k d lt in omega (arith, length-append ls xs)) (omega (arith, length-append ls xs));
       in_order = in_order_push 0 (length ls) ps p are.in_order are.inside (omega arith) (omega arith);

@@ -135,7 +135,8 @@ impl Row {
     /// to it is missing, or none behind it, and else in time of the logarithm.
     pub fn position(&self, id: u32, before: usize) -> Option<usize>
         requires { IsRising 0 (ids_in self.now.slots) }
-        ensures { MatchOption result (Contains (ids_in self.now.slots) id → ⊥) (λ i. (i < length self.now.slots) × (get_or (ids_in self.now.slots) i 0 ≡ id)) }
+        ensures value { MatchOption result (Contains (ids_in self.now.slots) id → ⊥) (λ i. (i < length self.now.slots) × (get_or (ids_in self.now.slots) i 0 ≡ id)) }
+        ensures few { length self.now.slots < 2 ^ 63 }
     {
         position(self.places.as_slice(), id, before)
     }

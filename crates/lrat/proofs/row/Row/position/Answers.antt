@@ -9,8 +9,8 @@ use Rattle.lrat.proofs.row.Row.position.Goals as goal
 pub position-requires : goal.position-requires
 position-requires c = rw c.as_slice.ensures.value (subst (IsRising 0) (ids_kept c.self.inside.literals.items c.self.inside.places.items) (rw (← c.self.view_is) at c.requires))
 
-pub returns : goal.returns
-returns c =
+pub returns-clause-value : goal.returns-clause-value
+returns-clause-value c =
     let ls : List ℤ = c.self.inside.literals.items in
     let ps : List Place = c.self.inside.places.items in
     let a = rw c.as_slice.ensures.value at c.position.ensures in
