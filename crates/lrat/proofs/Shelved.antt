@@ -2,10 +2,10 @@
 use Rattle.std.proofs.Common.{◌≡◌, ℕ, zero, suc, ◌+◌, ◌-◌, ◌<◌, ◌≤◌, ◌⊎◌, inl, inr, true, List, [], ◌∷◌, ◌++◌, ℤ, take, drop, length, map, get_or, set, refl, sym, ◌∙◌, ap, subst, arith, All, Contains}
 use Rattle.std.proofs.Math.Seq.{take-append-add, drop-append-add}
 use Rattle.std.proofs.lemmas.List.{append_assoc, map-append, length-append, length-map, length-take-le, take-append-le, take_all, take_more, drop_all, get_or-map, get_or_append_left, get_or-append_right, set-append_right}
-use Rattle.std.proofs.lemmas.List.Elements.{All-nil, All-cons, All-contains, All-get_or, Contains-append_cases, filter-append}
+use Rattle.std.proofs.lemmas.List.Elements.{All-nil, All-cons, All-push, All-contains, All-get_or, Contains-append_cases, filter-append}
 use Rattle.std.specs.List.{filter}
 use Rattle.lrat.specs.Layers.{AreFresh}
-use Rattle.lrat.specs.Shelves.{slots_from}
+use Rattle.lrat.specs.Shelves.{slots_from, AreLoose}
 use Rattle.lrat.specs.Slots.{Row, Slot, blank, ids_in, live_slots, live_slots_from, IsRising, IsTidied}
 use Rattle.lrat.proofs.Rising.{rising_above}
 use Rattle.lrat.proofs.Layering.{fresh_none, fresh_next}
@@ -136,3 +136,14 @@ zero_lacks a xs r has = let lt = rising_above a xs has.0 0 r has.1 in omega (ari
 
 pub no_zero : (ss : List Slot) → IsRising 0 (ids_in ss) → Contains (ids_in ss) 0 → ⊥
 no_zero ss r has = zero_lacks 0 (ids_in ss) r has
+
+-- ---- fewer stay as they are
+
+pub loosened : (g h mark : ℕ) (hidden : List ℕ) → h ≤ g → AreLoose g mark hidden → AreLoose h mark hidden
+loosened g h mark hidden le old = record {
+  shared = let e = old.shared in omega arith;
+  loose = λ k d lt. let e = old.loose k d lt in omega arith;
+}
+
+pub loosened_more : (h mark : ℕ) (hidden : List ℕ) (i : ℕ) → h ≤ i → AreLoose h mark hidden → AreLoose h mark (hidden ++ i ∷ [])
+loosened_more h mark hidden i le old = record { shared = old.shared; loose = All-push (λ k. h ≤ k) hidden i old.loose le }

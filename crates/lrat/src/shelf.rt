@@ -186,6 +186,7 @@ impl Shelf {
     /// memory, and costs the places and the literals behind the formula's.
     pub fn compact(&mut self)
         ensures given { self.new.given ≡ self.old.given }
+        ensures within { self.new.given ≤ length self.new.row.slots }
         ensures row { self.new.row ≡ record { vars = self.old.row.vars; slots = live_slots self.old.row.slots } }
     {
         self.row.compact();

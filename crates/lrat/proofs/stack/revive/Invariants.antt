@@ -4,7 +4,8 @@ use Rattle.lrat.proofs.stack.revive.Given as goal
 
 abbrev pub invariant-loop-index : goal.invariant-loop-index
 invariant-loop-index l = record {
-  vars : l.row.vars ≡ l.initial.row.vars;
-  same : map revived l.row.slots ≡ map revived l.initial.row.slots;
-  live : (i : ℕ) → live_at l.initial.row.slots i ≡ true ⊎ Contains (take l.index-index l.indices) i → live_at l.row.slots i ≡ true;
+  given : l.shelf.given ≡ l.initial.shelf.given;
+  vars : l.shelf.row.vars ≡ l.initial.shelf.row.vars;
+  same : map revived l.shelf.row.slots ≡ map revived l.initial.shelf.row.slots;
+  live : (i : ℕ) → live_at l.initial.shelf.row.slots i ≡ true ⊎ Contains (take l.index-index l.indices) i → live_at l.shelf.row.slots i ≡ true;
 }

@@ -1,14 +1,23 @@
-use Rattle.std.proofs.Common.{◌≡◌, ◌∙◌, ap, length}
-use Rattle.std.specs.FinMap as fin
-use Rattle.lrat.specs.Layers.{bare}
-use Rattle.lrat.specs.Proofs.{numbered_from}
-use Rattle.lrat.proofs.Layering.{fresh_layers}
+use Rattle.std.proofs.Common.{◌≡◌, ◌∙◌, ◌≤◌, length, List, ℤ, arith}
+use Rattle.std.proofs.lemmas.List.Elements.{All-nil}
+use Rattle.lrat.specs.Layers.{AreLayered}
+use Rattle.lrat.specs.Shelves.{slots_from}
+use Rattle.lrat.proofs.Layering.{fresh_layers, fresh_layered}
+use Rattle.lrat.proofs.Shelved.{fresh_slots}
 use Rattle.lrat.proofs.stack.Stack.over.Goals as goal
+
+pub invariant_of-result : goal.invariant_of-result
+invariant_of-result c =
+    let cs : List (List ℤ) = c.args.clauses in
+    let many : c.given-mark.result ≡ length cs = c.given-mark.ensures.value ∙ c.over-shelf.ensures.given in
+    let layered : AreLayered (slots_from 1 cs) (length cs) (length cs) c.new.result.items (length cs) = fresh_layered (slots_from 1 cs) cs c.new.result.items (fresh_slots cs) c.new.ensures.items in
+    (
+      rw (many, c.over-shelf.ensures.row) layered,
+      record { shared = omega (arith, many, c.over-shelf.ensures.given); loose = rw c.new.ensures.items (All-nil (λ i. c.over-shelf.result.given ≤ i)) },
+    )
 
 pub returns : goal.returns
 returns c =
-    let fresh = c.into_row-row.ensures.fresh in
-    let many : c.len-mark.result ≡ length c.args.clauses = c.len-mark.ensures ∙ fresh.number in
-    rw many
-    (fresh_layers c.into_row-row.result c.args.clauses fresh
-    ∙ ap (λ v. bare (record { vars = v; present = numbered_from 1 c.args.clauses fin.empty; top = length c.args.clauses })) c.into_row-row.ensures.vars)
+    let cs : List (List ℤ) = c.args.clauses in
+    let many : c.given-mark.result ≡ length cs = c.given-mark.ensures.value ∙ c.over-shelf.ensures.given in
+    rw (many, c.over-shelf.ensures.row) (fresh_layers (record { vars = c.args.vars; slots = slots_from 1 cs }) cs (fresh_slots cs))
