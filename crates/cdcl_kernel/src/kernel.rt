@@ -20,7 +20,7 @@ use crate::store::Store;
 use crate::values::values_of;
 use crate::verdict::{assumed_part, opposed_pair};
 use base::copied;
-use lrat::{Fault, Lookup, Trail, derive_with};
+use lrat::{Fault, Trail, derive_with};
 use solver::{Part, SatError, Taken, are_true, fits_gates};
 use std::alloc::Global;
 use std::marker::Model;
@@ -103,7 +103,7 @@ impl Kernel {
         ensures value { option_map (λ c. c.now) result ≡ find_in self.now.kept id }
         ensures in_range { IfSome result (λ c. All (IsLiteral self.now.vars) c.now) }
     {
-        self.store.get(id)
+        self.store.clause(id)
     }
 
     /// Where the clause with this id comes from.

@@ -1,6 +1,6 @@
 //! Clauses in one flat list, by their ids: 1, 2 and so on.
 
-ghost use Rattle.std.specs.Prelude.{IsTrue, ◌↔◌, MatchOption, ◌≡◌, ◌≤◌, ◌+◌, ◌++◌, ◌∷◌, [], All, OnOk, OnErr, IfErr, length};
+ghost use Rattle.std.specs.Prelude.{IsTrue, ◌↔◌, MatchOption, ◌≡◌, ◌≤◌, ◌+◌, ◌++◌, ◌∷◌, [], All, OnOk, OnErr, IfErr, IfSome, length, option_map};
 ghost use Rattle.lrat.specs.Literals.{IsLiteral};
 ghost use Rattle.cdcl_kernel.specs.Forgotten.{Forgets};
 ghost use Rattle.cdcl_kernel.specs.Kept.{find_in, origin_in, without, added};
@@ -13,7 +13,7 @@ use crate::clause_ref::{ClauseRef, close_up};
 use crate::origin::Origin;
 use crate::values::satisfies;
 use base::{extend, push, reserve_one};
-use lrat::Lookup;
+use lrat::{FoundClause, Lookup};
 use solver::{SatError, Taken};
 use std::alloc::Global;
 use std::marker::Model;
@@ -180,10 +180,30 @@ impl Store {
     fn is_satisfied(&self, values: &[bool], id: u32) -> bool
         ensures { IsTrue result ↔ SatisfiesOf self.now.kept values.now id }
     {
-        match self.get(id) {
+        match self.clause(id) {
             Some(clause) => satisfies(values, clause),
             None => false,
         }
+    }
+
+    /// The clause with this id, where it was not taken out.
+    #[inline]
+    pub fn clause(&self, id: u32) -> Option<&[i32]>
+        ensures value { option_map (λ c. c.now) result ≡ find_in self.now.kept id }
+        ensures in_range { IfSome result (λ c. All (IsLiteral self.now.vars) c.now) }
+    {
+        let index = id as usize;
+        if index == 0 || index > self.clause_refs.len() {
+            return None;
+        }
+        let clause_ref = self.clause_refs[index - 1];
+        if clause_ref.len == 0 {
+            return match self.origins[index - 1] {
+                Origin::Removed => None,
+                _ => Some(&self.literals[..0]),
+            };
+        }
+        Some(&self.literals[clause_ref.start..clause_ref.start + clause_ref.len])
     }
 
     /// Where the clause with this id comes from.
@@ -209,18 +229,10 @@ impl Lookup for Store {
     }
 
     #[inline]
-    fn get(&self, id: u32) -> Option<&[i32]> {
-        let index = id as usize;
-        if index == 0 || index > self.clause_refs.len() {
-            return None;
+    fn get(&self, id: u32) -> Option<FoundClause<'_>> {
+        match self.clause(id) {
+            Some(clause) => Some(FoundClause::Slice(clause)),
+            None => None,
         }
-        let clause_ref = self.clause_refs[index - 1];
-        if clause_ref.len == 0 {
-            return match self.origins[index - 1] {
-                Origin::Removed => None,
-                _ => Some(&self.literals[..0]),
-            };
-        }
-        Some(&self.literals[clause_ref.start..clause_ref.start + clause_ref.len])
     }
 }

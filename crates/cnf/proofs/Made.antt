@@ -1,11 +1,16 @@
 -- Lists that are made step by step.
-use Rattle.std.proofs.Common.{◌≡◌, ℕ, suc, ◌+◌, ◌-◌, ◌<◌, ◌≤◌, arith, ℤ, List, [], ◌∷◌, ◌++◌, append_assoc, refl, sym, ◌∙◌, ap, map, take, length, get_or}
+use Rattle.std.proofs.Common.{◌≡◌, ℕ, zero, suc, ◌+◌, ◌-◌, ◌<◌, ◌≤◌, ◌^◌, ◌==◌, if◌then◌else◌, Bool, true, false, not, arith, ℤ, pos, neg_ℤ, unsigned_abs, List, [], ◌∷◌, ◌++◌, append_assoc, refl, sym, ◌∙◌, ap, map, take, length, get_or}
 use Rattle.std.proofs.lemmas.List.{take_more, map-append}
 use Rattle.std.specs.Prelude.{flat_map}
 use Rattle.graph.specs.declared.circuit.Gate.{Gate}
+use Rattle.graph.specs.declared.circuit.Lit.{Lit}
 use Rattle.graph.specs.declared.circuit.Latch.{Latch}
 use Rattle.graph.specs.declared.parts.Parts.{Parts}
-use Rattle.cnf.specs.Clauses.{literal, denial, gate_clauses, time_clauses}
+use Rattle.graph.specs.Circuits.{variable}
+use Rattle.lrat.specs.Rows.{and_clauses}
+use Rattle.lrat.proofs.Proper.{neg_neg}
+use Rattle.cnf.specs.Clauses.{signed, is_negated, literal, denial, gate_clauses, time_clauses}
+use Rattle.cnf.specs.Formulas.{IsInRange}
 use Rattle.cnf.specs.Unrolled.{join_clauses, times_from}
 
 -- a list of what is made of each item of another, by one item more
@@ -16,16 +21,33 @@ map_more f xs i d old us vs y i_in before more is =
     ∙ ap (λ zs. old ++ zs) (sym (map-append f (take i xs) (get_or xs i d ∷ [])))
     ∙ ap (λ zs. old ++ map f zs) (sym (take_more xs i d i_in))
 
-three_more : {X : Type 0} (old a b c : List X) (x y z : X) → a ≡ old ++ x ∷ [] → b ≡ a ++ y ∷ [] → c ≡ b ++ z ∷ [] → c ≡ old ++ x ∷ y ∷ z ∷ []
-three_more old a b c x y z p q r = r ∙ ap (λ u. u ++ z ∷ []) (q ∙ ap (λ u. u ++ y ∷ []) p) ∙ simp append_assoc
+signed_not : (b : Bool) (v : ℕ) → signed (not b) v ≡ neg_ℤ (signed b v)
+signed_not true v = sym (neg_neg (pos v))
+signed_not false v = refl
+
+denied : (c b : Bool) (u v : ℕ) → (if c then signed b u else signed (not b) v) ≡ neg_ℤ (if c then signed (not b) u else signed b v)
+denied true b u v = sym (neg_neg (signed b u)) ∙ ap neg_ℤ (sym (signed_not b u))
+denied false b u v = signed_not b v
+
+denial_is : (n o : ℕ) (a : Lit) → denial n o a ≡ neg_ℤ (literal n o a)
+denial_is n o a = denied (variable a == 0) (is_negated a) (o + n + 1) (o + variable a)
+
+signed_abs : (b : Bool) (v : ℕ) → unsigned_abs (signed b v) ≡ v
+signed_abs true zero = refl
+signed_abs true (suc v) = refl
+signed_abs false v = refl
+
+small : (c b d : Bool) (u v : ℕ) → u ≤ 2147483647 → v ≤ 2147483647 → unsigned_abs (if c then signed b u else signed d v) ≤ 2147483647
+small true b d u v le lv = rw signed_abs le
+small false b d u v le lv = rw signed_abs lv
+
+-- a literal has a negation
+pub literal_small : (n o : ℕ) (a : Lit) → o + n + 1 < 2 ^ 31 → IsInRange n a → unsigned_abs (literal n o a) ≤ 2147483647
+literal_small n o a fits range = small (variable a == 0) (not (is_negated a)) (is_negated a) (o + n + 1) (o + variable a) (omega arith) (omega arith)
 
 -- the three clauses of a gate
-pub gate_made : (n o : ℕ) (g : Gate) (old a b c : List (List ℤ)) (x1 y1 x2 z2 x3 y3 z3 : ℤ) →
-    a ≡ old ++ (x1 ∷ y1 ∷ []) ∷ [] → b ≡ a ++ (x2 ∷ z2 ∷ []) ∷ [] → c ≡ b ++ (x3 ∷ y3 ∷ z3 ∷ []) ∷ [] →
-    x1 ≡ denial n o g.lhs → y1 ≡ literal n o g.rhs0 → x2 ≡ denial n o g.lhs → z2 ≡ literal n o g.rhs1 →
-    x3 ≡ literal n o g.lhs → y3 ≡ denial n o g.rhs0 → z3 ≡ denial n o g.rhs1 → c ≡ old ++ gate_clauses n o g
-gate_made n o g old a b c x1 y1 x2 z2 x3 y3 z3 p q r e1 f1 e2 f2 e3 f3 g3 =
-    three_more old a b c (x1 ∷ y1 ∷ []) (x2 ∷ z2 ∷ []) (x3 ∷ y3 ∷ z3 ∷ []) p q r ∙ rw (e1, f1, e2, f2, e3, f3, g3) refl
+pub gate_made : (n o : ℕ) (g : Gate) → and_clauses (record { output = literal n o g.lhs; left = literal n o g.rhs0; right = literal n o g.rhs1 }) ≡ gate_clauses n o g
+gate_made n o g = rw (← denial_is n o g.lhs, ← denial_is n o g.rhs0, ← denial_is n o g.rhs1) refl
 
 -- the two clauses of a latch's next value
 pub join_made : (n o : ℕ) (l : Latch) (old a b : List (List ℤ)) (x1 y1 x2 y2 : ℤ) →

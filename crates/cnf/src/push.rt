@@ -8,7 +8,7 @@ ghost use Rattle.cnf.specs.Formulas.{IsGateIn, IsInRange};
 use crate::time_frame::TimeFrame;
 use base::{Lists, Refused, Seq};
 use graph::{Gate, Latch, Lit};
-use lrat::AddClause;
+use lrat::{AddClause, GateLiterals};
 use std::alloc::Global;
 
 /// Adds a clause. By itself where it is called, a clause of two or three literals is copied without a call.
@@ -70,15 +70,12 @@ fn push_gate<C: AddClause>(
     requires in_range { IsGateIn time.max_var gate }
     ensures { OnOk result (C.clauses clauses.new ≡ C.clauses clauses.old ++ gate_clauses time.max_var time.offset gate) }
 {
-    let left = time.literal(gate.lhs);
-    let not_left = time.denial(gate.lhs);
-    push(alloc, clauses, &[not_left, time.literal(gate.rhs0)])?;
-    push(alloc, clauses, &[not_left, time.literal(gate.rhs1)])?;
-    push(
-        alloc,
-        clauses,
-        &[left, time.denial(gate.rhs0), time.denial(gate.rhs1)],
-    )?;
+    let literals = GateLiterals {
+        output: time.literal(gate.lhs),
+        left: time.literal(gate.rhs0),
+        right: time.literal(gate.rhs1),
+    };
+    clauses.add_gate(alloc, literals)?;
     Ok(())
 }
 

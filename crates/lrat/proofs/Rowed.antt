@@ -3,7 +3,7 @@ use Rattle.std.proofs.Common.{◌≡◌, ℕ, zero, suc, ◌+◌, ◌-◌, ◌*�
 use Rattle.std.proofs.lemmas.List.{append_assoc, append-nil, length-append, length-drop, length-take-le, take-append-le, drop-append-le, take_all, drop_all, drop_more, get_or-take, get_or-drop, get_or_append_left, get_or-append_right}
 use Rattle.std.proofs.lemmas.Grind.{flat_map-append}
 use Rattle.std.proofs.lemmas.List.Elements.{All-push}
-use Rattle.lrat.specs.Rows.{gate_clauses, part, run_of, rows, AreRuns, AreRows, HasNegations}
+use Rattle.lrat.specs.Rows.{and_clauses, part, run_of, rows, AreRuns, AreRows, HasNegations}
 use Rattle.lrat.specs.declared.gate_literals.GateLiterals.{GateLiterals}
 use Rattle.lrat.specs.declared.run.Run.{Run}
 
@@ -21,9 +21,9 @@ part_none a xs = ap (λ n. take n (drop a xs)) (let e : a - a ≡ 0 = omega arit
 length_part : {A : Type 0} (a b : ℕ) (xs : List A) → a ≤ b → b ≤ length xs → length (part a b xs) ≡ b - a
 length_part a b xs le fits = length-take-le (b - a) (drop a xs) (omega (arith, length-drop a xs))
 
-length_gates : (gs : List GateLiterals) → length (flat_map gate_clauses gs) ≡ 3 * length gs
+length_gates : (gs : List GateLiterals) → length (flat_map and_clauses gs) ≡ 3 * length gs
 length_gates [] = refl
-length_gates (g ∷ gs) = let e = length_gates gs in omega (arith, length-append (gate_clauses g) (flat_map gate_clauses gs))
+length_gates (g ∷ gs) = let e = length_gates gs in omega (arith, length-append (and_clauses g) (flat_map and_clauses gs))
 
 -- ---- runs
 
@@ -46,38 +46,38 @@ pub rows_list : (ls : List (List ℤ)) (gs : List GateLiterals) (a : ℕ) (rs : 
 rows_list ls gs a [] l g c are =
     let p : part l a (ls ++ c ∷ []) ≡ part l a ls = part_more l a ls (c ∷ []) are.0 are.1 in
     let d : drop a (ls ++ c ∷ []) ≡ drop a ls ++ c ∷ [] = drop-append-le a ls (c ∷ []) are.1 in
-    let f : List (List ℤ) = flat_map gate_clauses (part g (length gs) gs) in
+    let f : List (List ℤ) = flat_map and_clauses (part g (length gs) gs) in
     ap (λ (x : List (List ℤ)). x ++ f ++ drop a (ls ++ c ∷ [])) p ∙ ap (λ (x : List (List ℤ)). part l a ls ++ f ++ x) d ∙ sym (append_assoc (part l a ls ++ f) (drop a ls) (c ∷ []))
 rows_list ls gs a (r ∷ rs) l g c are =
     let w = runs_within (length ls) (length gs) a rs r.lists r.gates are.2 in
     let p : part l r.lists (ls ++ c ∷ []) ≡ part l r.lists ls = part_more l r.lists ls (c ∷ []) are.0 w.0 in
-    let f : List (List ℤ) = flat_map gate_clauses (part g r.gates gs) in
+    let f : List (List ℤ) = flat_map and_clauses (part g r.gates gs) in
     ap (λ (x : List (List ℤ)). x ++ f ++ rows (ls ++ c ∷ []) gs a rs r.lists r.gates) p
     ∙ ap (λ (x : List (List ℤ)). part l r.lists ls ++ f ++ x) (rows_list ls gs a rs r.lists r.gates c are.2)
     ∙ sym (append_assoc (part l r.lists ls ++ f) (rows ls gs a rs r.lists r.gates) (c ∷ []))
 
 -- a gate more where no list is behind the last run's gates
-pub rows_gate : (ls : List (List ℤ)) (gs : List GateLiterals) (a : ℕ) (rs : List Run) (l g : ℕ) (x : GateLiterals) → length ls ≤ a → AreRuns (length ls) (length gs) a rs l g → rows ls (gs ++ x ∷ []) a rs l g ≡ rows ls gs a rs l g ++ gate_clauses x
+pub rows_gate : (ls : List (List ℤ)) (gs : List GateLiterals) (a : ℕ) (rs : List Run) (l g : ℕ) (x : GateLiterals) → length ls ≤ a → AreRuns (length ls) (length gs) a rs l g → rows ls (gs ++ x ∷ []) a rs l g ≡ rows ls gs a rs l g ++ and_clauses x
 rows_gate ls gs a [] l g x full are =
     let p : List (List ℤ) = part l a ls in
-    let f : List (List ℤ) = flat_map gate_clauses (drop g gs) in
+    let f : List (List ℤ) = flat_map and_clauses (drop g gs) in
     let none : drop a ls ≡ [] = drop_all a ls full in
     let new : part g (length (gs ++ x ∷ [])) (gs ++ x ∷ []) ≡ drop g gs ++ x ∷ [] = part_all g (gs ++ x ∷ []) ∙ drop-append-le g gs (x ∷ []) are.2 in
     let old : part g (length gs) gs ≡ drop g gs = part_all g gs in
-    let left : rows ls (gs ++ x ∷ []) a [] l g ≡ p ++ (f ++ gate_clauses x) =
-        ap (λ (y : List (List ℤ)). p ++ flat_map gate_clauses (part g (length (gs ++ x ∷ [])) (gs ++ x ∷ [])) ++ y) none
-        ∙ append-nil _ ∙ ap (λ (y : List GateLiterals). p ++ flat_map gate_clauses y) new
-        ∙ ap (λ (y : List (List ℤ)). p ++ y) (flat_map-append gate_clauses (drop g gs) (x ∷ [])) in
+    let left : rows ls (gs ++ x ∷ []) a [] l g ≡ p ++ (f ++ and_clauses x) =
+    ap (λ (y : List (List ℤ)). p ++ flat_map and_clauses (part g (length (gs ++ x ∷ [])) (gs ++ x ∷ [])) ++ y) none
+    ∙ append-nil _ ∙ ap (λ (y : List GateLiterals). p ++ flat_map and_clauses y) new
+    ∙ ap (λ (y : List (List ℤ)). p ++ y) (flat_map-append and_clauses (drop g gs) (x ∷ [])) in
     let right : rows ls gs a [] l g ≡ p ++ f =
-        ap (λ (y : List (List ℤ)). p ++ flat_map gate_clauses (part g (length gs) gs) ++ y) none ∙ append-nil _ ∙ ap (λ (y : List GateLiterals). p ++ flat_map gate_clauses y) old in
-    left ∙ sym (append_assoc p f (gate_clauses x)) ∙ ap (λ (y : List (List ℤ)). y ++ gate_clauses x) (sym right)
+    ap (λ (y : List (List ℤ)). p ++ flat_map and_clauses (part g (length gs) gs) ++ y) none ∙ append-nil _ ∙ ap (λ (y : List GateLiterals). p ++ flat_map and_clauses y) old in
+    left ∙ sym (append_assoc p f (and_clauses x)) ∙ ap (λ (y : List (List ℤ)). y ++ and_clauses x) (sym right)
 rows_gate ls gs a (r ∷ rs) l g x full are =
     let w = runs_within (length ls) (length gs) a rs r.lists r.gates are.2 in
     let p : List (List ℤ) = part l r.lists ls in
     let same : part g r.gates (gs ++ x ∷ []) ≡ part g r.gates gs = part_more g r.gates gs (x ∷ []) are.1 w.1 in
-    ap (λ (y : List GateLiterals). p ++ flat_map gate_clauses y ++ rows ls (gs ++ x ∷ []) a rs r.lists r.gates) same
-    ∙ ap (λ (y : List (List ℤ)). p ++ flat_map gate_clauses (part g r.gates gs) ++ y) (rows_gate ls gs a rs r.lists r.gates x full are.2)
-    ∙ sym (append_assoc (p ++ flat_map gate_clauses (part g r.gates gs)) (rows ls gs a rs r.lists r.gates) (gate_clauses x))
+    ap (λ (y : List GateLiterals). p ++ flat_map and_clauses y ++ rows ls (gs ++ x ∷ []) a rs r.lists r.gates) same
+    ∙ ap (λ (y : List (List ℤ)). p ++ flat_map and_clauses (part g r.gates gs) ++ y) (rows_gate ls gs a rs r.lists r.gates x full are.2)
+    ∙ sym (append_assoc (p ++ flat_map and_clauses (part g r.gates gs)) (rows ls gs a rs r.lists r.gates) (and_clauses x))
 
 -- the last run ends here
 pub rows_close : (ls : List (List ℤ)) (gs : List GateLiterals) (a : ℕ) (rs : List Run) (l g : ℕ) → AreRuns (length ls) (length gs) a rs l g → rows ls gs (length ls) (rs ++ record { lists = a; gates = length gs } ∷ []) l g ≡ rows ls gs a rs l g
@@ -87,8 +87,8 @@ rows_close ls gs a [] l g are =
     let none : part (length gs) (length gs) gs ≡ [] = part_none (length gs) gs in
     let end : drop (length ls) ls ≡ [] = drop_all (length ls) ls (omega arith) in
     let inner : run_of ls gs a (length gs) (length ls) (length gs) ++ drop (length ls) ls ≡ drop a ls =
-        ap (λ (y : List (List ℤ)). run_of ls gs a (length gs) (length ls) (length gs) ++ y) end ∙ append-nil _
-        ∙ ap (λ (y : List GateLiterals). part a (length ls) ls ++ flat_map gate_clauses y) none ∙ append-nil _ ∙ lists in
+    ap (λ (y : List (List ℤ)). run_of ls gs a (length gs) (length ls) (length gs) ++ y) end ∙ append-nil _
+    ∙ ap (λ (y : List GateLiterals). part a (length ls) ls ++ flat_map and_clauses y) none ∙ append-nil _ ∙ lists in
     ap (λ (y : List (List ℤ)). f ++ y) inner
 rows_close ls gs a (r ∷ rs) l g are = ap (λ (y : List (List ℤ)). run_of ls gs l g r.lists r.gates ++ y) (rows_close ls gs a rs r.lists r.gates are.2)
 
@@ -98,7 +98,7 @@ pub length_run : (ls : List (List ℤ)) (gs : List GateLiterals) (l g a b : ℕ)
 length_run ls gs l g a b la al gb bg =
     let p : length (part l a ls) ≡ a - l = length_part l a ls la al in
     let q : length (part g b gs) ≡ b - g = length_part g b gs gb bg in
-    length-append (part l a ls) (flat_map gate_clauses (part g b gs)) ∙ ap (λ n. n + length (flat_map gate_clauses (part g b gs))) p ∙ ap (λ n. (a - l) + n) (length_gates (part g b gs) ∙ ap (λ n. 3 * n) q)
+    length-append (part l a ls) (flat_map and_clauses (part g b gs)) ∙ ap (λ n. n + length (flat_map and_clauses (part g b gs))) p ∙ ap (λ n. (a - l) + n) (length_gates (part g b gs) ∙ ap (λ n. 3 * n) q)
 
 length_from : (ls : List (List ℤ)) (gs : List GateLiterals) (a : ℕ) (rs : List Run) (l g : ℕ) → AreRuns (length ls) (length gs) a rs l g → length (rows ls gs a rs l g) + (l + 3 * g) ≡ length ls + 3 * length gs
 length_from ls gs a [] l g are =
@@ -120,29 +120,29 @@ length_rows ls gs a rs are = let e = length_from ls gs a rs 0 0 are in omega (ar
 
 -- ---- the clause at an index
 
-gate_front : (g : GateLiterals) (gs : List GateLiterals) (j : ℕ) → j < 3 → get_or (flat_map gate_clauses (g ∷ gs)) j [] ≡ get_or (gate_clauses g) j []
-gate_front g gs j lt = get_or_append_left (gate_clauses g) (flat_map gate_clauses gs) [] j lt
+gate_front : (g : GateLiterals) (gs : List GateLiterals) (j : ℕ) → j < 3 → get_or (flat_map and_clauses (g ∷ gs)) j [] ≡ get_or (and_clauses g) j []
+gate_front g gs j lt = get_or_append_left (and_clauses g) (flat_map and_clauses gs) [] j lt
 
-gate_at : (gs : List GateLiterals) (q r j : ℕ) (d : GateLiterals) → q < length gs → r < 3 → j ≡ 3 * q + r → get_or (flat_map gate_clauses gs) j [] ≡ get_or (gate_clauses (get_or gs q d)) r []
+gate_at : (gs : List GateLiterals) (q r j : ℕ) (d : GateLiterals) → q < length gs → r < 3 → j ≡ 3 * q + r → get_or (flat_map and_clauses gs) j [] ≡ get_or (and_clauses (get_or gs q d)) r []
 gate_at [] q r j d lt small e = absurd (omega arith)
 gate_at (g ∷ gs) zero r j d lt small e =
     let s : j ≡ r = omega (arith, e) in
-    ap (λ k. get_or (flat_map gate_clauses (g ∷ gs)) k []) s ∙ gate_front g gs r small
+    ap (λ k. get_or (flat_map and_clauses (g ∷ gs)) k []) s ∙ gate_front g gs r small
 gate_at (g ∷ gs) (suc q) r j d lt small e =
-    get_or-append_right (gate_clauses g) (flat_map gate_clauses gs) 3 j [] refl (omega (arith, e)) ∙ gate_at gs q r (j - 3) d (omega arith) small (omega (arith, e))
+    get_or-append_right (and_clauses g) (flat_map and_clauses gs) 3 j [] refl (omega (arith, e)) ∙ gate_at gs q r (j - 3) d (omega arith) small (omega (arith, e))
 
 pub run_list : (ls : List (List ℤ)) (gs : List GateLiterals) (l g a b i : ℕ) → l ≤ a → a ≤ length ls → i < a - l → get_or (run_of ls gs l g a b) i [] ≡ get_or ls (l + i) []
 run_list ls gs l g a b i la al lt =
     let p : length (part l a ls) ≡ a - l = length_part l a ls la al in
-    get_or_append_left (part l a ls) (flat_map gate_clauses (part g b gs)) [] i (omega (arith, p)) ∙ get_or-take (a - l) (drop l ls) i [] lt ∙ get_or-drop l ls i []
+    get_or_append_left (part l a ls) (flat_map and_clauses (part g b gs)) [] i (omega (arith, p)) ∙ get_or-take (a - l) (drop l ls) i [] lt ∙ get_or-drop l ls i []
 
-pub run_gate : (ls : List (List ℤ)) (gs : List GateLiterals) (l g a b i q r : ℕ) (d : GateLiterals) → l ≤ a → a ≤ length ls → g ≤ b → b ≤ length gs → q < b - g → r < 3 → i ≡ (a - l) + (3 * q + r) → get_or (run_of ls gs l g a b) i [] ≡ get_or (gate_clauses (get_or gs (g + q) d)) r []
+pub run_gate : (ls : List (List ℤ)) (gs : List GateLiterals) (l g a b i q r : ℕ) (d : GateLiterals) → l ≤ a → a ≤ length ls → g ≤ b → b ≤ length gs → q < b - g → r < 3 → i ≡ (a - l) + (3 * q + r) → get_or (run_of ls gs l g a b) i [] ≡ get_or (and_clauses (get_or gs (g + q) d)) r []
 run_gate ls gs l g a b i q r d la al gb bg lt small e =
     let p : length (part l a ls) ≡ a - l = length_part l a ls la al in
     let n : length (part g b gs) ≡ b - g = length_part g b gs gb bg in
-    get_or-append_right (part l a ls) (flat_map gate_clauses (part g b gs)) (a - l) i [] p (omega (arith, e))
+    get_or-append_right (part l a ls) (flat_map and_clauses (part g b gs)) (a - l) i [] p (omega (arith, e))
     ∙ gate_at (part g b gs) q r (i - (a - l)) d (omega (arith, n)) small (omega (arith, e))
-    ∙ ap (λ (x : GateLiterals). get_or (gate_clauses x) r []) (get_or-take (b - g) (drop g gs) q d lt ∙ get_or-drop g gs q d)
+    ∙ ap (λ (x : GateLiterals). get_or (and_clauses x) r []) (get_or-take (b - g) (drop g gs) q d lt ∙ get_or-drop g gs q d)
 
 -- the index that is looked for is so far behind l and g, from run k on
 pub record IsLeft (ls : List (List ℤ)) (gs : List GateLiterals) (a : ℕ) (rs : List Run) (index k l g left : ℕ) : Type 0 where
@@ -261,5 +261,5 @@ gated_more ls gs a rs b ss x has is = record {
   negations = All-push HasNegations gs x is.are.negations has;
 }
 
-pub gated_rows : (ls : List (List ℤ)) (gs : List GateLiterals) (a : ℕ) (rs : List Run) (b : ℕ) (ss : List Run) (x : GateLiterals) → IsOpen ls gs a rs b ss → rows ls (gs ++ x ∷ []) b ss 0 0 ≡ rows ls gs a rs 0 0 ++ gate_clauses x
-gated_rows ls gs a rs b ss x is = rows_gate ls gs b ss 0 0 x is.full is.are.runs ∙ ap (λ (y : List (List ℤ)). y ++ gate_clauses x) is.same
+pub gated_rows : (ls : List (List ℤ)) (gs : List GateLiterals) (a : ℕ) (rs : List Run) (b : ℕ) (ss : List Run) (x : GateLiterals) → IsOpen ls gs a rs b ss → rows ls (gs ++ x ∷ []) b ss 0 0 ≡ rows ls gs a rs 0 0 ++ and_clauses x
+gated_rows ls gs a rs b ss x is = rows_gate ls gs b ss 0 0 x is.full is.are.runs ∙ ap (λ (y : List (List ℤ)). y ++ and_clauses x) is.same

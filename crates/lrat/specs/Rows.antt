@@ -4,8 +4,8 @@ use Rattle.lrat.specs.declared.gate_literals.GateLiterals.{GateLiterals}
 use Rattle.lrat.specs.declared.run.Run.{Run}
 
 -- the output is true exactly where both sides are
-abbrev pub gate_clauses : GateLiterals → List (List ℤ)
-gate_clauses g =
+abbrev pub and_clauses : GateLiterals → List (List ℤ)
+and_clauses g =
     (neg_ℤ g.output ∷ g.left ∷ []) ∷ (neg_ℤ g.output ∷ g.right ∷ []) ∷ (g.output ∷ neg_ℤ g.left ∷ neg_ℤ g.right ∷ []) ∷ []
 
 -- the negation of each literal fits 32 bits
@@ -20,7 +20,7 @@ part a b xs = take (b - a) (drop a xs)
 
 -- the clauses of a run that begins at l and g: lists up to a, and then gates up to b
 abbrev pub run_of : List (List ℤ) → List GateLiterals → ℕ → ℕ → ℕ → ℕ → List (List ℤ)
-run_of ls gs l g a b = part l a ls ++ flat_map gate_clauses (part g b gs)
+run_of ls gs l g a b = part l a ls ++ flat_map and_clauses (part g b gs)
 
 -- the clauses from l and g on: those of the runs, those of a last run of lists up to a and of all gates, and the other lists
 abbrev pub rows : List (List ℤ) → List GateLiterals → ℕ → List Run → ℕ → ℕ → List (List ℤ)

@@ -2,7 +2,7 @@
 
 ghost use Rattle.std.specs.Prelude.{◌≡◌, ◌<◌, ◌≤◌, ◌+◌, ◌*◌, ◌^◌, ◌++◌, ◌∷◌, [], All, IfErr, IfOk, OnOk, get_or, length};
 ghost use Rattle.lrat.specs.Found.{literals_of};
-ghost use Rattle.lrat.specs.Rows.{AreRows, AreRuns, HasNegations, gate_clauses, rows, run_of};
+ghost use Rattle.lrat.specs.Rows.{AreRows, AreRuns, HasNegations, and_clauses, rows, run_of};
 
 use crate::clause::Clause;
 use crate::found_clause::FoundClause;
@@ -26,7 +26,7 @@ pub trait AddClause {
     /// Adds the three clauses of an AND gate behind the others.
     fn add_gate(&mut self, alloc: Global, gate: GateLiterals) -> Result<(), Refused>
         requires { HasNegations gate }
-        ensures { OnOk result (clauses self.new ≡ clauses self.old ++ gate_clauses gate) };
+        ensures { OnOk result (clauses self.new ≡ clauses self.old ++ and_clauses gate) };
 }
 
 impl AddClause for Seq<Clause> {
@@ -37,9 +37,10 @@ impl AddClause for Seq<Clause> {
     }
 
     fn add_gate(&mut self, alloc: Global, gate: GateLiterals) -> Result<(), Refused> {
-        self.add_clause(alloc, &[-gate.output, gate.left])?;
-        self.add_clause(alloc, &[-gate.output, gate.right])?;
-        self.add_clause(alloc, &[gate.output, -gate.left, -gate.right])
+        for index in 0..3 {
+            self.add_clause(alloc, gate.clause(index).as_slice())?;
+        }
+        Ok(())
     }
 }
 

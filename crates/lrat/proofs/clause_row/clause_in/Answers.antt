@@ -13,7 +13,7 @@ returns-then-gate-many_gates-clause-found c =
     let many : ℕ = c.args.end.lists - c.args.begin.lists in
     let gate : ℕ = (c.args.index - many) / 3 in
     let found = run_gate c.args.lists.now c.args.gates.now c.args.begin.lists c.args.begin.gates c.args.end.lists c.args.end.gates c.args.index gate (c.args.index - many - 3 * gate) _ c.requires.lists.0 c.requires.lists.1 c.requires.gates.0 c.requires.gates.1
-        c.if-gate-many_gates.true (omega arith) (omega (arith, c.if-index-many.false)) in
+    c.if-gate-many_gates.true (omega arith) (omega (arith, c.if-index-many.false)) in
     c.clause.ensures ∙ sym found
 
 pub returns-clause-behind : goal.returns-clause-behind

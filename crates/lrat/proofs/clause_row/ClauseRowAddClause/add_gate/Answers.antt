@@ -1,5 +1,5 @@
 use Rattle.std.proofs.Common.{◌≡◌, ◌∙◌, ◌++◌, ap, arith, List, ℤ}
-use Rattle.lrat.specs.Rows.{HasNegations, gate_clauses, rows}
+use Rattle.lrat.specs.Rows.{HasNegations, and_clauses, rows}
 use Rattle.lrat.proofs.Rowed.{IsOpen, open_same, open_close, gated_more, gated_rows}
 use Rattle.lrat.proofs.clause_row.ClauseRowAddClause.add_gate.Goals as goal
 use Rattle.lrat.proofs.clause_row.ClauseRowAddClause.add_gate.Goals.{then-self-len+in_ok-push, else-self-len}
@@ -37,4 +37,4 @@ returns c =
       | then-self-len+in_ok-push w ↦ rw w.self-inside-is c.self.view_is
       | else-self-len w ↦ rw w.self-inside-is c.self.view_is
     ] in
-    rw c.in_ok-push-2.ensures.items (gated_rows t.lists t.gates.items s.before s.runs.items t.before t.runs.items c.args.gate opened ∙ ap (λ (y : List (List ℤ)). y ++ gate_clauses c.args.gate) same)
+    rw c.in_ok-push-2.ensures.items (gated_rows t.lists t.gates.items s.before s.runs.items t.before t.runs.items c.args.gate opened ∙ ap (λ (y : List (List ℤ)). y ++ and_clauses c.args.gate) same)

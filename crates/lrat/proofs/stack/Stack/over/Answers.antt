@@ -10,8 +10,7 @@ pub invariant_of-result : goal.invariant_of-result
 invariant_of-result c =
     let cs : List (List ℤ) = c.args.clauses in
     let many : c.given-mark.result ≡ length cs = c.given-mark.ensures.value ∙ c.over-shelf.ensures.given in
-    let layered : AreLayered (slots_from 1 cs) (length cs) (length cs) c.new.result.items (length cs) = fresh_layered (slots_from 1 cs) cs c.new.result.items (fresh_slots cs) c.new.ensures.items in
-    (
+    let layered : AreLayered (slots_from 1 cs) (length cs) (length cs) c.new.result.items (length cs) = fresh_layered (slots_from 1 cs) cs c.new.result.items (fresh_slots cs) c.new.ensures.items in (
       rw (many, c.over-shelf.ensures.row) layered,
       record { shared = omega (arith, many, c.over-shelf.ensures.given); loose = rw c.new.ensures.items (All-nil (λ i. c.over-shelf.result.given ≤ i)) },
     )

@@ -20,8 +20,7 @@ invariant_of-self-then-index-mark c =
     let ss : List Slot = u.shelf.row.slots in
     let s : Slot = record { id = (get_or ss c.in-Some.index blank).id; live = false; clause = (get_or ss c.in-Some.index blank).clause } in
     let marked : c.mark.new.self.row.slots ≡ set ss c.in-Some.index s = rw c.in_ok-loosen.ensures.row at c.mark.ensures.slots in
-    let loose : AreLoose c.loosen.new.self.given u.mark u.hidden.items = loosened _ _ _ _ c.in_ok-loosen.ensures.given c.self.invariant.1 in
-    (
+    let loose : AreLoose c.loosen.new.self.given u.mark u.hidden.items = loosened _ _ _ _ c.in_ok-loosen.ensures.given c.self.invariant.1 in (
       rw (marked, c.in_ok-push.ensures.items) (hidden_layered ss u.mark u.shared_top u.hidden.items u.top c.in-Some.index s c.self.invariant.0 c.if-index-mark.true refl),
       rw (c.mark.ensures.given, c.in_ok-push.ensures.items) (loosened_more c.loosen.new.self.given u.mark u.hidden.items c.in-Some.index c.in_ok-loosen.ensures.ok loose),
     )
@@ -46,8 +45,7 @@ invariant_of-self-2 c =
     let slots : c.drop_at.new.self.row.slots ≡ set ss c.in-Some.index s = rw c.in_ok-loosen.ensures.row at c.drop_at.ensures.slots in
     let dropped : AreLayered c.drop_at.new.self.row.slots u.mark u.shared_top u.hidden.items u.top =
     rw slots (dropped_layered ss u.mark u.shared_top u.hidden.items u.top c.in-Some.index s c.self.invariant.0 (omega (arith, c.if-index-mark.false)) refl) in
-    let loose : AreLoose c.loosen.new.self.given u.mark u.hidden.items = loosened _ _ _ _ c.in_ok-loosen.ensures.given c.self.invariant.1 in
-    (
+    let loose : AreLoose c.loosen.new.self.given u.mark u.hidden.items = loosened _ _ _ _ c.in_ok-loosen.ensures.given c.self.invariant.1 in (
       tidied_layered c.drop_at.new.self.row c.tidy.new.self.row u.mark u.shared_top u.hidden.items u.top c.tidy.ensures.row dropped,
       rw (c.tidy.ensures.given, c.drop_at.ensures.given) loose,
     )

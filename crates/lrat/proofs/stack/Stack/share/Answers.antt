@@ -13,8 +13,7 @@ overflow_cast-self c =
 
 pub invariant_of-self : goal.invariant_of-self
 invariant_of-self c =
-    let s = c.self.inside in
-    (
+    let s = c.self.inside in (
       rw (c.len.ensures, c.compact.ensures.row) (shared_layered s.shelf.row.slots s.mark s.shared_top s.hidden.items c.clear.new.self.items s.top c.self.invariant.0 c.clear.ensures.items),
       record { shared = omega (arith, c.len.ensures, c.compact.ensures.within); loose = rw c.clear.ensures.items (All-nil (λ i. c.compact.new.self.given ≤ i)) },
     )

@@ -4,8 +4,8 @@ use Rattle.cdcl_kernel.specs.ClauseRefs.{part_of}
 use Rattle.cdcl_kernel.specs.declared.origin.Origin.{Origin}
 use Rattle.cdcl_kernel.specs.declared.clause_ref.ClauseRef.{ClauseRef}
 use Rattle.cdcl_kernel.proofs.ClauseRefs.{find_ref, find_out, is_live, empty_part, live_kept}
-use Rattle.cdcl_kernel.proofs.store.StoreLookup.get.Goals as goal
-use Rattle.cdcl_kernel.proofs.store.StoreLookup.get.Goals.{then-index-eq0-via-then-index-eq0, then-index-eq0-via-else-index-eq0+then-index-len}
+use Rattle.cdcl_kernel.proofs.store.Store.clause.Goals as goal
+use Rattle.cdcl_kernel.proofs.store.Store.clause.Goals.{then-index-eq0-via-then-index-eq0, then-index-eq0-via-else-index-eq0+then-index-len}
 
 pub returns-then-index-eq0-clause-value : goal.returns-then-index-eq0-clause-value
 returns-then-index-eq0-clause-value c =
