@@ -1,5 +1,5 @@
 -- One hint more.
-use Rattle.std.proofs.Common.{◌≡◌, ℕ, ◌+◌, ◌<◌, ◌≤◌, List, [], ◌∷◌, ◌++◌, length, take, drop, get_or, map, ℤ, sym, ◌∙◌, ap, subst, add-one}
+use Rattle.std.proofs.Common.{◌≡◌, ℕ, ◌+◌, ◌<◌, ◌≤◌, List, [], ◌∷◌, ◌++◌, length, take, drop, get_or, map, ℤ, Option, Some, sym, ◌∙◌, ap, subst, add-one}
 use Rattle.std.proofs.Math.Seq.{take-suc, drop-cons}
 use Rattle.std.proofs.lemmas.List.{take-append-drop, take_all, take-map, get_or-map, length-map}
 use Rattle.lrat.specs.Literals.{Finder}
@@ -22,6 +22,10 @@ parts_at ids i h = sym (take-append-drop i ids) ∙ ap (λ u. take i ids ++ u) (
 
 pub stops_at : (m : Finder) (s : List ℤ) (ids : List ℕ) (i : ℕ) (t : List ℤ) (e : Fault) → i < length ids → Leads m s (take i ids) t → Stops m t (get_or ids i 0) e → StopsWithin m s ids e
 stops_at m s ids i t e h leads why = (take i ids, get_or ids i 0, drop (i + 1) ids, t, parts_at ids i h, leads, why)
+
+-- a clause that was found, by its literals in order
+pub found_as : (found : Option (List ℤ)) (c d : List ℤ) → Some c ≡ found → d ≡ c → found ≡ Some d
+found_as found c d is same = sym is ∙ ap Some (sym same)
 
 -- the same over hints that name ids
 
