@@ -1,25 +1,25 @@
 -- Clauses as lists and as gates, in runs.
 use Rattle.std.proofs.Common.{◌≡◌, ℕ, zero, suc, ◌+◌, ◌-◌, ◌*◌, ◌<◌, ◌≤◌, List, [], ◌∷◌, ◌++◌, ℤ, take, drop, length, get_or, flat_map, refl, sym, ◌∙◌, ap, subst, arith, All}
-use Rattle.std.proofs.lemmas.List.{append_assoc, append-nil, length-append, length-drop, length-take-le, take-append-le, drop-append-le, take_all, drop_all, drop_more, get_or-take, get_or-drop, get_or_append_left, get_or-append_right}
+use Rattle.std.proofs.lemmas.List.{append_assoc, append-nil, length-append, length-drop, length-take-le, take-append-le, drop-append-le, take_all, drop_all, drop_more, take-append-drop, get_or-take, get_or-drop, get_or_append_left, get_or-append_right}
 use Rattle.std.proofs.lemmas.Grind.{flat_map-append}
 use Rattle.std.proofs.lemmas.List.Elements.{All-push}
-use Rattle.lrat.specs.Rows.{and_clauses, part, run_of, rows, AreRuns, AreRows, HasNegations}
+use Rattle.lrat.specs.Rows.{and_clauses, stretch, run_clauses, rows, AreRuns, AreRowed, HasNegations}
 use Rattle.lrat.specs.declared.gate_literals.GateLiterals.{GateLiterals}
 use Rattle.lrat.specs.declared.run.Run.{Run}
 
 -- ---- parts of lists
 
-part_more : {A : Type 0} (a b : ℕ) (xs ys : List A) → a ≤ b → b ≤ length xs → part a b (xs ++ ys) ≡ part a b xs
-part_more a b xs ys le fits = ap (take (b - a)) (drop-append-le a xs ys (omega arith)) ∙ take-append-le (b - a) (drop a xs) ys (omega (arith, length-drop a xs))
+stretch_more : {A : Type 0} (a b : ℕ) (xs ys : List A) → a ≤ b → b ≤ length xs → stretch a b (xs ++ ys) ≡ stretch a b xs
+stretch_more a b xs ys le fits = ap (take (b - a)) (drop-append-le a xs ys (omega arith)) ∙ take-append-le (b - a) (drop a xs) ys (omega (arith, length-drop a xs))
 
-part_all : {A : Type 0} (a : ℕ) (xs : List A) → part a (length xs) xs ≡ drop a xs
-part_all a xs = take_all (length xs - a) (drop a xs) (omega (arith, length-drop a xs))
+stretch_all : {A : Type 0} (a : ℕ) (xs : List A) → stretch a (length xs) xs ≡ drop a xs
+stretch_all a xs = take_all (length xs - a) (drop a xs) (omega (arith, length-drop a xs))
 
-part_none : {A : Type 0} (a : ℕ) (xs : List A) → part a a xs ≡ []
-part_none a xs = ap (λ n. take n (drop a xs)) (let e : a - a ≡ 0 = omega arith in e)
+stretch_none : {A : Type 0} (a : ℕ) (xs : List A) → stretch a a xs ≡ []
+stretch_none a xs = ap (λ n. take n (drop a xs)) (let e : a - a ≡ 0 = omega arith in e)
 
-length_part : {A : Type 0} (a b : ℕ) (xs : List A) → a ≤ b → b ≤ length xs → length (part a b xs) ≡ b - a
-length_part a b xs le fits = length-take-le (b - a) (drop a xs) (omega (arith, length-drop a xs))
+length_stretch : {A : Type 0} (a b : ℕ) (xs : List A) → a ≤ b → b ≤ length xs → length (stretch a b xs) ≡ b - a
+length_stretch a b xs le fits = length-take-le (b - a) (drop a xs) (omega (arith, length-drop a xs))
 
 length_gates : (gs : List GateLiterals) → length (flat_map and_clauses gs) ≡ 3 * length gs
 length_gates [] = refl
@@ -44,74 +44,74 @@ runs_close n m a (r ∷ rs) l g are = (are.0, are.1, runs_close n m a rs r.lists
 -- a list more
 pub rows_list : (ls : List (List ℤ)) (gs : List GateLiterals) (a : ℕ) (rs : List Run) (l g : ℕ) (c : List ℤ) → AreRuns (length ls) (length gs) a rs l g → rows (ls ++ c ∷ []) gs a rs l g ≡ rows ls gs a rs l g ++ c ∷ []
 rows_list ls gs a [] l g c are =
-    let p : part l a (ls ++ c ∷ []) ≡ part l a ls = part_more l a ls (c ∷ []) are.0 are.1 in
+    let p : stretch l a (ls ++ c ∷ []) ≡ stretch l a ls = stretch_more l a ls (c ∷ []) are.0 are.1 in
     let d : drop a (ls ++ c ∷ []) ≡ drop a ls ++ c ∷ [] = drop-append-le a ls (c ∷ []) are.1 in
-    let f : List (List ℤ) = flat_map and_clauses (part g (length gs) gs) in
-    ap (λ (x : List (List ℤ)). x ++ f ++ drop a (ls ++ c ∷ [])) p ∙ ap (λ (x : List (List ℤ)). part l a ls ++ f ++ x) d ∙ sym (append_assoc (part l a ls ++ f) (drop a ls) (c ∷ []))
+    let f : List (List ℤ) = flat_map and_clauses (stretch g (length gs) gs) in
+    ap (λ (x : List (List ℤ)). x ++ f ++ drop a (ls ++ c ∷ [])) p ∙ ap (λ (x : List (List ℤ)). stretch l a ls ++ f ++ x) d ∙ sym (append_assoc (stretch l a ls ++ f) (drop a ls) (c ∷ []))
 rows_list ls gs a (r ∷ rs) l g c are =
     let w = runs_within (length ls) (length gs) a rs r.lists r.gates are.2 in
-    let p : part l r.lists (ls ++ c ∷ []) ≡ part l r.lists ls = part_more l r.lists ls (c ∷ []) are.0 w.0 in
-    let f : List (List ℤ) = flat_map and_clauses (part g r.gates gs) in
+    let p : stretch l r.lists (ls ++ c ∷ []) ≡ stretch l r.lists ls = stretch_more l r.lists ls (c ∷ []) are.0 w.0 in
+    let f : List (List ℤ) = flat_map and_clauses (stretch g r.gates gs) in
     ap (λ (x : List (List ℤ)). x ++ f ++ rows (ls ++ c ∷ []) gs a rs r.lists r.gates) p
-    ∙ ap (λ (x : List (List ℤ)). part l r.lists ls ++ f ++ x) (rows_list ls gs a rs r.lists r.gates c are.2)
-    ∙ sym (append_assoc (part l r.lists ls ++ f) (rows ls gs a rs r.lists r.gates) (c ∷ []))
+    ∙ ap (λ (x : List (List ℤ)). stretch l r.lists ls ++ f ++ x) (rows_list ls gs a rs r.lists r.gates c are.2)
+    ∙ sym (append_assoc (stretch l r.lists ls ++ f) (rows ls gs a rs r.lists r.gates) (c ∷ []))
 
 -- a gate more where no list is behind the last run's gates
 pub rows_gate : (ls : List (List ℤ)) (gs : List GateLiterals) (a : ℕ) (rs : List Run) (l g : ℕ) (x : GateLiterals) → length ls ≤ a → AreRuns (length ls) (length gs) a rs l g → rows ls (gs ++ x ∷ []) a rs l g ≡ rows ls gs a rs l g ++ and_clauses x
 rows_gate ls gs a [] l g x full are =
-    let p : List (List ℤ) = part l a ls in
+    let p : List (List ℤ) = stretch l a ls in
     let f : List (List ℤ) = flat_map and_clauses (drop g gs) in
     let none : drop a ls ≡ [] = drop_all a ls full in
-    let new : part g (length (gs ++ x ∷ [])) (gs ++ x ∷ []) ≡ drop g gs ++ x ∷ [] = part_all g (gs ++ x ∷ []) ∙ drop-append-le g gs (x ∷ []) are.2 in
-    let old : part g (length gs) gs ≡ drop g gs = part_all g gs in
+    let new : stretch g (length (gs ++ x ∷ [])) (gs ++ x ∷ []) ≡ drop g gs ++ x ∷ [] = stretch_all g (gs ++ x ∷ []) ∙ drop-append-le g gs (x ∷ []) are.2 in
+    let old : stretch g (length gs) gs ≡ drop g gs = stretch_all g gs in
     let left : rows ls (gs ++ x ∷ []) a [] l g ≡ p ++ (f ++ and_clauses x) =
-    ap (λ (y : List (List ℤ)). p ++ flat_map and_clauses (part g (length (gs ++ x ∷ [])) (gs ++ x ∷ [])) ++ y) none
+    ap (λ (y : List (List ℤ)). p ++ flat_map and_clauses (stretch g (length (gs ++ x ∷ [])) (gs ++ x ∷ [])) ++ y) none
     ∙ append-nil _ ∙ ap (λ (y : List GateLiterals). p ++ flat_map and_clauses y) new
     ∙ ap (λ (y : List (List ℤ)). p ++ y) (flat_map-append and_clauses (drop g gs) (x ∷ [])) in
     let right : rows ls gs a [] l g ≡ p ++ f =
-    ap (λ (y : List (List ℤ)). p ++ flat_map and_clauses (part g (length gs) gs) ++ y) none ∙ append-nil _ ∙ ap (λ (y : List GateLiterals). p ++ flat_map and_clauses y) old in
+    ap (λ (y : List (List ℤ)). p ++ flat_map and_clauses (stretch g (length gs) gs) ++ y) none ∙ append-nil _ ∙ ap (λ (y : List GateLiterals). p ++ flat_map and_clauses y) old in
     left ∙ sym (append_assoc p f (and_clauses x)) ∙ ap (λ (y : List (List ℤ)). y ++ and_clauses x) (sym right)
 rows_gate ls gs a (r ∷ rs) l g x full are =
     let w = runs_within (length ls) (length gs) a rs r.lists r.gates are.2 in
-    let p : List (List ℤ) = part l r.lists ls in
-    let same : part g r.gates (gs ++ x ∷ []) ≡ part g r.gates gs = part_more g r.gates gs (x ∷ []) are.1 w.1 in
+    let p : List (List ℤ) = stretch l r.lists ls in
+    let same : stretch g r.gates (gs ++ x ∷ []) ≡ stretch g r.gates gs = stretch_more g r.gates gs (x ∷ []) are.1 w.1 in
     ap (λ (y : List GateLiterals). p ++ flat_map and_clauses y ++ rows ls (gs ++ x ∷ []) a rs r.lists r.gates) same
-    ∙ ap (λ (y : List (List ℤ)). p ++ flat_map and_clauses (part g r.gates gs) ++ y) (rows_gate ls gs a rs r.lists r.gates x full are.2)
-    ∙ sym (append_assoc (p ++ flat_map and_clauses (part g r.gates gs)) (rows ls gs a rs r.lists r.gates) (and_clauses x))
+    ∙ ap (λ (y : List (List ℤ)). p ++ flat_map and_clauses (stretch g r.gates gs) ++ y) (rows_gate ls gs a rs r.lists r.gates x full are.2)
+    ∙ sym (append_assoc (p ++ flat_map and_clauses (stretch g r.gates gs)) (rows ls gs a rs r.lists r.gates) (and_clauses x))
 
 -- the last run ends here
 pub rows_close : (ls : List (List ℤ)) (gs : List GateLiterals) (a : ℕ) (rs : List Run) (l g : ℕ) → AreRuns (length ls) (length gs) a rs l g → rows ls gs (length ls) (rs ++ record { lists = a; gates = length gs } ∷ []) l g ≡ rows ls gs a rs l g
 rows_close ls gs a [] l g are =
-    let f : List (List ℤ) = run_of ls gs l g a (length gs) in
-    let lists : part a (length ls) ls ≡ drop a ls = part_all a ls in
-    let none : part (length gs) (length gs) gs ≡ [] = part_none (length gs) gs in
+    let f : List (List ℤ) = run_clauses ls gs l g a (length gs) in
+    let lists : stretch a (length ls) ls ≡ drop a ls = stretch_all a ls in
+    let none : stretch (length gs) (length gs) gs ≡ [] = stretch_none (length gs) gs in
     let end : drop (length ls) ls ≡ [] = drop_all (length ls) ls (omega arith) in
-    let inner : run_of ls gs a (length gs) (length ls) (length gs) ++ drop (length ls) ls ≡ drop a ls =
-    ap (λ (y : List (List ℤ)). run_of ls gs a (length gs) (length ls) (length gs) ++ y) end ∙ append-nil _
-    ∙ ap (λ (y : List GateLiterals). part a (length ls) ls ++ flat_map and_clauses y) none ∙ append-nil _ ∙ lists in
+    let inner : run_clauses ls gs a (length gs) (length ls) (length gs) ++ drop (length ls) ls ≡ drop a ls =
+    ap (λ (y : List (List ℤ)). run_clauses ls gs a (length gs) (length ls) (length gs) ++ y) end ∙ append-nil _
+    ∙ ap (λ (y : List GateLiterals). stretch a (length ls) ls ++ flat_map and_clauses y) none ∙ append-nil _ ∙ lists in
     ap (λ (y : List (List ℤ)). f ++ y) inner
-rows_close ls gs a (r ∷ rs) l g are = ap (λ (y : List (List ℤ)). run_of ls gs l g r.lists r.gates ++ y) (rows_close ls gs a rs r.lists r.gates are.2)
+rows_close ls gs a (r ∷ rs) l g are = ap (λ (y : List (List ℤ)). run_clauses ls gs l g r.lists r.gates ++ y) (rows_close ls gs a rs r.lists r.gates are.2)
 
 -- ---- how many they are
 
-pub length_run : (ls : List (List ℤ)) (gs : List GateLiterals) (l g a b : ℕ) → l ≤ a → a ≤ length ls → g ≤ b → b ≤ length gs → length (run_of ls gs l g a b) ≡ (a - l) + 3 * (b - g)
+pub length_run : (ls : List (List ℤ)) (gs : List GateLiterals) (l g a b : ℕ) → l ≤ a → a ≤ length ls → g ≤ b → b ≤ length gs → length (run_clauses ls gs l g a b) ≡ (a - l) + 3 * (b - g)
 length_run ls gs l g a b la al gb bg =
-    let p : length (part l a ls) ≡ a - l = length_part l a ls la al in
-    let q : length (part g b gs) ≡ b - g = length_part g b gs gb bg in
-    length-append (part l a ls) (flat_map and_clauses (part g b gs)) ∙ ap (λ n. n + length (flat_map and_clauses (part g b gs))) p ∙ ap (λ n. (a - l) + n) (length_gates (part g b gs) ∙ ap (λ n. 3 * n) q)
+    let p : length (stretch l a ls) ≡ a - l = length_stretch l a ls la al in
+    let q : length (stretch g b gs) ≡ b - g = length_stretch g b gs gb bg in
+    length-append (stretch l a ls) (flat_map and_clauses (stretch g b gs)) ∙ ap (λ n. n + length (flat_map and_clauses (stretch g b gs))) p ∙ ap (λ n. (a - l) + n) (length_gates (stretch g b gs) ∙ ap (λ n. 3 * n) q)
 
 length_from : (ls : List (List ℤ)) (gs : List GateLiterals) (a : ℕ) (rs : List Run) (l g : ℕ) → AreRuns (length ls) (length gs) a rs l g → length (rows ls gs a rs l g) + (l + 3 * g) ≡ length ls + 3 * length gs
 length_from ls gs a [] l g are =
     let x = are.0 in let y = are.1 in let z = are.2 in
     let run = length_run ls gs l g a (length gs) x y z (omega arith) in
-    let whole = length-append (run_of ls gs l g a (length gs)) (drop a ls) in
+    let whole = length-append (run_clauses ls gs l g a (length gs)) (drop a ls) in
     let left = length-drop a ls in
     omega (arith, run, whole, left)
 length_from ls gs a (r ∷ rs) l g are =
     let x = are.0 in let y = are.1 in
     let w = runs_within (length ls) (length gs) a rs r.lists r.gates are.2 in
     let run = length_run ls gs l g r.lists r.gates x w.0 y w.1 in
-    let whole = length-append (run_of ls gs l g r.lists r.gates) (rows ls gs a rs r.lists r.gates) in
+    let whole = length-append (run_clauses ls gs l g r.lists r.gates) (rows ls gs a rs r.lists r.gates) in
     let more = length_from ls gs a rs r.lists r.gates are.2 in
     omega (arith, run, whole, more)
 
@@ -131,17 +131,17 @@ gate_at (g ∷ gs) zero r j d lt small e =
 gate_at (g ∷ gs) (suc q) r j d lt small e =
     get_or-append_right (and_clauses g) (flat_map and_clauses gs) 3 j [] refl (omega (arith, e)) ∙ gate_at gs q r (j - 3) d (omega arith) small (omega (arith, e))
 
-pub run_list : (ls : List (List ℤ)) (gs : List GateLiterals) (l g a b i : ℕ) → l ≤ a → a ≤ length ls → i < a - l → get_or (run_of ls gs l g a b) i [] ≡ get_or ls (l + i) []
+pub run_list : (ls : List (List ℤ)) (gs : List GateLiterals) (l g a b i : ℕ) → l ≤ a → a ≤ length ls → i < a - l → get_or (run_clauses ls gs l g a b) i [] ≡ get_or ls (l + i) []
 run_list ls gs l g a b i la al lt =
-    let p : length (part l a ls) ≡ a - l = length_part l a ls la al in
-    get_or_append_left (part l a ls) (flat_map and_clauses (part g b gs)) [] i (omega (arith, p)) ∙ get_or-take (a - l) (drop l ls) i [] lt ∙ get_or-drop l ls i []
+    let p : length (stretch l a ls) ≡ a - l = length_stretch l a ls la al in
+    get_or_append_left (stretch l a ls) (flat_map and_clauses (stretch g b gs)) [] i (omega (arith, p)) ∙ get_or-take (a - l) (drop l ls) i [] lt ∙ get_or-drop l ls i []
 
-pub run_gate : (ls : List (List ℤ)) (gs : List GateLiterals) (l g a b i q r : ℕ) (d : GateLiterals) → l ≤ a → a ≤ length ls → g ≤ b → b ≤ length gs → q < b - g → r < 3 → i ≡ (a - l) + (3 * q + r) → get_or (run_of ls gs l g a b) i [] ≡ get_or (and_clauses (get_or gs (g + q) d)) r []
+pub run_gate : (ls : List (List ℤ)) (gs : List GateLiterals) (l g a b i q r : ℕ) (d : GateLiterals) → l ≤ a → a ≤ length ls → g ≤ b → b ≤ length gs → q < b - g → r < 3 → i ≡ (a - l) + (3 * q + r) → get_or (run_clauses ls gs l g a b) i [] ≡ get_or (and_clauses (get_or gs (g + q) d)) r []
 run_gate ls gs l g a b i q r d la al gb bg lt small e =
-    let p : length (part l a ls) ≡ a - l = length_part l a ls la al in
-    let n : length (part g b gs) ≡ b - g = length_part g b gs gb bg in
-    get_or-append_right (part l a ls) (flat_map and_clauses (part g b gs)) (a - l) i [] p (omega (arith, e))
-    ∙ gate_at (part g b gs) q r (i - (a - l)) d (omega (arith, n)) small (omega (arith, e))
+    let p : length (stretch l a ls) ≡ a - l = length_stretch l a ls la al in
+    let n : length (stretch g b gs) ≡ b - g = length_stretch g b gs gb bg in
+    get_or-append_right (stretch l a ls) (flat_map and_clauses (stretch g b gs)) (a - l) i [] p (omega (arith, e))
+    ∙ gate_at (stretch g b gs) q r (i - (a - l)) d (omega (arith, n)) small (omega (arith, e))
     ∙ ap (λ (x : GateLiterals). get_or (and_clauses x) r []) (get_or-take (b - g) (drop g gs) q d lt ∙ get_or-drop g gs q d)
 
 -- the index that is looked for is so far behind l and g, from run k on
@@ -164,18 +164,18 @@ left_run ls gs a rs index k l g left r lt at is =
     ((are.0, w.0), (are.1, w.1))
 
 pub left_found : (ls : List (List ℤ)) (gs : List GateLiterals) (a : ℕ) (rs : List Run) (index k l g left : ℕ) (r : Run) (c : List ℤ) → k < length rs → r ≡ get_or rs k r → IsLeft ls gs a rs index k l g left
-    → left < length (run_of ls gs l g r.lists r.gates) → c ≡ get_or (run_of ls gs l g r.lists r.gates) left [] → c ≡ get_or (rows ls gs a rs 0 0) index []
+    → left < length (run_clauses ls gs l g r.lists r.gates) → c ≡ get_or (run_clauses ls gs l g r.lists r.gates) left [] → c ≡ get_or (rows ls gs a rs 0 0) index []
 left_found ls gs a rs index k l g left r c lt at is inside found =
     let next : drop k rs ≡ r ∷ drop (k + 1) rs = drop_more rs k r lt ∙ ap (λ (s : Run). s ∷ drop (k + 1) rs) (sym at) in
     let more : List (List ℤ) = rows ls gs a (drop (k + 1) rs) r.lists r.gates in
-    found ∙ sym (get_or_append_left (run_of ls gs l g r.lists r.gates) more [] left inside)
+    found ∙ sym (get_or_append_left (run_clauses ls gs l g r.lists r.gates) more [] left inside)
     ∙ sym (is.same ∙ ap (λ (ss : List Run). get_or (rows ls gs a ss l g) left []) next)
 
 pub left_more : (ls : List (List ℤ)) (gs : List GateLiterals) (a : ℕ) (rs : List Run) (index k l g left later : ℕ) (r : Run) → k < length rs → r ≡ get_or rs k r → IsLeft ls gs a rs index k l g left
-    → left ≡ length (run_of ls gs l g r.lists r.gates) + later → IsLeft ls gs a rs index (k + 1) r.lists r.gates later
+    → left ≡ length (run_clauses ls gs l g r.lists r.gates) + later → IsLeft ls gs a rs index (k + 1) r.lists r.gates later
 left_more ls gs a rs index k l g left later r lt at is past =
     let next : drop k rs ≡ r ∷ drop (k + 1) rs = drop_more rs k r lt ∙ ap (λ (s : Run). s ∷ drop (k + 1) rs) (sym at) in
-    let run : List (List ℤ) = run_of ls gs l g r.lists r.gates in
+    let run : List (List ℤ) = run_clauses ls gs l g r.lists r.gates in
     let more : List (List ℤ) = rows ls gs a (drop (k + 1) rs) r.lists r.gates in
     let are : AreRuns (length ls) (length gs) a (r ∷ drop (k + 1) rs) l g = subst (λ (ss : List Run). AreRuns (length ls) (length gs) a ss l g) next is.are in
     let within : left < length (run ++ more) = subst (λ (ss : List Run). left < length (rows ls gs a ss l g)) next is.within in
@@ -198,22 +198,22 @@ pub left_last : (ls : List (List ℤ)) (gs : List GateLiterals) (a : ℕ) (rs : 
 left_last ls gs a rs index k l g left le is = subst (λ (ss : List Run). AreRuns (length ls) (length gs) a ss l g) (drop_all k rs le) is.are
 
 pub last_found : (ls : List (List ℤ)) (gs : List GateLiterals) (a : ℕ) (rs : List Run) (index k l g left : ℕ) (c : List ℤ) → length rs ≤ k → IsLeft ls gs a rs index k l g left
-    → left < length (run_of ls gs l g a (length gs)) → c ≡ get_or (run_of ls gs l g a (length gs)) left [] → c ≡ get_or (rows ls gs a rs 0 0) index []
+    → left < length (run_clauses ls gs l g a (length gs)) → c ≡ get_or (run_clauses ls gs l g a (length gs)) left [] → c ≡ get_or (rows ls gs a rs 0 0) index []
 last_found ls gs a rs index k l g left c le is inside found =
-    found ∙ sym (get_or_append_left (run_of ls gs l g a (length gs)) (drop a ls) [] left inside)
+    found ∙ sym (get_or_append_left (run_clauses ls gs l g a (length gs)) (drop a ls) [] left inside)
     ∙ sym (is.same ∙ ap (λ (ss : List Run). get_or (rows ls gs a ss l g) left []) (drop_all k rs le))
 
 pub last_within : (ls : List (List ℤ)) (gs : List GateLiterals) (a : ℕ) (rs : List Run) (index k l g left later : ℕ) → length rs ≤ k → IsLeft ls gs a rs index k l g left
-    → left ≡ length (run_of ls gs l g a (length gs)) + later → a + later < length ls
+    → left ≡ length (run_clauses ls gs l g a (length gs)) + later → a + later < length ls
 last_within ls gs a rs index k l g left later le is past =
-    let run : List (List ℤ) = run_of ls gs l g a (length gs) in
+    let run : List (List ℤ) = run_clauses ls gs l g a (length gs) in
     let within : left < length (run ++ drop a ls) = subst (λ (ss : List Run). left < length (rows ls gs a ss l g)) (drop_all k rs le) is.within in
     let whole = length-append run (drop a ls) in
     let rest = length-drop a ls in
     omega (arith, whole, within, past, rest)
 
 pub last_fits : (ls : List (List ℤ)) (gs : List GateLiterals) (a : ℕ) (rs : List Run) (index k l g left later : ℕ) → length rs ≤ k → IsLeft ls gs a rs index k l g left
-    → left ≡ length (run_of ls gs l g a (length gs)) + later → a + later ≤ index
+    → left ≡ length (run_clauses ls gs l g a (length gs)) + later → a + later ≤ index
 last_fits ls gs a rs index k l g left later le is past =
     let w = left_last ls gs a rs index k l g left le is in
     let low = w.0 in
@@ -223,9 +223,9 @@ last_fits ls gs a rs index k l g left later le is past =
     omega (arith, size, far, past, low, low_gates)
 
 pub last_behind : (ls : List (List ℤ)) (gs : List GateLiterals) (a : ℕ) (rs : List Run) (index k l g left later : ℕ) (c : List ℤ) → length rs ≤ k → IsLeft ls gs a rs index k l g left
-    → left ≡ length (run_of ls gs l g a (length gs)) + later → c ≡ get_or ls (a + later) [] → c ≡ get_or (rows ls gs a rs 0 0) index []
+    → left ≡ length (run_clauses ls gs l g a (length gs)) + later → c ≡ get_or ls (a + later) [] → c ≡ get_or (rows ls gs a rs 0 0) index []
 last_behind ls gs a rs index k l g left later c le is past found =
-    let run : List (List ℤ) = run_of ls gs l g a (length gs) in
+    let run : List (List ℤ) = run_clauses ls gs l g a (length gs) in
     found ∙ sym (get_or-drop a ls later [])
     ∙ ap (λ n. get_or (drop a ls) n []) (let e : later ≡ left - length run = omega (arith, past) in e)
     ∙ sym (get_or-append_right run (drop a ls) (length run) left [] refl (omega (arith, past)))
@@ -233,29 +233,59 @@ last_behind ls gs a rs index k l g left later c le is past found =
 
 -- ---- what each addition does
 
-pub listed_more : (ls : List (List ℤ)) (gs : List GateLiterals) (a : ℕ) (rs : List Run) (c : List ℤ) → AreRows ls gs a rs → AreRows (ls ++ c ∷ []) gs a rs
+pub listed_more : (ls : List (List ℤ)) (gs : List GateLiterals) (a : ℕ) (rs : List Run) (c : List ℤ) → AreRowed ls gs a rs → AreRowed (ls ++ c ∷ []) gs a rs
 listed_more ls gs a rs c are = record {
   runs = runs_more (length ls) (length gs) a (length (ls ++ c ∷ [])) (length gs) rs 0 0 (omega (arith, length-append ls (c ∷ []))) (omega arith) are.runs;
   negations = are.negations;
 }
 
+drop_on : {A : Type 0} (xs : List A) (m n k : ℕ) → k ≡ m + n → drop k xs ≡ drop n (drop m xs)
+drop_on [] m n k is = drop_all k [] (omega arith) ∙ sym (ap (drop n) (drop_all m [] (omega arith)) ∙ drop_all n [] (omega arith))
+drop_on (x ∷ xs) zero n k is = ap (λ i. drop i (x ∷ xs)) (let e : k ≡ n = omega (arith, is) in e)
+drop_on (x ∷ xs) (suc m) n zero is = absurd (omega (arith, is))
+drop_on (x ∷ xs) (suc m) n (suc k) is = drop_on xs m n k (omega (arith, is))
+
+from_here : (ls : List (List ℤ)) (gs : List GateLiterals) (a l g : ℕ) → length gs ≡ 0 → l ≤ a → rows ls gs a [] l g ≡ drop l ls
+from_here ls gs a l g none le =
+    let gates : stretch g (length gs) gs ≡ [] = stretch_all g gs ∙ drop_all g gs (omega arith) in
+    let rest : drop a ls ≡ drop (a - l) (drop l ls) = drop_on ls l (a - l) a (omega arith) in
+    ap (λ (y : List GateLiterals). stretch l a ls ++ flat_map and_clauses y ++ drop a ls) gates
+    ∙ ap (λ (y : List (List ℤ)). y ++ drop a ls) (append-nil (stretch l a ls))
+    ∙ ap (λ (y : List (List ℤ)). stretch l a ls ++ y) rest ∙ take-append-drop (a - l) (drop l ls)
+
+-- before the first gate a run ends anywhere
+rows_first : (ls : List (List ℤ)) (gs : List GateLiterals) (a : ℕ) (rs : List Run) (l g : ℕ) → length gs ≡ 0 → AreRuns (length ls) (length gs) a rs l g → rows ls gs (length ls) rs l g ≡ rows ls gs a rs l g
+rows_first ls gs a [] l g none are = from_here ls gs (length ls) l g none (let x = are.0 in let y = are.1 in omega arith) ∙ sym (from_here ls gs a l g none are.0)
+rows_first ls gs a (r ∷ rs) l g none are = ap (λ (y : List (List ℤ)). run_clauses ls gs l g r.lists r.gates ++ y) (rows_first ls gs a rs r.lists r.gates none are.2)
+
+runs_first : (n m a : ℕ) (rs : List Run) (l g : ℕ) → AreRuns n m a rs l g → AreRuns n m n rs l g
+runs_first n m a [] l g are = ((let x = are.0 in let y = are.1 in omega arith), omega arith, are.2)
+runs_first n m a (r ∷ rs) l g are = (are.0, are.1, runs_first n m a rs r.lists r.gates are.2)
+
 -- a gate can be added to the last run
 pub record IsOpen (ls : List (List ℤ)) (gs : List GateLiterals) (a : ℕ) (rs : List Run) (b : ℕ) (ss : List Run) : Type 0 where
-  pub are : AreRows ls gs b ss
+  pub are : AreRowed ls gs b ss
   pub full : length ls ≤ b
   pub same : rows ls gs b ss 0 0 ≡ rows ls gs a rs 0 0
 
-pub open_same : (ls : List (List ℤ)) (gs : List GateLiterals) (a : ℕ) (rs : List Run) → AreRows ls gs a rs → length ls ≤ a → IsOpen ls gs a rs a rs
+pub open_same : (ls : List (List ℤ)) (gs : List GateLiterals) (a : ℕ) (rs : List Run) → AreRowed ls gs a rs → length ls ≤ a → IsOpen ls gs a rs a rs
 open_same ls gs a rs are full = record { are = are; full = full; same = refl }
 
-pub open_close : (ls : List (List ℤ)) (gs : List GateLiterals) (a : ℕ) (rs : List Run) → AreRows ls gs a rs → IsOpen ls gs a rs (length ls) (rs ++ record { lists = a; gates = length gs } ∷ [])
+pub open_first : (ls : List (List ℤ)) (gs : List GateLiterals) (a : ℕ) (rs : List Run) → AreRowed ls gs a rs → length gs ≡ 0 → IsOpen ls gs a rs (length ls) rs
+open_first ls gs a rs are none = record {
+  are = record { runs = runs_first (length ls) (length gs) a rs 0 0 are.runs; negations = are.negations };
+  full = omega arith;
+  same = rows_first ls gs a rs 0 0 none are.runs;
+}
+
+pub open_close : (ls : List (List ℤ)) (gs : List GateLiterals) (a : ℕ) (rs : List Run) → AreRowed ls gs a rs → IsOpen ls gs a rs (length ls) (rs ++ record { lists = a; gates = length gs } ∷ [])
 open_close ls gs a rs are = record {
   are = record { runs = runs_close (length ls) (length gs) a rs 0 0 are.runs; negations = are.negations };
   full = omega arith;
   same = rows_close ls gs a rs 0 0 are.runs;
 }
 
-pub gated_more : (ls : List (List ℤ)) (gs : List GateLiterals) (a : ℕ) (rs : List Run) (b : ℕ) (ss : List Run) (x : GateLiterals) → HasNegations x → IsOpen ls gs a rs b ss → AreRows ls (gs ++ x ∷ []) b ss
+pub gated_more : (ls : List (List ℤ)) (gs : List GateLiterals) (a : ℕ) (rs : List Run) (b : ℕ) (ss : List Run) (x : GateLiterals) → HasNegations x → IsOpen ls gs a rs b ss → AreRowed ls (gs ++ x ∷ []) b ss
 gated_more ls gs a rs b ss x has is = record {
   runs = runs_more (length ls) (length gs) b (length ls) (length (gs ++ x ∷ [])) ss 0 0 (omega arith) (omega (arith, length-append gs (x ∷ []))) is.are.runs;
   negations = All-push HasNegations gs x is.are.negations has;

@@ -4,7 +4,7 @@ use Rattle.lrat.specs.declared.found_clause.FoundClause.{FoundClause}
 use Rattle.lrat.specs.declared.found_clause.FoundClause.TheVariants.{Slice, Pair, Triple}
 
 -- the literals in order
-abbrev pub literals_of : FoundClause → List ℤ
-literals_of (Slice c) = c.now
-literals_of (Pair c) = c
-literals_of (Triple c) = c
+abbrev pub found_literals : FoundClause → List ℤ
+found_literals (Slice c) = c.now
+found_literals (Pair c) = c
+found_literals (Triple c) = c

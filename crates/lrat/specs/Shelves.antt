@@ -22,7 +22,7 @@ abbrev pub shelf_of : List (List ℤ) → ℕ → Row → Shelf
 shelf_of cs given r = record { row = record { vars = r.vars; slots = slots_from 1 cs ++ r.slots }; given = given }
 
 -- so many clauses of literals of the variables 1 to n, whose ids fit 32 bits
-pub record AreGiven (n : ℕ) (cs : List (List ℤ)) (given : ℕ) : Type 0 where
+pub record AreShelved (n : ℕ) (cs : List (List ℤ)) (given : ℕ) : Type 0 where
   pub number : given ≡ length cs
   pub few : length cs < 4294967296
   pub in_range : All (λ c. All (IsLiteral n) c) cs

@@ -1,8 +1,8 @@
 //! Clauses that a refuter takes over.
 
 ghost use Rattle.std.specs.Prelude.{◌≡◌, ◌<◌, ◌≤◌, ◌+◌, ◌*◌, ◌^◌, ◌++◌, ◌∷◌, [], All, IfErr, IfOk, OnOk, get_or, length};
-ghost use Rattle.lrat.specs.Found.{literals_of};
-ghost use Rattle.lrat.specs.Rows.{AreRows, AreRuns, HasNegations, and_clauses, rows, run_of};
+ghost use Rattle.lrat.specs.Found.{found_literals};
+ghost use Rattle.lrat.specs.Rows.{AreRowed, AreRuns, HasNegations, and_clauses, rows, run_clauses};
 
 use crate::clause::Clause;
 use crate::found_clause::FoundClause;
@@ -61,13 +61,13 @@ pub struct ClauseRow {
 
 impl Model for ClauseRow {
     ghost use Rattle.std.specs.Prelude.{ℤ, List};
-    ghost use Rattle.lrat.specs.Rows.{AreRows, rows};
+    ghost use Rattle.lrat.specs.Rows.{AreRowed, rows};
 
     ghost Value = { List (List ℤ) };
 
     ghost view = { λ r. rows r.lists r.gates.items r.before r.runs.items 0 0 };
 
-    ghost invariant = { λ r. AreRows r.lists r.gates.items r.before r.runs.items };
+    ghost invariant = { λ r. AreRowed r.lists r.gates.items r.before r.runs.items };
 }
 
 impl ClauseRow {
@@ -96,7 +96,7 @@ impl ClauseRow {
     #[inline]
     pub(crate) fn clause(&self, index: usize) -> FoundClause<'_>
         requires { index < length self.now }
-        ensures { literals_of result ≡ get_or self.now index [] }
+        ensures { found_literals result ≡ get_or self.now index [] }
     {
         clause_at(&self.lists, &self.gates, &self.runs, self.before, index)
     }
@@ -113,13 +113,16 @@ impl AddClause for ClauseRow {
 
     #[inline(always)]
     fn add_gate(&mut self, _alloc: Global, gate: GateLiterals) -> Result<(), Refused> {
-        if self.before < self.lists.len() {
+        let lists = self.lists.len();
+        if self.gates.len() == 0 {
+            self.before = lists;
+        } else if self.before < lists {
             let run = Run {
                 lists: self.before,
                 gates: self.gates.len(),
             };
             push(&mut self.runs, run)?;
-            self.before = self.lists.len();
+            self.before = lists;
         }
         push(&mut self.gates, gate)?;
         Ok(())
@@ -135,9 +138,9 @@ fn clause_at<'a>(
     before: usize,
     index: usize,
 ) -> FoundClause<'a>
-    requires are { AreRows lists.now gates.now before runs.now }
+    requires are { AreRowed lists.now gates.now before runs.now }
     requires within { index < length (rows lists.now gates.now before runs.now 0 0) }
-    ensures { literals_of result ≡ get_or (rows lists.now gates.now before runs.now 0 0) index [] }
+    ensures { found_literals result ≡ get_or (rows lists.now gates.now before runs.now 0 0) index [] }
 {
     let mut begin = Run { lists: 0, gates: 0 };
     let mut left = index;
@@ -170,9 +173,9 @@ fn clause_in<'a>(
     requires negations { All HasNegations gates.now }
     requires lists { (begin.lists ≤ end.lists) × (end.lists ≤ length lists.now) }
     requires gates { (begin.gates ≤ end.gates) × (end.gates ≤ length gates.now) }
-    ensures within { IfOk result (λ c. index < length (run_of lists.now gates.now begin.lists begin.gates end.lists end.gates)) }
-    ensures found { IfOk result (λ c. literals_of c ≡ get_or (run_of lists.now gates.now begin.lists begin.gates end.lists end.gates) index []) }
-    ensures behind { IfErr result (λ later. index ≡ length (run_of lists.now gates.now begin.lists begin.gates end.lists end.gates) + later) }
+    ensures within { IfOk result (λ c. index < length (run_clauses lists.now gates.now begin.lists begin.gates end.lists end.gates)) }
+    ensures found { IfOk result (λ c. found_literals c ≡ get_or (run_clauses lists.now gates.now begin.lists begin.gates end.lists end.gates) index []) }
+    ensures behind { IfErr result (λ later. index ≡ length (run_clauses lists.now gates.now begin.lists begin.gates end.lists end.gates) + later) }
 {
     let many = end.lists - begin.lists;
     if index < many {

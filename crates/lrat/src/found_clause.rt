@@ -1,7 +1,7 @@
 //! Clauses as a look-up finds them.
 
 ghost use Rattle.std.specs.Prelude.{◌≡◌};
-ghost use Rattle.lrat.specs.Found.{literals_of};
+ghost use Rattle.lrat.specs.Found.{found_literals};
 
 /// A clause that was found: where it is kept, or made for the look at it.
 #[derive(Clone, Copy)]
@@ -18,7 +18,7 @@ impl<'a> FoundClause<'a> {
     /// The literals in order.
     #[inline(always)]
     pub fn as_slice(&self) -> &[i32]
-        ensures { result.now ≡ literals_of self.now }
+        ensures { result.now ≡ found_literals self.now }
     {
         match self {
             FoundClause::Slice(clause) => clause,

@@ -1,7 +1,7 @@
 //! AND gates as literals.
 
 ghost use Rattle.std.specs.Prelude.{◌≡◌, ◌<◌, [], get_or};
-ghost use Rattle.lrat.specs.Found.{literals_of};
+ghost use Rattle.lrat.specs.Found.{found_literals};
 ghost use Rattle.lrat.specs.Rows.{HasNegations, and_clauses};
 
 use crate::found_clause::FoundClause;
@@ -21,7 +21,7 @@ impl GateLiterals {
     pub(crate) fn clause<'a>(self, index: usize) -> FoundClause<'a>
         requires within { index < 3 }
         requires negations { HasNegations self }
-        ensures { literals_of result ≡ get_or (and_clauses self) index [] }
+        ensures { found_literals result ≡ get_or (and_clauses self) index [] }
     {
         match index {
             0 => FoundClause::Pair([-self.output, self.left]),

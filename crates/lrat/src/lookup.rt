@@ -1,7 +1,7 @@
 //! Where a proof's check finds the clauses that hints name.
 
 ghost use Rattle.std.specs.Prelude.{◌≡◌, ℕ, ℤ, List, Option, All, IfSome, option_map};
-ghost use Rattle.lrat.specs.Found.{literals_of};
+ghost use Rattle.lrat.specs.Found.{found_literals};
 ghost use Rattle.lrat.specs.Literals.{IsLiteral};
 
 use crate::found_clause::FoundClause;
@@ -20,6 +20,6 @@ pub trait Lookup {
 
     /// The clause with this id, if there is one.
     fn get(&self, id: u32) -> Option<FoundClause<'_>>
-        ensures value { option_map literals_of result ≡ find self.now id }
-        ensures in_range { IfSome result (λ c. All (IsLiteral (vars self.now)) (literals_of c)) };
+        ensures value { option_map found_literals result ≡ find self.now id }
+        ensures in_range { IfSome result (λ c. All (IsLiteral (vars self.now)) (found_literals c)) };
 }

@@ -32,7 +32,8 @@ use std::marker::Model;
 ///
 /// It keeps one mark for each variable through all lines and all refutations. A line costs the
 /// literals of its clause and of the clauses that it hints, and for each id the logarithm of the
-/// number of clauses, or a constant where no id up to it is missing, or none behind it.
+/// number of clauses, or a constant where no id up to it is missing, or none behind it. The first
+/// deletion of a clause of the formula costs all clauses.
 #[derive(Drop)]
 pub struct Refuter {
     /// holds nothing between lines

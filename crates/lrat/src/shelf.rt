@@ -1,9 +1,9 @@
 //! The clauses of a formula, and behind them those of lines.
 
 ghost use Rattle.std.specs.Prelude.{◌≡◌, ◌≤◌, ◌<◌, ◌^◌, ◌++◌, ◌∷◌, [], true, false, All, Contains, IfOk, MatchOption, OnOk, OnErr, get_or, length, set, take};
-ghost use Rattle.lrat.specs.Found.{literals_of};
+ghost use Rattle.lrat.specs.Found.{found_literals};
 ghost use Rattle.lrat.specs.Literals.{IsLiteral};
-ghost use Rattle.lrat.specs.Shelves.{AreGiven, slots_from};
+ghost use Rattle.lrat.specs.Shelves.{AreShelved, slots_from};
 ghost use Rattle.lrat.specs.Slots.{IsRising, IsTidied, blank, ids_in, live_slots};
 
 use crate::clause_row::ClauseRow;
@@ -32,11 +32,11 @@ impl Model for Shelf {
 
     ghost coded = { shelf_code };
 
-    ghost use Rattle.lrat.specs.Shelves.{AreGiven, shelf_of};
+    ghost use Rattle.lrat.specs.Shelves.{AreShelved, shelf_of};
 
     ghost view = { λ s. shelf_of s.formula s.given s.row };
 
-    ghost invariant = { λ s. AreGiven s.row.vars s.formula s.given };
+    ghost invariant = { λ s. AreShelved s.row.vars s.formula s.given };
 }
 
 impl Shelf {
@@ -124,8 +124,8 @@ impl Shelf {
     #[inline(always)]
     pub fn clause(&self, index: usize) -> FoundClause<'_>
         requires { index < length self.now.row.slots }
-        ensures value { literals_of result ≡ (get_or self.now.row.slots index blank).clause }
-        ensures in_range { All (IsLiteral self.now.row.vars) (literals_of result) }
+        ensures value { found_literals result ≡ (get_or self.now.row.slots index blank).clause }
+        ensures in_range { All (IsLiteral self.now.row.vars) (found_literals result) }
     {
         if index < self.given {
             return self.formula.clause(index);
@@ -204,7 +204,7 @@ impl Shelf {
 
 /// The formula's clauses, and behind them the others, in one row.
 fn joined(formula: &ClauseRow, given: usize, row: &Row) -> Result<Row, Refused>
-    requires { AreGiven row.now.vars formula.now given }
+    requires { AreShelved row.now.vars formula.now given }
     ensures { IfOk result (λ r. r ≡ record { vars = row.now.vars; slots = slots_from 1 formula.now ++ row.now.slots }) }
 {
     let mut all = numbered(formula, given, row)?;
@@ -216,7 +216,7 @@ fn joined(formula: &ClauseRow, given: usize, row: &Row) -> Result<Row, Refused>
 
 /// The formula's clauses in a row of the same variables.
 fn numbered(formula: &ClauseRow, given: usize, row: &Row) -> Result<Row, Refused>
-    requires { AreGiven row.now.vars formula.now given }
+    requires { AreShelved row.now.vars formula.now given }
     ensures { IfOk result (λ r. r ≡ record { vars = row.now.vars; slots = slots_from 1 formula.now }) }
 {
     let mut all = Row::new(row.allocator(), row.vars());

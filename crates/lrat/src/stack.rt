@@ -22,7 +22,8 @@ use std::marker::Model;
 /// Clauses that many refutations share, and over them those of the one in progress, which can be
 /// forgotten in time of what it did. Ids rise, so that the shared clauses come first. A clause is
 /// found in constant time where no id up to it is missing, or none behind it, and else in time of
-/// the logarithm. One of the refutation's own that is taken out makes room for others.
+/// the logarithm. One of the refutation's own that is taken out makes room for others. The formula's
+/// keep the form in which they came, until one of them is taken out.
 #[derive(Drop)]
 pub struct Stack {
     /// the shared clauses, and then the refutation's own
@@ -118,8 +119,8 @@ impl Stack {
         Ok(())
     }
 
-    /// Takes out the clause with this id, and answers whether there was one. Without memory
-    /// nothing changes.
+    /// Takes out the clause with this id, and answers whether there was one. The first of the
+    /// formula's costs all clauses. Without memory nothing changes.
     pub fn remove(&mut self, id: u32) -> Result<bool, Refused>
         ensures was { IfOk result (λ was. was ≡ fin.contains_key self.old.present id) }
         ensures ok { OnOk result (self.new ≡ record { base = self.old.base; present = fin.remove self.old.present id; top = self.old.top }) }
