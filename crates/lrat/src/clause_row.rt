@@ -1,8 +1,8 @@
 //! Clauses that a refuter takes over.
 
-ghost use Rattle.std.specs.Prelude.{◌≡◌, ◌<◌, ◌≤◌, ◌+◌, ◌*◌, ◌^◌, ◌++◌, ◌∷◌, [], All, IfErr, IfOk, OnOk, get_or, length};
+ghost use Rattle.std.specs.Prelude.{◌≡◌, ◌<◌, ◌≤◌, ◌+◌, ◌^◌, ◌++◌, ◌∷◌, [], All, IfErr, IfOk, OnOk, get_or, length};
 ghost use Rattle.lrat.specs.Found.{found_literals};
-ghost use Rattle.lrat.specs.Rows.{AreRowed, AreRuns, HasNegations, and_clauses, rows, run_clauses};
+ghost use Rattle.lrat.specs.Rows.{AreRowed, HasNegations, and_clauses, rows, run_clauses};
 
 use crate::clause::Clause;
 use crate::found_clause::FoundClause;

@@ -41,7 +41,7 @@ impl Model for Row {
 /// Adds the literals of a clause at the end. Without memory the list stays. It adds them one by one:
 /// most clauses have a few, and a copy of a few costs a call.
 #[inline(always)]
-pub(crate) fn add_literals(to: &mut Vec<i32>, clause: &[i32]) -> Result<(), Refused>
+fn add_literals(to: &mut Vec<i32>, clause: &[i32]) -> Result<(), Refused>
     ensures items { to.new.items ≡ (if is_ok result then to.old.items ++ clause.now else to.old.items) }
 {
     let start = to.len();
