@@ -1,5 +1,5 @@
 -- Clauses as lists and as gates, in runs.
-use Rattle.std.proofs.Common.{◌≡◌, ℕ, zero, suc, ◌+◌, ◌-◌, ◌*◌, ◌<◌, ◌≤◌, List, [], ◌∷◌, ◌++◌, ℤ, take, drop, length, get_or, flat_map, refl, sym, ◌∙◌, ap, subst, arith, All}
+use Rattle.std.proofs.Common.{◌≡◌, ℕ, zero, suc, ◌+◌, ◌-◌, ◌*◌, ◌<◌, ◌≤◌, List, [], ◌∷◌, ◌++◌, ℤ, take, drop, length, get_or, flat_map, refl, sym, ◌∙◌, ap, subst, arith}
 use Rattle.std.proofs.lemmas.List.{append_assoc, append-nil, length-append, length-drop, length-take-le, take-append-le, drop-append-le, take_all, drop_all, drop_more, take-append-drop, get_or-take, get_or-drop, get_or_append_left, get_or-append_right}
 use Rattle.std.proofs.lemmas.Grind.{flat_map-append}
 use Rattle.std.proofs.lemmas.List.Elements.{All-push}
@@ -163,14 +163,6 @@ left_run ls gs a rs index k l g left r lt at is =
     let w = runs_within (length ls) (length gs) a (drop (k + 1) rs) r.lists r.gates are.2 in
     ((are.0, w.0), (are.1, w.1))
 
-pub left_found : (ls : List (List ℤ)) (gs : List GateLiterals) (a : ℕ) (rs : List Run) (index k l g left : ℕ) (r : Run) (c : List ℤ) → k < length rs → r ≡ get_or rs k r → IsLeft ls gs a rs index k l g left
-    → left < length (run_clauses ls gs l g r.lists r.gates) → c ≡ get_or (run_clauses ls gs l g r.lists r.gates) left [] → c ≡ get_or (rows ls gs a rs 0 0) index []
-left_found ls gs a rs index k l g left r c lt at is inside found =
-    let next : drop k rs ≡ r ∷ drop (k + 1) rs = drop_more rs k r lt ∙ ap (λ (s : Run). s ∷ drop (k + 1) rs) (sym at) in
-    let more : List (List ℤ) = rows ls gs a (drop (k + 1) rs) r.lists r.gates in
-    found ∙ sym (get_or_append_left (run_clauses ls gs l g r.lists r.gates) more [] left inside)
-    ∙ sym (is.same ∙ ap (λ (ss : List Run). get_or (rows ls gs a ss l g) left []) next)
-
 pub left_more : (ls : List (List ℤ)) (gs : List GateLiterals) (a : ℕ) (rs : List Run) (index k l g left later : ℕ) (r : Run) → k < length rs → r ≡ get_or rs k r → IsLeft ls gs a rs index k l g left
     → left ≡ length (run_clauses ls gs l g r.lists r.gates) + later → IsLeft ls gs a rs index (k + 1) r.lists r.gates later
 left_more ls gs a rs index k l g left later r lt at is past =
@@ -197,21 +189,6 @@ left_more ls gs a rs index k l g left later r lt at is past =
 pub left_last : (ls : List (List ℤ)) (gs : List GateLiterals) (a : ℕ) (rs : List Run) (index k l g left : ℕ) → length rs ≤ k → IsLeft ls gs a rs index k l g left → (l ≤ a) × (a ≤ length ls) × (g ≤ length gs)
 left_last ls gs a rs index k l g left le is = subst (λ (ss : List Run). AreRuns (length ls) (length gs) a ss l g) (drop_all k rs le) is.are
 
-pub last_found : (ls : List (List ℤ)) (gs : List GateLiterals) (a : ℕ) (rs : List Run) (index k l g left : ℕ) (c : List ℤ) → length rs ≤ k → IsLeft ls gs a rs index k l g left
-    → left < length (run_clauses ls gs l g a (length gs)) → c ≡ get_or (run_clauses ls gs l g a (length gs)) left [] → c ≡ get_or (rows ls gs a rs 0 0) index []
-last_found ls gs a rs index k l g left c le is inside found =
-    found ∙ sym (get_or_append_left (run_clauses ls gs l g a (length gs)) (drop a ls) [] left inside)
-    ∙ sym (is.same ∙ ap (λ (ss : List Run). get_or (rows ls gs a ss l g) left []) (drop_all k rs le))
-
-pub last_within : (ls : List (List ℤ)) (gs : List GateLiterals) (a : ℕ) (rs : List Run) (index k l g left later : ℕ) → length rs ≤ k → IsLeft ls gs a rs index k l g left
-    → left ≡ length (run_clauses ls gs l g a (length gs)) + later → a + later < length ls
-last_within ls gs a rs index k l g left later le is past =
-    let run : List (List ℤ) = run_clauses ls gs l g a (length gs) in
-    let within : left < length (run ++ drop a ls) = subst (λ (ss : List Run). left < length (rows ls gs a ss l g)) (drop_all k rs le) is.within in
-    let whole = length-append run (drop a ls) in
-    let rest = length-drop a ls in
-    omega (arith, whole, within, past, rest)
-
 pub last_fits : (ls : List (List ℤ)) (gs : List GateLiterals) (a : ℕ) (rs : List Run) (index k l g left later : ℕ) → length rs ≤ k → IsLeft ls gs a rs index k l g left
     → left ≡ length (run_clauses ls gs l g a (length gs)) + later → a + later ≤ index
 last_fits ls gs a rs index k l g left later le is past =
@@ -221,15 +198,6 @@ last_fits ls gs a rs index k l g left later le is past =
     let size = length_run ls gs l g a (length gs) w.0 w.1 w.2 (omega arith) in
     let far = is.far in
     omega (arith, size, far, past, low, low_gates)
-
-pub last_behind : (ls : List (List ℤ)) (gs : List GateLiterals) (a : ℕ) (rs : List Run) (index k l g left later : ℕ) (c : List ℤ) → length rs ≤ k → IsLeft ls gs a rs index k l g left
-    → left ≡ length (run_clauses ls gs l g a (length gs)) + later → c ≡ get_or ls (a + later) [] → c ≡ get_or (rows ls gs a rs 0 0) index []
-last_behind ls gs a rs index k l g left later c le is past found =
-    let run : List (List ℤ) = run_clauses ls gs l g a (length gs) in
-    found ∙ sym (get_or-drop a ls later [])
-    ∙ ap (λ n. get_or (drop a ls) n []) (let e : later ≡ left - length run = omega (arith, past) in e)
-    ∙ sym (get_or-append_right run (drop a ls) (length run) left [] refl (omega (arith, past)))
-    ∙ sym (is.same ∙ ap (λ (ss : List Run). get_or (rows ls gs a ss l g) left []) (drop_all k rs le))
 
 -- ---- what each addition does
 

@@ -1,9 +1,8 @@
 -- The clauses of a formula, and behind them those of lines.
-use Rattle.std.proofs.Common.{◌≡◌, ℕ, zero, suc, ◌+◌, ◌-◌, ◌<◌, ◌≤◌, ◌⊎◌, inl, inr, true, List, [], ◌∷◌, ◌++◌, ℤ, take, drop, length, map, get_or, set, refl, sym, ◌∙◌, ap, subst, arith, All, Contains}
+use Rattle.std.proofs.Common.{◌≡◌, ℕ, zero, suc, ◌+◌, ◌-◌, ◌<◌, ◌≤◌, inl, inr, true, List, [], ◌∷◌, ◌++◌, ℤ, take, drop, length, get_or, set, refl, sym, ◌∙◌, ap, subst, arith, All, Contains}
 use Rattle.std.proofs.Math.Seq.{take-append-add, drop-append-add}
-use Rattle.std.proofs.lemmas.List.{append_assoc, map-append, length-append, length-map, length-take-le, take-append-le, take_all, take_more, drop_all, get_or-map, get_or_append_left, get_or-append_right, set-append_right}
-use Rattle.std.proofs.lemmas.List.Elements.{All-nil, All-cons, All-push, All-contains, All-get_or, Contains-append_cases, filter-append}
-use Rattle.std.specs.List.{filter}
+use Rattle.std.proofs.lemmas.List.{append_assoc, map-append, length-append, length-map, take_all, take_more, get_or-map, get_or_append_left, get_or-append_right, set-append_right}
+use Rattle.std.proofs.lemmas.List.Elements.{All-nil, All-cons, All-push, All-contains, Contains-append_cases, filter-append}
 use Rattle.lrat.specs.Layers.{AreFresh}
 use Rattle.lrat.specs.Shelves.{slots_from, AreLoose}
 use Rattle.lrat.specs.Slots.{Row, Slot, blank, ids_in, live_slots, live_slots_from, IsRising, IsTidied}

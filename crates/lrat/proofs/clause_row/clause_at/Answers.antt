@@ -1,7 +1,7 @@
-use Rattle.std.proofs.Common.{◌≡◌, ◌<◌, List, length, get_or, sym, arith}
+use Rattle.std.proofs.Common.{get_or, arith}
 use Rattle.std.proofs.lemmas.List.{get_or_default}
 use Rattle.lrat.specs.declared.run.Run.{Run}
-use Rattle.lrat.proofs.Rowed.{left_none, left_run, left_found, left_more, left_last, last_found, last_within, last_fits, last_behind}
+use Rattle.lrat.proofs.Rowed.{left_none, left_run, left_more, last_fits}
 use Rattle.lrat.proofs.clause_row.clause_at.Goals as goal
 
 pub loop-run-init : goal.loop-run-init

@@ -1,5 +1,4 @@
-use Rattle.std.proofs.Common.{◌≡◌, ◌∙◌, ◌+◌, ◌-◌, ◌*◌, ◌/◌, ◌<◌, ◌≤◌, ℕ, length, sym, arith}
-use Rattle.lrat.specs.Rows.{run_clauses}
+use Rattle.std.proofs.Common.{◌∙◌, ◌-◌, ◌*◌, ◌/◌, ℕ, sym, arith}
 use Rattle.lrat.proofs.Rowed.{length_run, run_gate}
 use Rattle.lrat.proofs.clause_row.clause_in.Goals as goal
 

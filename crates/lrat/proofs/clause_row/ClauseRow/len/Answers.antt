@@ -1,4 +1,4 @@
-use Rattle.std.proofs.Common.{◌≡◌, ◌+◌, ◌*◌, ◌<◌, ◌∙◌, ap, sym, length, List, ℤ, arith}
+use Rattle.std.proofs.Common.{◌≡◌, ◌+◌, ◌*◌, length, arith}
 use Rattle.lrat.specs.Rows.{rows}
 use Rattle.lrat.proofs.Rowed.{length_rows}
 use Rattle.lrat.proofs.clause_row.ClauseRow.len.Goals as goal

@@ -1,4 +1,4 @@
-use Rattle.std.proofs.Common.{◌≡◌, ◌∙◌, ap, sym, refl, List, ℕ, ℤ, [], ◌∷◌, ◌++◌, false, take, map, get_or, set, arith, None}
+use Rattle.std.proofs.Common.{◌≡◌, ◌∙◌, ap, sym, refl, List, [], false, take, map, get_or, set, arith, None}
 use Rattle.std.specs.FinMap as fin
 use Rattle.lrat.specs.Layers.{layers_of, AreLayered}
 use Rattle.lrat.specs.Shelves.{AreLoose}
