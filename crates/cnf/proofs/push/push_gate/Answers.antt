@@ -1,6 +1,5 @@
 use Rattle.std.proofs.Common.{rules, SFits, w32, ◌∙◌, ◌++◌, List, ℤ, ap}
 use Rattle.lrat.proofs.Fit.{read32}
-use Rattle.cnf.specs.Clauses.{literal}
 use Rattle.cnf.proofs.Made.{gate_made, literal_small}
 use Rattle.cnf.proofs.push.push_gate.Goals as goal
 
