@@ -160,8 +160,9 @@ IsBounded m j = (r : List Valuation) (n : ℕ) → IsRun m r → KeepsConstraint
 -- what a property's certificate shows: no run that keeps the constraints sets the literal that the property watches, or
 -- holds more rounds of justice than there are states
 abbrev pub IsUpheld : Parts → Property → Type 0
+IsUpheld m (Bad n) = IsSafe m (Bad n)
 IsUpheld m (Justice n) = IsBounded m n
-IsUpheld m safety = IsSafe m safety
+IsUpheld m (Output n) = IsSafe m (Output n)
 
 -- the literals that define something: inputs, latches and the gates' left sides
 abbrev pub defining : Parts → List Lit
