@@ -128,7 +128,11 @@ pub record IsAskedAbout {E : Type 0} (answers : E → Parts → Steps → Result
 abbrev pub Asks : {E : Type 0} → (E → Parts → Steps → Result Finding EngineError → Steps → Type 0) → Parts → Property → List E → List E → Steps → Result Verdict DecideError → Steps → Type 0
 Asks answers m p old new before r after = IsUnasked m p old new before r after ⊎ IsAskedAbout answers m p old new before r after
 
+-- there is no circuit to ask about: no such property, over the limit, or out of memory
+abbrev pub IsNoCircuit : Parts → Property → DecideError → Type 0
+IsNoCircuit m p e = (e ≡ Limit → 4194303 < (circuit_of m p).max_var) × (e ≢ IdsTaken full)
+
 -- what a call comes to that asks one engine: there is no circuit to ask about, and it was not asked; or it was asked once, about
 -- the circuit with one bad literal that is the property's
 abbrev pub AsksOne : (Parts → Steps → Result Finding EngineError → Steps → Type 0) → Parts → Property → Steps → Result Verdict DecideError → Steps → Type 0
-AsksOne answers m p before r after = (OnOk r ⊥ × (after ≡ before)) ⊎ ((one : Parts) × IsAsked m p one × IsVerdictOf (answers one) m p before r after)
+AsksOne answers m p before r after = (OnOk r ⊥ × IfErr r (IsNoCircuit m p) × (after ≡ before)) ⊎ ((one : Parts) × IsAsked m p one × IsVerdictOf (answers one) m p before r after)
