@@ -14,7 +14,7 @@ denied_so Denied Follows (Ok x) so denied = tt
 denied_so Denied Follows (Err e) so denied = λ some. so (denied some)
 
 -- the first row is the first state
-pub denied_first : (m : Parts) (p : Property) (rows : List (List (Option Bool))) (state : List (Option Bool)) → 1 ≤ length rows → state ≡ get_or rows 0 state → ShowsNeither m p state (take (length rows - 1) (drop 1 rows)) → IsDeniedWithState m p rows
+pub denied_first : (m : Parts) (p : Property) (lines : List (List (Option Bool))) (state : List (Option Bool)) → 1 ≤ length lines → state ≡ get_or lines 0 state → ShowsNeither m p state (take (length lines - 1) (drop 1 lines)) → IsDeniedWithState m p lines
 denied_first m p [] state some is_first neither = absurd (omega (arith, some))
 denied_first m p (row ∷ rows) state some is_first neither =
     let whole : take (length (row ∷ rows) - 1) rows ≡ rows = take_all (length (row ∷ rows) - 1) rows (omega arith) in
