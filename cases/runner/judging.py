@@ -1,4 +1,7 @@
-"""All cases in turn, and what they come to."""
+"""All cases, and what they come to."""
+
+import concurrent.futures
+import os
 
 from runner.layouts import round_trips
 from runner.little import deep_chain, deep_cycle, endless
@@ -6,6 +9,7 @@ from runner.sources import breaches, explanations
 from runner.tables import is_due, table
 from runner.texts import texts
 from runner.tools import (
+    ALONE,
     COUNTING,
     HOSTILE,
     believed,
@@ -25,17 +29,24 @@ from runner.worked import worked_cases
 
 
 def further_cases():
-    """What is wrong in each of the cases that are no lines of a table, or None where it was skipped."""
-    found = {"the witness of refused memory": breaches(), "a deep chain": deep_chain(), "a deep cycle": deep_cycle()}
-    found |= {"explain": explanations(), "evidence that never ends": endless()}
-    found |= {"documents": documents(), "words": of_sources("words"), "steps of a budget": of_sources("ticks")}
-    found |= {"definitions to believe": believed()}
-    found |= {"quoted commands": quoted(), "waveforms": waveforms(), "other tools' findings": findings()}
-    found |= {"ABC's invariants": of_abc(), "certificates of version 3": recertified()}
-    found |= {f"robustness/{tool}": hostile(tool) for tool in HOSTILE}
-    found |= {"cases/simulated": simulated("cases/simulated")}
-    found |= {"robustness/verilog": simulated("robustness/verilog", "20")}
+    """The cases that are no lines of a table: a function of each says what is wrong in it, or None where it was
+    skipped."""
+    found = {f"robustness/{tool}": lambda tool=tool: hostile(tool) for tool in HOSTILE}
+    found |= {"the witness of refused memory": breaches, "a deep chain": deep_chain, "a deep cycle": deep_cycle}
+    found |= {"explain": explanations, "evidence that never ends": endless, "documents": documents}
+    found |= {"words": lambda: of_sources("words"), "steps of a budget": lambda: of_sources("ticks")}
+    found |= {"definitions to believe": believed, "quoted commands": quoted, "waveforms": waveforms}
+    found |= {"other tools' findings": findings, "ABC's invariants": of_abc}
+    found |= {"certificates of version 3": recertified}
+    found |= {"cases/simulated": lambda: simulated("cases/simulated")}
+    found |= {"robustness/verilog": lambda: simulated("robustness/verilog", "20")}
     return found
+
+
+def side_by_side(functions):
+    """What the functions answer, in their order: as many run at a time as there are processors."""
+    with concurrent.futures.ThreadPoolExecutor(os.cpu_count()) as pool:
+        return list(pool.map(lambda function: function(), functions))
 
 
 def judged(further):
@@ -55,8 +66,11 @@ def main():
     due = [case for case in cases if is_due(case)]
     parts = [worked_cases(due)]
     print(f"{len(cases) - len(due)} cases wait for programs that are not built yet")
-    parts += [round_trips(), texts(), verdicts(), *map(counted_by, COUNTING)]
-    parts.append(judged(further_cases()))
+    parts += [round_trips(), texts(), verdicts(), *map(counted_by, ALONE)]
+    further = further_cases()
+    counting = [lambda tool=tool: counted_by(tool) for tool in COUNTING]
+    found = side_by_side([*further.values(), *counting])
+    parts += [judged(dict(zip(further, found))), *found[len(further) :]]
     passed, failed = map(sum, zip(*parts))
     print(f"{passed} passed, {failed} failed")
     return 1 if failed or not all(well for well, _ in parts) else 0

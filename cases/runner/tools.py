@@ -11,8 +11,9 @@ from runner.programs import LIMIT_SECONDS, TOP
 HOSTILE = ("refused", "devices", "again", "cut")
 PRELOADING = ("refused", "devices", "again")
 
-# The tools of cases/ whose cases count each by itself.
-COUNTING = ("scripts", "library", "large", "witness_judge", "witnesses", "registers", "justice")
+# The tools of cases/ whose cases count each by itself. Those of ALONE look at the clock: nothing runs beside them.
+ALONE = ("scripts",)
+COUNTING = ("library", "large", "witness_judge", "witnesses", "registers", "justice")
 
 # The programs that a comparison with simulation needs.
 SIMULATING = ("yosys", "iverilog", "vvp")
@@ -25,7 +26,7 @@ def told(tool, *words, last=1, seconds=None):
     """The status of a tool, and the lines before its last ones, which are printed."""
     done = subprocess.run([TOP / tool, *words], capture_output=True, text=True, timeout=seconds, check=False)
     lines = done.stdout.splitlines() or [""] * (last - 1) + [done.stderr.strip()]
-    print(f"{tool}: {': '.join(lines[-last:])}")
+    print(f"{tool}: {': '.join(lines[-last:])}\n", end="", flush=True)
     return done.returncode, lines[:-last]
 
 
@@ -99,7 +100,7 @@ def counted_by(tool):
     """How many cases of a tool of cases/ that counts them are as is wanted, and how many not."""
     done = subprocess.run([sys.executable, TOP / "cases" / tool], capture_output=True, text=True, check=False)
     lines = done.stdout.splitlines() or [done.stderr]
-    print("\n".join(f"cases/{tool}: {line}" for line in lines))
+    print("".join(f"cases/{tool}: {line}\n" for line in lines), end="", flush=True)
     counted = re.fullmatch(r"(\d+) passed, (\d+) failed", lines[-1])
     well, other = map(int, counted.groups()) if counted else (0, 1)
     return well, max(other, int(done.returncode != 0))
