@@ -265,3 +265,15 @@ on_ok P Q (Err e) f p = tt
 pub if_ok : {T E : Type 0} (P Q : T → Type 0) (r : Result T E) → ((x : T) → P x → Q x) → IfOk r P → IfOk r Q
 if_ok P Q (Ok x) f h = f x h
 if_ok P Q (Err e) f h = h
+
+-- a clause behind a clause behind a clause
+three_more : {X : Type 0} (old a b c : List X) (x y z : X) → a ≡ old ++ x ∷ [] → b ≡ a ++ y ∷ [] → c ≡ b ++ z ∷ [] → c ≡ old ++ x ∷ y ∷ z ∷ []
+three_more old a b c x y z p q r = r ∙ ap (λ u. u ++ z ∷ []) (q ∙ ap (λ u. u ++ y ∷ []) p) ∙ simp append_assoc
+
+-- the three clauses of a gate
+pub gate_added : (n o : ℕ) (g : Gate) (old a b c : List (List ℤ)) (x1 y1 x2 z2 x3 y3 z3 : ℤ) →
+    a ≡ old ++ (x1 ∷ y1 ∷ []) ∷ [] → b ≡ a ++ (x2 ∷ z2 ∷ []) ∷ [] → c ≡ b ++ (x3 ∷ y3 ∷ z3 ∷ []) ∷ [] →
+    x1 ≡ denial n o g.lhs → y1 ≡ literal n o g.rhs0 → x2 ≡ denial n o g.lhs → z2 ≡ literal n o g.rhs1 →
+    x3 ≡ literal n o g.lhs → y3 ≡ denial n o g.rhs0 → z3 ≡ denial n o g.rhs1 → c ≡ old ++ gate_clauses n o g
+gate_added n o g old a b c x1 y1 x2 z2 x3 y3 z3 p q r e1 f1 e2 f2 e3 f3 g3 =
+    three_more old a b c (x1 ∷ y1 ∷ []) (x2 ∷ z2 ∷ []) (x3 ∷ y3 ∷ z3 ∷ []) p q r ∙ rw (e1, f1, e2, f2, e3, f3, g3) refl

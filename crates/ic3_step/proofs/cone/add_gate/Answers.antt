@@ -1,8 +1,7 @@
 use Rattle.std.proofs.Common.{rules, SFits, w32, ◌≡◌, ◌∙◌, ◌+◌, ◌≤◌, ◌++◌, arith, subst}
 use Rattle.lrat.proofs.Fit.{read32}
 use Rattle.cnf.specs.Clauses.{gate_clauses}
-use Rattle.cnf.proofs.Made.{gate_made}
-use Rattle.ic3_step.proofs.Loaded.{literal_at, denial_at, two_are, three_are}
+use Rattle.ic3_step.proofs.Loaded.{gate_added, literal_at, denial_at, two_are, three_are}
 use Rattle.ic3_step.proofs.cone.add_gate.Goals as goal
 
 pub add-requires : goal.add-requires
@@ -53,6 +52,6 @@ returns-clause-clauses g c =
     let f5 : SFits w32 c.denial.result = search rules in
     let f6 : SFits w32 c.denial-2.result = search rules in
     subst (λ q. new ≡ old ++ gate_clauses n q c.args.gate) c.requires.first
-    (gate_made n o c.args.gate _ _ _ _ _ _ _ _ _ _ _ c.in_ok-add.ensures.ok c.in_ok-add-2.ensures.ok c.in_ok-add-3.ensures.ok
+    (gate_added n o c.args.gate _ _ _ _ _ _ _ _ _ _ _ c.in_ok-add.ensures.ok c.in_ok-add-2.ensures.ok c.in_ok-add-3.ensures.ok
     (read32 _ f1 ∙ c.denial-not_left.ensures) (read32 _ f2 ∙ c.literal.ensures) (read32 _ f1 ∙ c.denial-not_left.ensures) (read32 _ f3 ∙ c.literal-2.ensures)
     (read32 _ f4 ∙ c.literal-left.ensures) (read32 _ f5 ∙ c.denial.ensures) (read32 _ f6 ∙ c.denial-2.ensures))
