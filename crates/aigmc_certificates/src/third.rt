@@ -2,7 +2,7 @@
 
 ghost use Rattle.std.specs.Prelude.{◌≡◌, ℕ};
 ghost use Rattle.certify.specs.declared.counterexample.Case.TheVariants as earlier;
-ghost use Rattle.certify3.specs.declared.counterexample.Case.TheVariants.{First, Step, Last};
+ghost use Rattle.inductive_proofs.specs.declared.counterexample.Case.TheVariants.{First, Step, Last};
 
 use crate::counterexample::{Values, tell_case};
 pub use aigmc_files::UNKNOWN;

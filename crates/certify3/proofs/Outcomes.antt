@@ -11,13 +11,13 @@ use Rattle.certificate3.specs.declared.claim.Claim.{Claim}
 use Rattle.certify3.specs.Causes.{HasCause, IsFault, IsLate, IsOutsideAt, IsUnspent}
 use Rattle.certify3.specs.Outcomes.{IsCertified, IsOfClauses, IsOfEvidence, of_prove_error}
 use Rattle.certify3.specs.Subjects.{HasNoSubject, IsSubject}
-use Rattle.certify3.specs.declared.subject.Subject.{Subject}
+use Rattle.inductive_proofs.specs.declared.subject.Subject.{Subject}
 use Rattle.certify3.specs.declared.certified.Certified.{Certified}
 use Rattle.certify3.specs.declared.certified.Certified.TheVariants as outcome
 use Rattle.certify3.specs.declared.certify_error.CertifyError.{CertifyError}
 use Rattle.certify3.specs.declared.certify_error.CertifyError.TheVariants.{NoProperty, Refused, TooMany, Repeated, IdsTaken, OutOfMemory}
-use Rattle.certify3.specs.declared.prove_error.ProveError.{ProveError}
-use Rattle.certify3.specs.declared.prove_error.ProveError.TheVariants as error
+use Rattle.inductive_proofs.specs.declared.prove_error.ProveError.{ProveError}
+use Rattle.inductive_proofs.specs.declared.prove_error.ProveError.TheVariants as error
 
 -- ---- what comes of the evidence comes of the clauses
 

@@ -20,7 +20,7 @@ use Rattle.certificate3.specs.declared.claim.Claim.{Claim}
 use Rattle.checker3.specs.Judged.{IsGrown}
 use Rattle.certify3.specs.Subjects.{IsGrownFor, IsSubject}
 use Rattle.certify3.specs.declared.certify_error.CertifyError.{CertifyError}
-use Rattle.certify3.specs.declared.subject.Subject.{Subject}
+use Rattle.inductive_proofs.specs.declared.subject.Subject.{Subject}
 
 abbrev blank : Lit
 blank = record { 0 = 0 }

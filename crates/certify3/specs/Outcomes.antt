@@ -9,13 +9,13 @@ use Rattle.extension.specs.Accepted.{Evidence, IsAcceptedCertificate, bad_of, ci
 use Rattle.extension.specs.Extended.{extended}
 use Rattle.certificate3.specs.Texts.{Certificate, SpellsCertificate}
 use Rattle.certificate3.specs.declared.claim.Claim.{Claim}
-use Rattle.certify3.specs.Counterexamples.{IsCounterexample}
+use Rattle.inductive_proofs.specs.Counterexamples.{IsCounterexample}
 use Rattle.certify3.specs.declared.certified.Certified.{Certified}
 use Rattle.certify3.specs.declared.certified.Certified.TheVariants as outcome
 use Rattle.certify3.specs.declared.certify_error.CertifyError.{CertifyError}
 use Rattle.certify3.specs.declared.certify_error.CertifyError.TheVariants.{IdsTaken, OutOfMemory}
-use Rattle.certify3.specs.declared.prove_error.ProveError.{ProveError}
-use Rattle.certify3.specs.declared.prove_error.ProveError.TheVariants.{NotInvariant, Spent, IdsTaken as Full, OutOfMemory as NoMemory}
+use Rattle.inductive_proofs.specs.declared.prove_error.ProveError.{ProveError}
+use Rattle.inductive_proofs.specs.declared.prove_error.ProveError.TheVariants.{NotInvariant, Spent, IdsTaken as Full, OutOfMemory as NoMemory}
 
 -- the text spells a certificate of the circuit that is accepted
 pub record IsAcceptedText (m : Parts) (text : List ℕ) : Type 0 where

@@ -11,7 +11,7 @@ use Rattle.certificate3.specs.declared.claim.Claim.{Claim}
 use Rattle.checker3.specs.Judged.{IsGrown, IsNoExtension, IsUnshowable}
 use Rattle.certify3.specs.declared.certify_error.CertifyError.{CertifyError}
 use Rattle.certify3.specs.declared.certify_error.CertifyError.TheVariants.{NoProperty, Refused, TooMany, Repeated, IdsTaken, OutOfMemory}
-use Rattle.certify3.specs.declared.subject.Subject.{Subject}
+use Rattle.inductive_proofs.specs.declared.subject.Subject.{Subject}
 
 -- the circuit with the latches and gates
 abbrev pub IsGrownFor : Parts → List Latch → List Gate → Parts → Type 0

@@ -1,7 +1,7 @@
 //! What came of clauses.
 
-use crate::counterexample::Counterexample;
 use base::Seq;
+use inductive_proofs::Counterexample;
 
 /// What came of the clauses.
 #[derive(Drop)]

@@ -10,21 +10,28 @@ ghost use Rattle.certify3.specs.Causes.{HasCause, IsLate, IsUnspent};
 ghost use Rattle.certify3.specs.Outcomes.{IsCertified, IsOfClauses, of_prove_error};
 ghost use Rattle.certify3.specs.declared.certify_error.CertifyError.TheVariants.{OutOfMemory};
 ghost use Rattle.certify3.specs.declared.certified.Certified.TheVariants.{NotInvariant};
-ghost use Rattle.certify3.specs.declared.counterexample.Counterexample.{Counterexample as ACounterexample};
+ghost use Rattle.inductive_proofs.specs.declared.counterexample.Counterexample.{Counterexample as ACounterexample};
 
 use crate::additions::Extension;
 use crate::certified::Certified;
 use crate::certify_error::CertifyError;
-use crate::effort::Effort;
 use crate::examining::examine;
 use crate::judging::judge;
-use crate::prove_error::ProveError;
-use crate::proving::{Proofs, prove};
 use crate::subject::subject_of;
 use base::{Budget, Lists, Refused, Seq};
-use certificate3::{Claim, Evidence};
+use certificate3::{Claim, Evidence, Shown};
 use graph::{Lit, Model};
+use inductive_proofs::{Effort, Proofs, ProveError, prove};
+use lrat_trim::Derived;
 use std::alloc::Global;
+
+/// What a certificate has of lines and hints.
+fn shown_of(derived: Derived) -> Shown {
+    Shown {
+        lines: derived.lines,
+        hints: derived.hints,
+    }
+}
 
 /// The evidence of clauses, with their proofs.
 fn evidence_of(
@@ -41,8 +48,8 @@ fn evidence_of(
         latches: Seq::from_slice(alloc, extension.latches)?,
         gates: Seq::from_slice(alloc, extension.gates)?,
         invariant,
-        first: proofs.first,
-        step: proofs.step,
+        first: shown_of(proofs.first),
+        step: shown_of(proofs.step),
         last: proofs.last,
     })
 }

@@ -1,6 +1,6 @@
 //! Whether there is anything wrong with the clauses.
 
-ghost use Rattle.std.specs.Prelude.{◌≡◌, ◌+◌, ◌≤◌, ◌↔◌, ℕ, false, All, IfErr, IfNone, IfOk, IfSome, IsTrue, OnOk, length, map};
+ghost use Rattle.std.specs.Prelude.{◌≡◌, ◌+◌, ◌≤◌, ℕ, false, All, IfErr, IfNone, IfOk, IfSome, OnOk, length, map};
 ghost use Rattle.lrat.specs.Literals.{IsProper};
 ghost use Rattle.cnf.specs.Clauses.{literal};
 ghost use Rattle.cnf.specs.Formulas.{IsInRange};
@@ -13,20 +13,12 @@ use base::{Lists, Refused};
 use checker3::CheckError;
 use cnf::TimeFrame;
 use graph::{Lit, MOST_VARIABLES, Model};
+use inductive_proofs::is_over;
 use lrat::Trail;
 use std::alloc::Global;
 
 /// The most clauses that a certificate may have.
 const MOST_CLAUSES: usize = MOST_VARIABLES as usize;
-
-/// Whether each literal is one of the circuit's, or constant.
-pub fn is_over(circuit: &Model, clause: &[Lit]) -> bool
-    ensures { IsTrue result ↔ IsOverAll circuit.now clause.now }
-{
-    circuit.well_formed();
-    let most = 2 * circuit.max_var() + 1;
-    clause.iter().all(|lit| lit.0 <= most)
-}
 
 /// The first clause with a literal outside of the circuit.
 fn first_outside(circuit: &Model, invariant: &Lists<Lit>) -> Option<u64>

@@ -13,20 +13,12 @@ use certificate3::Claim;
 use checker3::CheckError;
 use extension::{are_few_rounds, count_rounds, extended_parts, is_extension};
 use graph::{Lit, MOST_VARIABLES, Model, Property, ReadError};
+use inductive_proofs::Subject;
 use live_safe::LiveError;
 use std::alloc::Global;
 
 /// The greatest variable that a circuit may have.
 const MAX_VAR: usize = MOST_VARIABLES as usize;
-
-/// A circuit, and its literal that no run is to set.
-#[derive(Drop)]
-pub struct Subject {
-    /// the circuit
-    pub circuit: Model,
-    /// the literal
-    pub bad: Lit,
-}
 
 /// Looks whether the latches and gates extend the circuit within the limit.
 fn check_extension(circuit: &Model, extension: Extension) -> Result<(), CheckError>

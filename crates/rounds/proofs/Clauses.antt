@@ -30,7 +30,7 @@ use Rattle.certify3.specs.declared.certified.Certified.{Certified}
 use Rattle.certify3.specs.declared.certified.Certified.TheVariants.{Certificate, NotInvariant, Spent, Unaccepted}
 use Rattle.certify3.specs.declared.certify_error.CertifyError.{CertifyError}
 use Rattle.certify3.specs.declared.certify_error.CertifyError.TheVariants as certify
-use Rattle.certify3.specs.declared.counterexample.Counterexample.{Counterexample}
+use Rattle.inductive_proofs.specs.declared.counterexample.Counterexample.{Counterexample}
 use Rattle.verdict.specs.declared.decide_error.DecideError.{DecideError}
 use Rattle.rounds.specs.Asked.{IsMeantFor, tried_of, tried_on}
 use Rattle.rounds.specs.declared.asking.Tried.{Tried}

@@ -1,9 +1,0 @@
-use Rattle.std.proofs.Common.{◌≡◌, All}
-use Rattle.lrat.specs.Literals.{IsLiteral}
-use Rattle.certify3.proofs.hinting.suppose_false.Given as goal
-
-abbrev pub invariant-loop-literal : goal.invariant-loop-literal
-invariant-loop-literal l = record {
-  vars : l.trail.vars ≡ l.fn.trail.vars;
-  over : All (IsLiteral l.fn.trail.vars) l.literals;
-}

@@ -1,5 +1,0 @@
-use Rattle.std.proofs.Common.{◌≡◌}
-use Rattle.certify3.proofs.inlining.closed.Given as goal
-
-abbrev pub invariant-round : goal.invariant-round
-invariant-round l = l.trail.vars ≡ l.fn.trail.vars

@@ -1,5 +1,0 @@
-use Rattle.base.specs.Budget.{Spends}
-use Rattle.certify3.proofs.inlining.inlined_chains.Given as goal
-
-abbrev pub invariant-loop-place : goal.invariant-loop-place
-invariant-loop-place l = Spends l.initial.budget l.budget

@@ -1,0 +1,3 @@
+pub mod Denied
+pub mod Pairs
+pub mod Stopped

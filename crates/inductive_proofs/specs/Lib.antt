@@ -1,0 +1,2 @@
+pub mod Counterexamples
+pub mod ProveErrors
