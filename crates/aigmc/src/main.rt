@@ -58,7 +58,7 @@
 //! layouts of `convert` (`witness_circuits::witness_of`). OUT is neither FILE nor CERT.
 //!
 //! `aigmc adopt-witness FILE WITNESS OUT` makes a certificate of version 3 of the witness circuit WITNESS, of the property that
-//! `-p` names or else FILE's only one (`witness_circuits::adopt`, `certify3::certify`). Where WITNESS is none, standard error says
+//! `-p` names or else FILE's only one (`witness_adoption::adopt`, `certify3::certify`). Where WITNESS is none, standard error says
 //! which condition fails, by which state.
 //!
 //! `aigmc to-safety FILE -p jN OUT` writes the shadow circuit of a justice property to OUT, in the layouts of

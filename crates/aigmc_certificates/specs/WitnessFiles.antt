@@ -7,8 +7,8 @@ use Rattle.graph.specs.declared.parts.Parts.{Parts}
 use Rattle.graph.specs.Faults.{HasCause}
 use Rattle.graph.specs.Refusals.{number_of, place_of}
 use Rattle.reset_functions.specs.Made.{head, others, with_gates}
-use Rattle.witness_circuits.specs.Pairs.{IsRefused as IsPairRefused, number_of as pair_number, place_of as pair_place}
-use Rattle.witness_circuits.specs.declared.pair_error.PairError.{PairError}
+use Rattle.witness_pairs.specs.Pairs.{IsRefused as IsPairRefused, number_of as pair_number, place_of as pair_place}
+use Rattle.witness_pairs.specs.declared.pair_error.PairError.{PairError}
 use Rattle.aigmc_files.specs.declared.command_error.CommandError.TheVariants.{OutOfMemory}
 use Rattle.aigmc_files.specs.declared.exit_error.ExitError.{ExitError}
 use Rattle.aigmc_files.specs.declared.exit_error.ExitError.TheVariants.{Fault, Refused, Told}

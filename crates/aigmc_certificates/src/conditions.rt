@@ -11,7 +11,7 @@ use certify::{Certified, certify};
 use graph::{Lit, Model, Property};
 use shrink::{ShrinkError, shrink};
 use std::alloc::Global;
-use witness_circuits::{Condition, Pair, Question};
+use witness_conditions::{Condition, Pair, Question};
 
 /// The conditions, in the order in which they are asked.
 const CONDITIONS: [Condition; 5] = [

@@ -4,7 +4,7 @@ ghost use Rattle.std.specs.Prelude.{◌≡◌, IfErr, IfOk, drop};
 ghost use Rattle.graph.specs.WellFormed.{IsWellFormed};
 ghost use Rattle.reset_functions.specs.Begun.{RunsAs};
 ghost use Rattle.reset_functions.specs.Made.{head, with_gates};
-ghost use Rattle.witness_circuits.specs.Spread.{IsAdopted};
+ghost use Rattle.witness_adoption.specs.Adoptions.{IsAdopted};
 ghost use Rattle.aigmc_certificates.specs.WitnessFiles.{IsStop, IsUnadopted, IsUnmade, IsUnpaired, own_reset, own_resets, plain_witness};
 
 use aigmc_files::{ExitError, Role, about, circuit_text};
@@ -12,7 +12,8 @@ use base::{Refused, push};
 use graph::{Lit, Model};
 use reset_functions::{Begun, read, resets_as_gates};
 use std::alloc::Global;
-use witness_circuits::{Adopted, Shared, adopt};
+use witness_adoption::{Adopted, adopt};
+use witness_pairs::Shared;
 
 /// The number of gates that depend on one another.
 const CYCLIC: u8 = 11;

@@ -15,7 +15,9 @@ use graph::{AigerFile, Latch, Lit, Model, Property};
 use inputs::is_standard;
 use reset_functions::Begun;
 use std::alloc::Global;
-use witness_circuits::{Adopted, Pair, Shared};
+use witness_adoption::Adopted;
+use witness_conditions::Pair;
+use witness_pairs::Shared;
 
 /// The only bad literal of the circuit, or the only output of one whose outputs are taken as some.
 fn only_property(circuit: &Model) -> Option<Property> {

@@ -10,7 +10,7 @@ ghost use Rattle.certify3.specs.Numbers.{number_of as third_number, place_of as 
 ghost use Rattle.live_safe.specs.Causes.{number_of as live_number, place_of as live_place};
 ghost use Rattle.transforms.specs.Causes.{number_of as transform_number, place_of as transform_place};
 ghost use Rattle.witness_circuits.specs.Causes.{number_of as make_number, place_of as make_place};
-ghost use Rattle.witness_circuits.specs.Pairs.{number_of as pair_number, place_of as pair_place};
+ghost use Rattle.witness_pairs.specs.Pairs.{number_of as pair_number, place_of as pair_place};
 ghost use Rattle.aigmc_files.specs.ExitErrors.{IsAt, IsOfDevice, IsOfFile, IsOfText};
 ghost use Rattle.aigmc_files.specs.declared.command_error.CommandError.TheVariants.{OutOfMemory};
 ghost use Rattle.aigmc_files.specs.declared.exit_error.ExitError.TheVariants.{Fault, Refused as IsRefused};
@@ -27,7 +27,8 @@ use std::io;
 use std::process::ExitCode;
 use transforms::TransformError;
 use witness::WitnessError;
-use witness_circuits::{MakeError, PairError};
+use witness_circuits::MakeError;
+use witness_pairs::PairError;
 
 /// The status of a command that was done.
 pub const DONE: u8 = 0;

@@ -1,4 +1,4 @@
--- Causes of what is not made, and of what is no pair.
+-- Causes of what is not made.
 use Rattle.std.proofs.Common.{ℕ, ◌+◌, ◌<◌, ◌≤◌, List, length, All, arith}
 use Rattle.std.proofs.lemmas.List.Elements.{All-weaker}
 use Rattle.graph.specs.declared.circuit.Lit.{Lit}
@@ -11,10 +11,7 @@ use Rattle.extension.specs.Extended.{extended}
 use Rattle.extension.specs.Inductive.{IsOverAll}
 use Rattle.witness_circuits.specs.declared.error.MakeError.{MakeError}
 use Rattle.witness_circuits.specs.declared.error.MakeError.TheVariants.{NoProperty, Limit, Outside, Circuit, OutOfMemory, Name}
-use Rattle.witness_circuits.specs.declared.pair_error.PairError.{PairError}
-use Rattle.witness_circuits.specs.declared.pair_error.PairError.TheVariants as pair
 use Rattle.witness_circuits.specs.Causes.{HasCause, IsUnmade}
-use Rattle.witness_circuits.specs.Pairs.{IsOther, IsRefused}
 
 pub unmade_cause : (m : Parts) (p : Property) (ls : List Latch) (gs : List Gate) (inv : List (List Lit)) (e : MakeError) → IsUnmade e → HasCause m p ls gs inv e
 unmade_cause m p ls gs inv (NoProperty n) unmade = absurd unmade
@@ -23,12 +20,6 @@ unmade_cause m p ls gs inv (Outside k) unmade = absurd unmade
 unmade_cause m p ls gs inv (Circuit e) unmade = tt
 unmade_cause m p ls gs inv (OutOfMemory refused) unmade = tt
 unmade_cause m p ls gs inv Name unmade = tt
-
-pub other_refused : (m : Parts) (e : PairError) → IsOther e → IsRefused m e
-other_refused m (pair.Bad n) other = absurd other
-other_refused m (pair.Symbol n) other = tt
-other_refused m pair.Limit other = tt
-other_refused m (pair.OutOfMemory refused) other = tt
 
 -- clauses over the variables of a circuit with further latches and gates
 pub over_small : (m : Parts) (ls : List Latch) (gs : List Gate) (inv : List (List Lit)) → m.max_var + length ls + length gs ≤ 4194303 → All (IsOverAll (extended m ls gs)) inv → All (All (λ (a : Lit). a.0 + 1 < 4294967296)) inv

@@ -5,36 +5,16 @@
 //!   latches, gates and constraints, the latches and gates that the certificate adds, and gates that say
 //!   whether all clauses are true. Its one bad literal is set exactly where the model's is, or where a
 //!   clause is false (`IsWitness`). Its symbols say which input or latch of the model each one is.
-//! - `adopt` takes one apart: into latches, gates and clauses of the model, of which a certificate can be made. `Pair` asks
-//!   its conditions. `Shared` is what it has of the model.
 //! - Nothing is believed of the clauses, and nothing is said of them: a circuit is a witness where they are
 //!   inductive, which a certificate shows.
 #![tactic(auto)]
 
-mod adopting;
-mod agreeing;
-mod arranging;
-mod conditions;
-mod conjunctions;
-mod drafting;
 mod error;
-mod frames;
-mod naming;
-mod pair_error;
-mod places;
 mod property;
-mod renaming;
-mod shared;
 mod sizes;
-mod spreading;
 mod symbols;
-mod trimming;
-mod wanted;
 mod writing;
 
-pub use adopting::{Adopted, adopt};
-pub use conditions::{Condition, Facts, Moment, Pair, Question, Times};
 pub use error::MakeError;
-pub use pair_error::PairError;
-pub use shared::Shared;
+pub use sizes::variables_left;
 pub use writing::witness_of;

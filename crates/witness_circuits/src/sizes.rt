@@ -7,7 +7,7 @@ use base::Lists;
 use graph::Lit;
 
 /// The greatest variable that a circuit may have.
-pub const MAX_VAR: usize = 4_194_303;
+const MAX_VAR: usize = 4_194_303;
 
 /// How many gates say whether all clauses are true, where these are no more than so many.
 #[tactic(auto, using(crate::proofs::Rows::count_more))]

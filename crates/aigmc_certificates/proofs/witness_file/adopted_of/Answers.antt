@@ -1,7 +1,7 @@
 use Rattle.std.proofs.Common.{◌≡◌, rules, length, subst, IfOk}
 use Rattle.std.specs.Vec.{vec_len}
 use Rattle.graph.specs.declared.parts.Parts.{Parts}
-use Rattle.witness_circuits.specs.Spread.{IsAdopted}
+use Rattle.witness_adoption.specs.Adoptions.{IsAdopted}
 use Rattle.aigmc_certificates.proofs.OwnResets.{plain_made, unmade, unpaired}
 use Rattle.aigmc_certificates.proofs.witness_file.adopted_of.Goals as goal
 

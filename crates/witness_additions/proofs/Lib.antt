@@ -1,0 +1,2 @@
+pub mod Agreed
+pub mod Spread

@@ -1,6 +1,0 @@
-use Rattle.std.proofs.Common.{◌≡◌, ◌++◌, map, take}
-use Rattle.witness_circuits.specs.Renamed.{renamed_gate}
-use Rattle.witness_circuits.proofs.frames.add_gates.Given as goal
-
-abbrev pub invariant-loop-gate : goal.invariant-loop-gate
-invariant-loop-gate l = l.draft.gates ≡ l.initial.draft.gates ++ map (renamed_gate l.names) (take l.gate-index l.gates)

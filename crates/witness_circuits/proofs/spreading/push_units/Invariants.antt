@@ -1,5 +1,0 @@
-use Rattle.std.proofs.Common.{◌≡◌, [], ◌∷◌, ◌++◌, map, take}
-use Rattle.witness_circuits.proofs.spreading.push_units.Given as goal
-
-abbrev pub invariant-loop-lit : goal.invariant-loop-lit
-invariant-loop-lit l = l.clauses ≡ l.initial.clauses ++ map (λ a. a ∷ []) (take l.lit-index l.lits)

@@ -1,6 +1,0 @@
-use Rattle.std.proofs.Common.{◌≡◌, ◌++◌, drop}
-use Rattle.witness_circuits.specs.Trimmings.{kept_latches}
-use Rattle.witness_circuits.proofs.trimming.Numbering.latches.Given as goal
-
-abbrev pub invariant-loop-k : goal.invariant-loop-k
-invariant-loop-k l = l.found ++ kept_latches l.self.literals.items l.needed (drop l.k l.latches) ≡ kept_latches l.self.literals.items l.needed l.latches

@@ -1,6 +1,0 @@
-use Rattle.std.proofs.Common.{◌≡◌, ◌++◌, drop}
-use Rattle.witness_circuits.specs.Trimmings.{other_gates}
-use Rattle.witness_circuits.proofs.trimming.Numbering.push_others.Given as goal
-
-abbrev pub invariant-loop-k : goal.invariant-loop-k
-invariant-loop-k l = l.to ++ other_gates l.self.literals.items l.needed (drop l.k l.gates) ≡ l.fn.to ++ other_gates l.self.literals.items l.needed l.gates
