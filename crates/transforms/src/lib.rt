@@ -2,13 +2,11 @@
 //!
 //! - `extracted` is the circuit of one property, `shadow_file` and `rounds_file` those of the shadow circuit and of the one that counts
 //!   rounds, with names, and `miter_of` the miter of two.
-//! - `always_bad` is violated by each run that keeps the constraints, and `bad_behind` by each of so many steps. `no_bad`
-//!   is a property that a circuit does not have.
+//! - `always_bad`, `bad_behind` and `no_bad` are those of `cover_circuits`.
 //! - `relevant_clauses` are those over latches on which a property rests.
 #![tactic(auto)]
 
 mod counting;
-mod covering;
 mod error;
 mod extracting;
 mod matching;
@@ -18,7 +16,7 @@ mod shadow;
 mod symbols;
 
 pub use counting::rounds_file;
-pub use covering::{always_bad, bad_behind, no_bad};
+pub use cover_circuits::{always_bad, bad_behind, no_bad};
 pub use error::TransformError;
 pub use extracting::extracted;
 pub use mitering::miter_of;

@@ -1,6 +1,6 @@
 use Rattle.std.proofs.Common.{◌≡◌}
-use Rattle.transforms.specs.Covering.{step_latches}
-use Rattle.transforms.proofs.covering.step_latches.Given as goal
+use Rattle.cover_circuits.specs.Covering.{step_latches}
+use Rattle.cover_circuits.proofs.covering.step_latches.Given as goal
 
 abbrev pub invariant-loop-step : goal.invariant-loop-step
 invariant-loop-step l = l.latches.items ≡ step_latches l.first l.step

@@ -21,8 +21,8 @@ use Rattle.live_safe.proofs.Forced.{all_from_map, map_from_all}
 use Rattle.live_safe.proofs.Ranges.{AreIn, are_in}
 use Rattle.extension.specs.Extended.{extended, IsNextLatch, AreNextLatches, IsExtension, IsKnown, IsFitting, FittingLaw, CarriedLaw, RestrictedLaw}
 use Rattle.extension.specs.Rounds.{always}
-use Rattle.transforms.proofs.OneBad.{alone_well_formed}
-use Rattle.transforms.specs.Covering.{Violates, IsAlwaysBad, step_literal, step_latches, behind, IsBadBehind, ShowsRun}
+use Rattle.cover_circuits.proofs.OneBad.{alone_well_formed}
+use Rattle.cover_circuits.specs.Covering.{Violates, IsAlwaysBad, step_literal, step_latches, behind, IsBadBehind, ShowsRun}
 
 -- ---- the constant true
 

@@ -4,9 +4,9 @@ use Rattle.graph.specs.declared.circuit.Lit.{Lit}
 use Rattle.graph.specs.declared.parts.Parts.{Parts}
 use Rattle.graph.specs.WellFormed.{IsWellFormed, only_bad}
 use Rattle.extension.specs.Extended.{extended, IsExtension, FittingLaw, CarriedLaw, RestrictedLaw}
-use Rattle.transforms.specs.Covering.{IsBadBehind, ShowsRun, behind, step_latches, step_literal}
-use Rattle.transforms.proofs.Steps.{length-steps, steps_extend, behind_well_formed, bad_behind, shows_run}
-use Rattle.transforms.proofs.covering.behind.Goals as goal
+use Rattle.cover_circuits.specs.Covering.{IsBadBehind, ShowsRun, behind, step_latches, step_literal}
+use Rattle.cover_circuits.proofs.Steps.{length-steps, steps_extend, behind_well_formed, bad_behind, shows_run}
+use Rattle.cover_circuits.proofs.covering.behind.Goals as goal
 
 pub extension_laws-requires : goal.extension_laws-requires
 extension_laws-requires c =

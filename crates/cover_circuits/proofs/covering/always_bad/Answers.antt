@@ -2,9 +2,9 @@ use Rattle.std.proofs.Common.{◌≡◌, ◌∙◌, sym, subst}
 use Rattle.graph.specs.declared.parts.Parts.{Parts}
 use Rattle.graph.specs.WellFormed.{IsWellFormed, only_bad}
 use Rattle.extension.specs.Rounds.{always}
-use Rattle.transforms.specs.Covering.{IsAlwaysBad}
-use Rattle.transforms.proofs.Steps.{always_well_formed, always_bad}
-use Rattle.transforms.proofs.covering.always_bad.Goals as goal
+use Rattle.cover_circuits.specs.Covering.{IsAlwaysBad}
+use Rattle.cover_circuits.proofs.Steps.{always_well_formed, always_bad}
+use Rattle.cover_circuits.proofs.covering.always_bad.Goals as goal
 
 pub watching-requires : goal.watching-requires
 watching-requires c =

@@ -5,10 +5,8 @@ ghost use Rattle.base.specs.Witness.{witness};
 ghost use Rattle.graph.specs.Circuits.{HasProperty};
 ghost use Rattle.graph.specs.WellFormed.{IsWellFormed, only_bad};
 ghost use Rattle.extension.specs.Rounds.{always};
-ghost use Rattle.transforms.specs.Covering.{IsAlwaysBad, IsBadBehind, ShowsRun, behind as behind_of, step_latches as step_latches_of, step_literal as step_literal_of};
+ghost use Rattle.cover_circuits.specs.Covering.{IsAlwaysBad, IsBadBehind, ShowsRun, behind as behind_of, step_latches as step_latches_of, step_literal as step_literal_of};
 
-use crate::error::TransformError;
-use crate::symbols::count;
 use base::{Refused, Seq, push};
 use extension::{extended_parts, extension_laws};
 use graph::{AigerFile, Latch, Lit, MOST_VARIABLES, Model, Parts, Property, ReadError};
@@ -112,16 +110,16 @@ fn unnamed(alloc: Global, model: Model) -> Result<AigerFile, Refused>
 
 /// The circuit with a bad literal that is set from this number of steps on, and with that alone: it is violated by
 /// exactly the runs that keep the constraints for so many steps. Too many variables are refused before memory is asked for.
-pub fn bad_behind(alloc: Global, circuit: &Model, steps: u8) -> Result<AigerFile, TransformError>
+pub fn bad_behind(alloc: Global, circuit: &Model, steps: u8) -> Result<AigerFile, ReadError>
     ensures made { IfOk result (λ f. f ≡ record { model = behind_of circuit.now steps; symbols = []; comment = None }) }
     ensures within { IfOk result (λ _. circuit.now.max_var + steps ≤ 4194303) }
     ensures exact { IfOk result (λ f. IsBadBehind circuit.now f.model steps) }
     ensures shows { IfOk result (λ f. ShowsRun circuit.now f.model steps) }
-    ensures refused { IfErr result (λ e. (e ≡ TransformError.OutOfMemory witness) ⊎ ((e ≡ TransformError.Circuit (ReadError.Limit 0)) × (4194303 < circuit.now.max_var + steps))) }
+    ensures refused { IfErr result (λ e. (e ≡ ReadError.OutOfMemory witness) ⊎ ((e ≡ ReadError.Limit 0) × (4194303 < circuit.now.max_var + steps))) }
 {
     circuit.well_formed();
     if circuit.max_var() + u32::from(steps) > MOST_VARIABLES {
-        return Err(TransformError::Circuit(ReadError::Limit(0)));
+        return Err(ReadError::Limit(0));
     }
     let covered = behind(alloc, circuit, steps)?;
     let file = unnamed(alloc, covered)?;
@@ -134,5 +132,5 @@ pub fn no_bad(circuit: &Model) -> Property
     ensures none { HasProperty circuit.now result → ⊥ }
 {
     circuit.well_formed();
-    Property::Bad(count(circuit.bad().len()))
+    Property::Bad(circuit.bad().len() as u32)
 }

@@ -1,0 +1,2 @@
+pub mod OneBad
+pub mod Steps
