@@ -1,5 +1,1 @@
-pub mod Sound
-pub mod Queue
-pub mod Cubes
 pub mod Answers
-pub mod Candidates

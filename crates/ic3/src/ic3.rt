@@ -5,10 +5,11 @@ ghost use Rattle.base.specs.Budget.{Spends};
 ghost use Rattle.engine.specs.Findings.{IsForBad, IsSo};
 ghost use Rattle.ic3.specs.Answers.{IsDecided};
 
-use crate::frame_solver::FrameSolver;
+use crate::search::search;
 use base::{Budget, Refused, Seq};
 use engine::{Counters, Engine, EngineError, Finding, Progress, Silent};
 use graph::{Lit, Model};
+use ic3_blocking::FrameSolver;
 use solver::PartSat;
 use std::alloc::Global;
 
@@ -93,9 +94,14 @@ impl<S: PartSat, P: Progress> Engine for Ic3<S, P> {
             Some(clauses) => clauses.as_slice(),
             None => &[],
         };
-        let progress = &mut self.progress;
-        self.frame_solver
-            .search(alloc, circuit, candidates, progress, budget)
+        search(
+            &mut self.frame_solver,
+            alloc,
+            circuit,
+            candidates,
+            &mut self.progress,
+            budget,
+        )
     }
 
     fn count(&self, counters: &mut Counters) -> Result<(), Refused> {

@@ -1,5 +1,0 @@
-use Rattle.ic3.proofs.Rising.{RisesBelow}
-use Rattle.ic3.proofs.candidates.is_rising.Given as goal
-
-abbrev pub invariant-comparing : goal.invariant-comparing
-invariant-comparing l = RisesBelow l.clause l.lit-index l.next

@@ -1,0 +1,13 @@
+pub mod Outcomes
+pub mod Literals
+pub mod Guarding
+pub mod Joining
+pub mod States
+pub mod Inductions
+pub mod Obligations
+pub mod Lifted
+pub mod Shown
+pub mod Rising
+pub mod Reduced
+pub mod Queued
+pub mod Tried

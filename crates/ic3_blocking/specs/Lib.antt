@@ -1,0 +1,5 @@
+pub mod Sound
+pub mod Queue
+pub mod Cubes
+pub mod Answers
+pub mod Candidates
