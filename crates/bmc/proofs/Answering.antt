@@ -6,8 +6,8 @@ use Rattle.solver.specs.Answers.{IsModel, IsCore, IsLawful}
 use Rattle.solver.specs.declared.answer.Answer.{Answer}
 use Rattle.solver.specs.declared.answer.Answer.TheVariants.{Model, Core, Spent}
 use Rattle.engine.specs.declared.finding.Finding.{Finding}
-use Rattle.bmc.specs.declared.cone.Cone.{Cone}
-use Rattle.bmc.specs.declared.unrolling.Unrolling.{Unrolling}
+use Rattle.unrolling.specs.declared.cone.Cone.{Cone}
+use Rattle.unrolling.specs.declared.unrolling.Unrolling.{Unrolling}
 use Rattle.bmc.specs.Depths.{IsAnswerOf, IsFoundBy, IsOfSteps, IsUnsetAfter}
 use Rattle.bmc.specs.Times.{IsBadAnswer, IsBadModel}
 

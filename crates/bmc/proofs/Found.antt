@@ -19,16 +19,16 @@ use Rattle.cnf.specs.Formulas.{bad_literal}
 use Rattle.cones.specs.Marks.{ExistenceLaw, IsMarked}
 use Rattle.solver.specs.Answers.{IsModel, IsCore, values}
 use Rattle.engine.specs.Findings.{IsForBad}
-use Rattle.bmc.specs.declared.cone.Cone.{Cone}
-use Rattle.bmc.specs.declared.encoder.Encoder.{Encoder}
-use Rattle.bmc.specs.Cones.{IsConeOf, latch_at, no_latch}
+use Rattle.unrolling.specs.declared.cone.Cone.{Cone}
+use Rattle.unrolling.specs.declared.encoder.Encoder.{Encoder}
+use Rattle.unrolling.specs.Cones.{IsConeOf, latch_at, no_latch}
 use Rattle.bmc.specs.Depths.{IsUnsetAfter}
-use Rattle.bmc.specs.Encodings.{IsGate, AreKept, told}
-use Rattle.bmc.specs.Demands.{AreGiven}
+use Rattle.unrolling.specs.Encodings.{IsGate, AreKept, told}
+use Rattle.unrolling.specs.Demands.{AreGiven}
 use Rattle.bmc.specs.Lines.{AreLines}
-use Rattle.bmc.specs.Unrollings.{Leaves, Follows, IsUnrolled, literal_at, latch_of}
-use Rattle.bmc.proofs.Completed.{IsWhole, made_whole}
-use Rattle.bmc.proofs.Encoded.{same_true}
+use Rattle.unrolling.specs.Unrollings.{Leaves, Follows, IsUnrolled, literal_at, latch_of}
+use Rattle.unrolling.proofs.Completed.{IsWhole, made_whole}
+use Rattle.unrolling.proofs.Encoded.{same_true}
 use Rattle.bmc.proofs.Depths.{some_bad}
 
 -- a circuit's run from a state with these inputs

@@ -3,7 +3,7 @@ use Rattle.std.proofs.Common.{◌≡◌, ℕ, ◌+◌, ◌<◌, Bool, List, [], 
 use Rattle.std.proofs.lemmas.Bool.{cases_lt}
 use Rattle.std.proofs.lemmas.List.{get_or_append_left, get_or_at}
 use Rattle.graph.specs.declared.parts.Parts.{Parts}
-use Rattle.bmc.specs.declared.cone.Cone.{Cone}
+use Rattle.unrolling.specs.declared.cone.Cone.{Cone}
 use Rattle.bmc.specs.Lines.{IsLine, AreLines}
 
 pub lines_more : (m : Parts) (c : Cone) (b : List Bool) (firsts : List ℕ) (n : ℕ) (lines : List (List Bool)) (line : List Bool) → n < length firsts → AreLines m c b (take n firsts) lines → IsLine m c b (get_or firsts n 0) line →

@@ -1,7 +1,3 @@
 pub mod Depths
-pub mod Encodings
-pub mod Demands
-pub mod Cones
-pub mod Unrollings
 pub mod Times
 pub mod Lines

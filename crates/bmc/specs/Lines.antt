@@ -3,7 +3,7 @@ use Rattle.std.specs.Prelude.{◌≡◌, ℕ, ◌+◌, ◌<◌, Bool, List, [], 
 use Rattle.graph.specs.declared.parts.Parts.{Parts}
 use Rattle.graph.specs.Circuits.{place}
 use Rattle.solver.specs.Answers.{values}
-use Rattle.bmc.specs.declared.cone.Cone.{Cone}
+use Rattle.unrolling.specs.declared.cone.Cone.{Cone}
 
 -- a value for each input of the circuit, the cone's being those of the variables behind the first ones
 pub record IsLine (m : Parts) (c : Cone) (b : List Bool) (first : ℕ) (line : List Bool) : Type 0 where

@@ -1,32 +1,19 @@
--- The times of a circuit in a solver.
-use Rattle.std.specs.Prelude.{◌≡◌, ℕ, ◌+◌, ◌*◌, ◌<◌, ◌≤◌, Bool, List, [], ◌∷◌, length, All, ℤ, unsigned_abs}
+-- The bad literal at the last time of a circuit in a solver.
+use Rattle.std.specs.Prelude.{◌≡◌, ℕ, ◌+◌, ◌<◌, ◌≤◌, Bool, List, [], ◌∷◌, length, ℤ, unsigned_abs}
 use Rattle.graph.specs.declared.parts.Parts.{Parts}
-use Rattle.lrat.specs.Literals.{IsLiteral, is_true}
-use Rattle.bmc.specs.declared.cone.Cone.{Cone}
-use Rattle.bmc.specs.declared.unrolling.Unrolling.{Unrolling}
+use Rattle.lrat.specs.Literals.{is_true}
+use Rattle.unrolling.specs.declared.cone.Cone.{Cone}
+use Rattle.unrolling.specs.declared.unrolling.Unrolling.{Unrolling}
 use Rattle.graph.specs.Circuits.{Valuation, value_of, at}
 use Rattle.cnf.specs.Formulas.{bad_literal}
 use Rattle.cones.specs.Marks.{IsMarked}
 use Rattle.solver.specs.Answers.{IsModel}
 use Rattle.solver.specs.declared.answer.Answer.{Answer}
 use Rattle.solver.specs.declared.answer.Answer.TheVariants.{Model, Core, Spent}
-use Rattle.bmc.specs.Encodings.{Told, told, AreKept}
-use Rattle.bmc.specs.Demands.{AreGiven}
-use Rattle.bmc.specs.Unrollings.{Leaves, Follows, IsUnrolled}
-
-abbrev pub leaves_of : Unrolling → Leaves
-leaves_of u = record { initial = u.initial.items; firsts = u.firsts.items }
-
--- the clauses are those of the times so far, as far as they are asked for, and the table has room for the next
-pub record IsAt (m : Parts) (c : Cone) (u : Unrolling) (cs : List (List ℤ)) : Type 0 where
-  pub unrolled : IsUnrolled m c (leaves_of u) u.state.items u.encoder cs
-  pub whole : length u.table.items ≡ m.max_var + 1
-  pub literals : All (IsLiteral u.encoder.variables) u.table.items
-  pub given : AreGiven u.encoder u.given.items cs
-
--- there are variables for this number of times more
-abbrev pub HasRoom : Cone → ℕ → Unrolling → ℕ → Type 0
-HasRoom c times u vars = u.encoder.variables + times * (length c.inputs.items + length c.cells.items) ≤ vars
+use Rattle.unrolling.specs.Encodings.{Told, told, AreKept}
+use Rattle.unrolling.specs.Demands.{AreGiven}
+use Rattle.unrolling.specs.Unrollings.{Leaves, Follows, IsUnrolled}
+use Rattle.unrolling.specs.Times.{leaves_of}
 
 -- the literal has the bad literal's value at that time of each run that an assignment follows which satisfies the clauses
 abbrev pub StandsForBad : Parts → Cone → Leaves → Told → ℕ → ℤ → Type 0

@@ -3,13 +3,13 @@
 ghost use Rattle.std.specs.Prelude.{◌≡◌, ◌+◌, ◌<◌, length, map, All, IfOk, unsigned_abs};
 ghost use Rattle.lrat.specs.Literals.{IsLiteral, is_true};
 ghost use Rattle.solver.specs.Answers.{values as values_of};
-ghost use Rattle.bmc.specs.Cones.{IsConeOf};
+ghost use Rattle.unrolling.specs.Cones.{IsConeOf};
 ghost use Rattle.bmc.specs.Lines.{IsLine, AreLines};
 
-use crate::cone::Cone;
 use base::{Refused, Seq, filled};
 use graph::Model;
 use std::alloc::Global;
+use unrolling::Cone;
 
 /// Whether the literal is true.
 fn value(values: &[bool], literal: i32) -> bool

@@ -4,22 +4,21 @@ ghost use Rattle.std.specs.Prelude.{◌≡◌, ◌+◌, ◌≤◌, length, IfOk,
 ghost use Rattle.base.specs.Budget.{Spends, Steps};
 ghost use Rattle.cnf.specs.Tables.{IsTableOf};
 ghost use Rattle.engine.specs.Findings.{IsForBad, IsSo};
-ghost use Rattle.bmc.specs.Cones.{IsConeOf};
+ghost use Rattle.unrolling.specs.Cones.{IsConeOf};
 ghost use Rattle.bmc.specs.Depths.{EndsAt, IsFoundBy, IsOfSteps, IsShortest, IsWithinDepth};
-ghost use Rattle.bmc.specs.Times.{IsAt, HasRoom, IsBadAnswer, IsBadModel};
+ghost use Rattle.unrolling.specs.Times.{IsAt, HasRoom};
+ghost use Rattle.bmc.specs.Times.{IsBadAnswer, IsBadModel};
 ghost use Rattle.engine.specs.declared.engine_error.EngineError.TheVariants.{Limit};
 ghost use Rattle.solver.specs.Full.{full};
 
-use crate::cone::{Cone, cone_of};
-use crate::frame::literal;
 use crate::reading::{lines, state_of};
-use crate::unrolling::{Unrolling, begin};
 use base::{Budget, Refused};
 use cnf::NextTable;
 use engine::{Counters, Engine, EngineError, Finding, Progress, Reason, Silent};
 use graph::Model;
 use solver::{Answer, Sat, count};
 use std::alloc::Global;
+use unrolling::{Cone, Unrolling, begin, cone_of, literal};
 
 /// Bounded search (Biere, Cimatti, Clarke, Zhu 1999) through runs of 0 steps, 1 step, up to a
 /// depth, by any solver. A contract sees the depth and the solver.

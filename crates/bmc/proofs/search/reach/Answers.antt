@@ -3,15 +3,16 @@ use Rattle.std.proofs.lemmas.List.Elements.{All-cons, All-nil}
 use Rattle.graph.specs.Circuits.{variable}
 use Rattle.lrat.specs.Literals.{IsLiteral}
 use Rattle.cnf.specs.Formulas.{bad_literal}
-use Rattle.bmc.specs.Encodings.{told}
-use Rattle.bmc.specs.Unrollings.{literal_of}
-use Rattle.bmc.specs.Times.{StandsForBad, leaves_of}
+use Rattle.unrolling.specs.Encodings.{told}
+use Rattle.unrolling.specs.Unrollings.{literal_of}
+use Rattle.unrolling.specs.Times.{leaves_of}
+use Rattle.bmc.specs.Times.{StandsForBad}
 use Rattle.bmc.proofs.Depths.{bad_range, some_bad}
 use Rattle.bmc.proofs.Answering.{answer_of, bad_answer, found_of}
 use Rattle.bmc.proofs.Found.{core_unset}
-use Rattle.bmc.proofs.Added.{read_as}
-use Rattle.bmc.proofs.Negated.{literal_up}
-use Rattle.bmc.proofs.Tabled.{literal_in_range, literal_stands}
+use Rattle.unrolling.proofs.Added.{read_as}
+use Rattle.unrolling.proofs.Negated.{literal_up}
+use Rattle.unrolling.proofs.Tabled.{literal_in_range, literal_stands}
 use Rattle.bmc.proofs.search.reach.Goals as goal
 
 pub literal-bad-requires-clause-in_range : goal.literal-bad-requires-clause-in_range

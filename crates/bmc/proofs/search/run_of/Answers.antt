@@ -4,7 +4,7 @@ use Rattle.solver.specs.Answers.{values}
 use Rattle.cones.specs.Marks.{ExistenceLaw}
 use Rattle.cones.proofs.Existing.{existence_law}
 use Rattle.bmc.specs.Lines.{AreLines}
-use Rattle.bmc.specs.Times.{leaves_of}
+use Rattle.unrolling.specs.Times.{leaves_of}
 use Rattle.bmc.proofs.Found.{model_shows}
 use Rattle.bmc.proofs.search.run_of.Goals as goal
 

@@ -2,7 +2,7 @@ use Rattle.std.proofs.Common.{◌≡◌, ◌+◌, ◌-◌, ◌≤◌, length}
 use Rattle.base.specs.Budget.{Spends}
 use Rattle.graph.specs.declared.circuit.Property.TheVariants.{Bad}
 use Rattle.engine.specs.Bounds.{IsUnsetFor}
-use Rattle.bmc.specs.Times.{IsAt, HasRoom}
+use Rattle.unrolling.specs.Times.{IsAt, HasRoom}
 use Rattle.bmc.proofs.search.search_up_to.Given as goal
 
 abbrev pub invariant-deepening : goal.invariant-deepening

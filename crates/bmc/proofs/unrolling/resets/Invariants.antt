@@ -1,6 +1,0 @@
-use Rattle.std.proofs.Common.{◌≡◌, map, take}
-use Rattle.bmc.specs.Unrollings.{constant_of}
-use Rattle.bmc.proofs.unrolling.resets.Given as goal
-
-abbrev pub invariant-loop-latch : goal.invariant-loop-latch
-invariant-loop-latch l = l.initial'.items ≡ map constant_of (take l.latch-index l.latches)

@@ -1,0 +1,5 @@
+pub mod Encodings
+pub mod Demands
+pub mod Cones
+pub mod Unrollings
+pub mod Times
