@@ -4,7 +4,8 @@ use Rattle.base.specs.Devices.{PutsBeginning}
 use Rattle.graph.specs.File.{File}
 use Rattle.stimulus.specs.declared.sim_error.SimError.{SimError}
 use Rattle.stimulus.specs.declared.sim_error.SimError.TheVariants.{NotViolated, LineLength, NoInputLine, InitialReset, Device, OutOfMemory}
-use Rattle.trace.specs.OpenTraces.{HasOpenCause, HasOpenTraceCause, HasOpenWaveCause, IsOpenTraceCutOff, IsOpenWaveCutOff}
+use Rattle.wave_signals.specs.OpenRows.{HasOpenCause}
+use Rattle.trace.specs.OpenTraces.{HasOpenTraceCause, HasOpenWaveCause, IsOpenTraceCutOff, IsOpenWaveCutOff}
 use Rattle.trace.specs.Traces.{IsCutShort}
 
 pub open_trace_cause : (f : File) (all : Bool) (initial : List (Option Bool)) (inputs : List (List (Option Bool))) (before after : Option (List ℕ)) (e : SimError) → HasOpenCause f.model initial inputs e → HasOpenTraceCause f all initial inputs before after e

@@ -8,9 +8,9 @@ use Rattle.stimulus.specs.declared.value.Stimulus.TheVariants.{Holds, Violated, 
 use Rattle.stimulus.specs.declared.sim_error.SimError.{SimError}
 use Rattle.stimulus.specs.declared.sim_error.SimError.TheVariants.{NotViolated, LineLength, NoInputLine, InitialReset, Device, OutOfMemory}
 use Rattle.stimulus.specs.Tables.{HasSimCauseIn}
-use Rattle.trace.specs.declared.bits.Bit.{Bit}
-use Rattle.trace.specs.declared.signals.Signal.{Signal}
-use Rattle.trace.specs.Columns.{rows_of}
+use Rattle.wave_signals.specs.declared.bits.Bit.{Bit}
+use Rattle.wave_signals.specs.declared.signals.Signal.{Signal}
+use Rattle.wave_signals.specs.Columns.{rows_of}
 use Rattle.trace.specs.Lines.{HasLines}
 use Rattle.trace.specs.Traces.{IsCutShort}
 use Rattle.trace.specs.Waves.{HasWaveCause, HasWaveCauseIn, IsWaveCutOff, wave_text}

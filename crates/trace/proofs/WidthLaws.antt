@@ -6,13 +6,12 @@ use Rattle.std.proofs.Math.Nat.{max_comm}
 use Rattle.std.proofs.lemmas.List.{get_or-map, length-map, map_more, take_all, take-append-drop, take-replicate, drop-replicate, replicate_more}
 use Rattle.base.specs.Devices.{PutsBeginning}
 use Rattle.base.proofs.Putting.{begins_behind, begins_more}
-use Rattle.trace.specs.declared.signals.Signal.{Signal}
-use Rattle.trace.specs.Changes.{part_of}
-use Rattle.trace.specs.Columns.{rows_of}
-use Rattle.trace.specs.Numbers.{hex_below}
+use Rattle.wave_signals.specs.declared.signals.Signal.{Signal}
+use Rattle.wave_texts.specs.Changes.{part_of}
+use Rattle.wave_signals.specs.Columns.{rows_of}
 use Rattle.trace.specs.Traces.{cell_text, number_cell, values_width}
 use Rattle.trace.specs.Widths.{spaces, width_of}
-use Rattle.trace.proofs.ColumnLaws.{rows_long}
+use Rattle.wave_signals.proofs.ColumnLaws.{rows_long}
 
 -- one text more
 width_push : (texts : List (List ℕ)) (text : List ℕ) → width_of (texts ++ text ∷ []) ≡ max (width_of texts) (length text)
@@ -36,10 +35,6 @@ cell_now signals rows n widths s now n_in is_widths is_now =
     let row = get_or rows n [] in
     let wide : get_or widths n 0 ≡ values_width signals (get_or rows n []) = ap (λ (xs : List ℕ). get_or xs n 0) is_widths ∙ get_or-map (values_width signals) rows n [] 0 n_in in
     ap (λ (k : ℕ). number_cell k (part_of now s)) wide ∙ ap (λ (xs : List (Option Bool)). number_cell (values_width signals row) (part_of xs s)) is_now
-
-pub hex_long : (n : ℕ) (bits : List (Option Bool)) → length (hex_below n bits) ≡ n
-hex_long zero bits = refl
-hex_long (suc n) bits = ap suc (hex_long n bits)
 
 -- ---- spaces
 

@@ -1,15 +1,5 @@
-pub mod Numbers
-pub mod Bits
-pub mod Signals
-pub mod Columns
 pub mod Lines
-pub mod Loops
 pub mod Widths
-pub mod OpenValues
-pub mod SignalValues
-pub mod Scopes
-pub mod Variables
-pub mod Changes
 pub mod Traces
 pub mod Waves
 pub mod OpenTraces

@@ -13,14 +13,14 @@ use Rattle.stimulus.specs.declared.sim_error.SimError.{SimError}
 use Rattle.stimulus.specs.declared.sim_error.SimError.TheVariants.{NotViolated, LineLength, NoInputLine, InitialReset, Device, OutOfMemory}
 use Rattle.stimulus.specs.Shown.{IsReplay, closing_state}
 use Rattle.stimulus.specs.Causes.{HasFitLines, IsPlayable, IsWrongLine}
-use Rattle.trace.specs.declared.bits.Bit.{Bit}
-use Rattle.trace.specs.declared.signals.Signal.{Signal}
-use Rattle.trace.specs.Changes.{part_of}
-use Rattle.trace.specs.Numbers.{number_text}
-use Rattle.trace.specs.Bits.{AreShown}
-use Rattle.trace.specs.Signals.{AreSignals, bits_of, signal_name}
-use Rattle.trace.specs.Columns.{known_at}
-use Rattle.trace.specs.Loops.{IsLoopStart}
+use Rattle.wave_signals.specs.declared.bits.Bit.{Bit}
+use Rattle.wave_signals.specs.declared.signals.Signal.{Signal}
+use Rattle.wave_texts.specs.Changes.{part_of}
+use Rattle.bit_numbers.specs.Numbers.{number_text}
+use Rattle.wave_signals.specs.Bits.{AreShown}
+use Rattle.wave_signals.specs.Signals.{AreSignals, bits_of, signal_name}
+use Rattle.wave_signals.specs.Columns.{known_at}
+use Rattle.wave_signals.specs.Loops.{IsLoopStart}
 use Rattle.trace.specs.Widths.{at_left, at_right, width_of}
 
 -- the width of the names

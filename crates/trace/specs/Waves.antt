@@ -12,14 +12,14 @@ use Rattle.stimulus.specs.declared.sim_error.SimError.{SimError}
 use Rattle.stimulus.specs.declared.sim_error.SimError.TheVariants.{NotViolated, LineLength, NoInputLine, InitialReset, Device, OutOfMemory}
 use Rattle.stimulus.specs.Shown.{IsReplay, closing_state}
 use Rattle.stimulus.specs.Causes.{HasFitLines, IsPlayable, IsWrongLine}
-use Rattle.trace.specs.declared.bits.Bit.{Bit}
-use Rattle.trace.specs.declared.signals.Signal.{Signal}
-use Rattle.trace.specs.Signals.{bits_of}
-use Rattle.trace.specs.Columns.{known_at}
-use Rattle.trace.specs.Loops.{IsLoopStart}
+use Rattle.wave_signals.specs.declared.bits.Bit.{Bit}
+use Rattle.wave_signals.specs.declared.signals.Signal.{Signal}
+use Rattle.wave_signals.specs.Signals.{bits_of}
+use Rattle.wave_signals.specs.Columns.{known_at}
+use Rattle.wave_signals.specs.Loops.{IsLoopStart}
 use Rattle.trace.specs.Traces.{Signals}
-use Rattle.trace.specs.Variables.{variables_text}
-use Rattle.trace.specs.Changes.{times_text}
+use Rattle.wave_texts.specs.Variables.{variables_text}
+use Rattle.wave_texts.specs.Changes.{times_text}
 
 -- the comment that tells where the loop begins, where there is one
 abbrev pub comment_text : Option ℕ → List ℕ

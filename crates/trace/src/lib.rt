@@ -16,21 +16,8 @@
 //! memory too before it is put.
 #![tactic(auto)]
 
-mod bits;
-mod changes;
-mod columns;
 mod lines;
-mod loops;
-mod names;
-mod numbers;
-mod open_lines;
-mod open_replay;
-mod open_values;
-mod scopes;
-mod signal_values;
-mod signals;
 mod table;
-mod variables;
 mod waves;
 mod widths;
 

@@ -3,23 +3,22 @@
 ghost use Rattle.std.specs.Prelude.{◌≡◌, ◌≢◌, ◌≤◌, ◌+◌, ◌*◌, ◌-◌, ◌^◌, ◌<◌, List, All, Some, length, map, IfErr, OnOk, flat_map};
 ghost use Rattle.std.specs.Io.KnownBytes.{Appends};
 ghost use Rattle.base.specs.Devices.{CountsFailure, Puts};
-ghost use Rattle.trace.specs.Columns.{rows_of};
-ghost use Rattle.trace.specs.declared.signals.Signal.{Signal as ASignal};
-ghost use Rattle.trace.specs.Signals.{signal_name};
+ghost use Rattle.wave_signals.specs.Columns.{rows_of};
+ghost use Rattle.wave_signals.specs.declared.signals.Signal.{Signal as ASignal};
+ghost use Rattle.wave_signals.specs.Signals.{signal_name};
 ghost use Rattle.trace.specs.OpenTraces.{HasOpenTraceCause, PutsOpenTrace};
 ghost use Rattle.trace.specs.Traces.{HasTraceCause, HasTraceCauseIn, PutsTrace, PutsTraceIn, IsCutShort, cell_text, loop_text, names_width as width_of_names, number_cell, row_text, trace_text, values_width};
 ghost use Rattle.trace.specs.Widths.{at_left};
 
-use crate::bits::Bit;
 use crate::lines::lines_of;
-use crate::numbers::{number_length, put_number};
-use crate::signal_values::SignalValues;
-use crate::signals::{Signal, put_counted, put_signal_name, signal_name_length};
 use crate::widths::{names_width, put_spaces, values_widths};
 use base::{Failed, Seq, Sink, put_all};
+use bit_numbers::{number_length, put_number};
 use graph::{AigerFile, Property};
+use signal_values::SignalValues;
 use std::alloc::Global;
 use stimulus::{SimError, Stimulus};
+use wave_signals::{Bit, Signal, put_counted, put_signal_name, signal_name_length};
 
 /// Puts the name of a signal of these bits in a column of this width.
 fn put_name<W: Sink>(out: &mut W, bits: &[Bit<'_>], width: usize) -> Result<(), Failed>

@@ -2,21 +2,19 @@
 
 ghost use Rattle.std.specs.Prelude.{◌≡◌, ◌≢◌, ◌≤◌, ◌+◌, ◌*◌, ◌-◌, ◌^◌, ◌<◌, ◌++◌, All, length, IfOk, IfErr, OnOk};
 ghost use Rattle.std.specs.Io.KnownBytes.{Appends};
-ghost use Rattle.trace.specs.Columns.{rows_of};
+ghost use Rattle.wave_signals.specs.Columns.{rows_of};
 ghost use Rattle.trace.specs.OpenTraces.{HasOpenWaveCause, PutsOpenWave};
 ghost use Rattle.trace.specs.Traces.{IsCutShort};
 ghost use Rattle.trace.specs.Waves.{HasWaveCause, HasWaveCauseIn, PutsWave, PutsWaveIn, comment_text, head_text, wave_text};
 
-use crate::bits::Bit;
-use crate::changes::push_times;
 use crate::lines::lines_of;
-use crate::signal_values::SignalValues;
-use crate::signals::Signal;
-use crate::variables::{push_number, push_variables};
 use base::{Refused, Seq, Sink, extend, put_all};
 use graph::{AigerFile, Property};
+use signal_values::SignalValues;
 use std::alloc::Global;
 use stimulus::{SimError, Stimulus};
+use wave_signals::{Bit, Signal};
+use wave_texts::{push_number, push_times, push_variables};
 
 /// Adds the comment that tells where the loop begins.
 fn push_comment(text: &mut Vec<u8>, start: Option<usize>) -> Result<(), Refused>

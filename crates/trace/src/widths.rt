@@ -2,17 +2,16 @@
 
 ghost use Rattle.std.specs.Prelude.{◌≡◌, ◌≤◌, ◌<◌, ◌*◌, ◌-◌, ◌^◌, All, length, map, IfOk};
 ghost use Rattle.base.specs.Devices.{CountsFailure, Puts};
-ghost use Rattle.trace.specs.Changes.{part_of};
-ghost use Rattle.trace.specs.Columns.{rows_of};
-ghost use Rattle.trace.specs.Numbers.{number_text};
+ghost use Rattle.wave_texts.specs.Changes.{part_of};
+ghost use Rattle.wave_signals.specs.Columns.{rows_of};
+ghost use Rattle.bit_numbers.specs.Numbers.{number_text};
 ghost use Rattle.trace.specs.Traces.{names_width as width_of_names, values_width as width_of_values};
 ghost use Rattle.trace.specs.Widths.{spaces, width_of};
 
-use crate::bits::Bit;
-use crate::numbers::number_length;
-use crate::signals::{Signal, signal_name_length};
 use base::{Failed, Refused, Sink, push, put_all};
+use bit_numbers::number_length;
 use std::alloc::Global;
+use wave_signals::{Bit, Signal, signal_name_length};
 
 /// Puts this many spaces.
 pub fn put_spaces<W: Sink>(out: &mut W, count: usize) -> Result<(), Failed>

@@ -1,7 +1,7 @@
 use Rattle.std.proofs.Common.{◌≡◌, ◌-◌, ◌∙◌, ap, length}
 use Rattle.base.proofs.Putting.{puts_then}
 use Rattle.stimulus.proofs.WriteLaws.{first_fails}
-use Rattle.trace.specs.Signals.{signal_name}
+use Rattle.wave_signals.specs.Signals.{signal_name}
 use Rattle.trace.specs.Widths.{spaces}
 use Rattle.trace.proofs.table.put_name.Goals as goal
 

@@ -3,8 +3,8 @@ use Rattle.std.specs.Prelude.{codes}
 use Rattle.std.specs.List.{flat_map}
 use Rattle.base.proofs.Putting.{puts_of, puts_then}
 use Rattle.stimulus.proofs.WriteLaws.{first_fails}
-use Rattle.trace.specs.Columns.{rows_of}
-use Rattle.trace.specs.Signals.{bits_of, signal_name}
+use Rattle.wave_signals.specs.Columns.{rows_of}
+use Rattle.wave_signals.specs.Signals.{bits_of, signal_name}
 use Rattle.trace.specs.Traces.{cell_text, names_width}
 use Rattle.trace.specs.Widths.{at_left}
 use Rattle.trace.proofs.table.put_row.Goals as goal

@@ -2,7 +2,7 @@ use Rattle.std.proofs.Common.{length}
 use Rattle.std.specs.List.{flat_map}
 use Rattle.base.proofs.Putting.{puts_then}
 use Rattle.stimulus.proofs.WriteLaws.{first_fails}
-use Rattle.trace.specs.Columns.{rows_of}
+use Rattle.wave_signals.specs.Columns.{rows_of}
 use Rattle.trace.specs.Traces.{loop_text, row_text}
 use Rattle.trace.proofs.table.put_table.Goals as goal
 

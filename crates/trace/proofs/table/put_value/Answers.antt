@@ -2,7 +2,7 @@ use Rattle.std.proofs.Common.{◌≡◌, ◌-◌, ◌∙◌, ◌++◌, ap, lengt
 use Rattle.std.specs.Prelude.{codes}
 use Rattle.base.proofs.Putting.{puts_then}
 use Rattle.stimulus.proofs.WriteLaws.{first_fails}
-use Rattle.trace.specs.Numbers.{number_text}
+use Rattle.bit_numbers.specs.Numbers.{number_text}
 use Rattle.trace.specs.Widths.{at_right, spaces}
 use Rattle.trace.proofs.table.put_value.Goals as goal
 

@@ -4,9 +4,9 @@ use Rattle.std.specs.Io.KnownBytes.{Appends}
 use Rattle.std.proofs.lemmas.List.{take_all}
 use Rattle.base.specs.Devices.{PutsBeginning}
 use Rattle.base.proofs.Putting.{begins_at, puts_err, puts_next}
-use Rattle.trace.specs.Columns.{rows_of}
+use Rattle.wave_signals.specs.Columns.{rows_of}
 use Rattle.trace.specs.Traces.{cell_text}
-use Rattle.trace.proofs.ColumnLaws.{row_fits, row_front, row_later, rows_long}
+use Rattle.wave_signals.proofs.ColumnLaws.{row_fits, row_front, row_later, rows_long}
 use Rattle.trace.proofs.WidthLaws.{cell_now}
 use Rattle.trace.proofs.table.put_values.Goals as goal
 

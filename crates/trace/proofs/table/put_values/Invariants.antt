@@ -1,8 +1,8 @@
 use Rattle.std.proofs.Common.{◌≡◌, ◌*◌, List, length, map, take, drop}
 use Rattle.std.specs.List.{flat_map}
 use Rattle.std.specs.Io.KnownBytes.{Appends}
-use Rattle.trace.specs.declared.signals.Signal.{Signal}
-use Rattle.trace.specs.Columns.{rows_of}
+use Rattle.wave_signals.specs.declared.signals.Signal.{Signal}
+use Rattle.wave_signals.specs.Columns.{rows_of}
 use Rattle.trace.specs.Traces.{cell_text, values_width}
 use Rattle.trace.proofs.table.put_values.Given as goal
 

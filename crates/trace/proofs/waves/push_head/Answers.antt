@@ -1,4 +1,4 @@
-use Rattle.trace.proofs.TextLaws.{after}
+use Rattle.wave_texts.proofs.TextLaws.{after}
 use Rattle.trace.proofs.waves.push_head.Goals as goal
 
 pub returns : goal.returns

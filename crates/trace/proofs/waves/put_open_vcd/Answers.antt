@@ -2,7 +2,7 @@ use Rattle.std.proofs.Common.{ℕ, Option, length, subst}
 use Rattle.std.specs.Io.KnownBytes.{Appends}
 use Rattle.base.specs.Devices.{PutsBeginning}
 use Rattle.stimulus.proofs.RowLaws.{err_at}
-use Rattle.trace.specs.Columns.{rows_of}
+use Rattle.wave_signals.specs.Columns.{rows_of}
 use Rattle.trace.specs.OpenTraces.{HasOpenWaveCause}
 use Rattle.trace.specs.Traces.{Signals}
 use Rattle.trace.specs.Waves.{wave_text}

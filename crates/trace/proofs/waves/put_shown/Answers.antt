@@ -3,7 +3,7 @@ use Rattle.std.specs.Io.KnownBytes.{Appends}
 use Rattle.base.specs.Devices.{PutsBeginning}
 use Rattle.stimulus.specs.declared.sim_error.SimError.TheVariants.{Device}
 use Rattle.stimulus.proofs.RowLaws.{err_at}
-use Rattle.trace.specs.Columns.{rows_of}
+use Rattle.wave_signals.specs.Columns.{rows_of}
 use Rattle.trace.specs.Traces.{IsCutShort}
 use Rattle.trace.specs.Waves.{wave_text}
 use Rattle.trace.proofs.WaveLaws.{wave_at}

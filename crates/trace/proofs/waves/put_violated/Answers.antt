@@ -2,7 +2,7 @@ use Rattle.std.proofs.Common.{List, Bool, Option, length, subst}
 use Rattle.std.specs.Io.KnownBytes.{Appends}
 use Rattle.base.specs.Devices.{PutsBeginning}
 use Rattle.stimulus.proofs.RowLaws.{err_at}
-use Rattle.trace.specs.Columns.{rows_of}
+use Rattle.wave_signals.specs.Columns.{rows_of}
 use Rattle.trace.specs.Traces.{Signals}
 use Rattle.trace.specs.Waves.{HasWaveCauseIn, wave_text}
 use Rattle.trace.proofs.TraceLaws.{if_err, on_ok}

@@ -1,5 +1,5 @@
 use Rattle.std.proofs.Common.{◌∙◌, ℕ, max, ap}
-use Rattle.trace.specs.Signals.{bits_of, signal_name}
+use Rattle.wave_signals.specs.Signals.{bits_of, signal_name}
 use Rattle.trace.proofs.WidthLaws.{width_more}
 use Rattle.trace.proofs.widths.names_width.Goals as goal
 

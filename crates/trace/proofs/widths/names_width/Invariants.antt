@@ -1,5 +1,5 @@
 use Rattle.std.proofs.Common.{◌≡◌, map, take}
-use Rattle.trace.specs.Signals.{bits_of, signal_name}
+use Rattle.wave_signals.specs.Signals.{bits_of, signal_name}
 use Rattle.trace.specs.Widths.{width_of}
 use Rattle.trace.proofs.widths.names_width.Given as goal
 

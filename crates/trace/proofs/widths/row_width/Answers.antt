@@ -1,6 +1,6 @@
 use Rattle.std.proofs.Common.{◌∙◌, ℕ, max, ap}
-use Rattle.trace.specs.Changes.{part_of}
-use Rattle.trace.specs.Numbers.{number_text}
+use Rattle.wave_texts.specs.Changes.{part_of}
+use Rattle.bit_numbers.specs.Numbers.{number_text}
 use Rattle.trace.proofs.WidthLaws.{width_more}
 use Rattle.trace.proofs.widths.row_width.Goals as goal
 

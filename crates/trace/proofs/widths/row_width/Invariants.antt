@@ -1,6 +1,6 @@
 use Rattle.std.proofs.Common.{◌≡◌, map, take}
-use Rattle.trace.specs.Changes.{part_of}
-use Rattle.trace.specs.Numbers.{number_text}
+use Rattle.wave_texts.specs.Changes.{part_of}
+use Rattle.bit_numbers.specs.Numbers.{number_text}
 use Rattle.trace.specs.Widths.{width_of}
 use Rattle.trace.proofs.widths.row_width.Given as goal
 

@@ -1,8 +1,8 @@
 use Rattle.std.proofs.Common.{◌≡◌, ◌<◌, ◌∙◌, ◌++◌, ◌∷◌, ℕ, [], List, Bool, Option, length, map, take, get_or, sym, ap, arith}
 use Rattle.std.proofs.lemmas.List.{map_more, take_all}
-use Rattle.trace.specs.Columns.{rows_of}
+use Rattle.wave_signals.specs.Columns.{rows_of}
 use Rattle.trace.specs.Traces.{values_width}
-use Rattle.trace.proofs.ColumnLaws.{row_fits, row_front, row_later, rows_long}
+use Rattle.wave_signals.proofs.ColumnLaws.{row_fits, row_front, row_later, rows_long}
 use Rattle.trace.proofs.widths.values_widths.Goals as goal
 
 pub split_at-requires : goal.split_at-requires

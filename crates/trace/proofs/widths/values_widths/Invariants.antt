@@ -1,5 +1,5 @@
 use Rattle.std.proofs.Common.{◌≡◌, ◌*◌, length, map, take, drop}
-use Rattle.trace.specs.Columns.{rows_of}
+use Rattle.wave_signals.specs.Columns.{rows_of}
 use Rattle.trace.specs.Traces.{values_width}
 use Rattle.trace.proofs.widths.values_widths.Given as goal
 

@@ -1,5 +1,0 @@
-use Rattle.trace.proofs.BitLaws.{latch_more}
-use Rattle.trace.proofs.bits.latch_literals.Goals as goal
-
-pub loop-latch-preserved : goal.loop-latch-preserved
-loop-latch-preserved c = latch_more c.args.latches.now c.loop-latch.latch-index _ _ _ c.loop-latch-test.true c.loop-latch.invariant c.in_ok-push.ensures.items

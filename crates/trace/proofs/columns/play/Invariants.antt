@@ -1,5 +1,0 @@
-use Rattle.trace.specs.Columns.{HasValues}
-use Rattle.trace.proofs.columns.play.Given as goal
-
-abbrev pub invariant-loop-line : goal.invariant-loop-line
-invariant-loop-line l = HasValues l.initial.replay.circuit l.initial.replay.state l.lines l.bits l.line-index l.replay l.values.items

@@ -1,6 +1,0 @@
-use Rattle.std.proofs.Common.{◌≡◌, drop}
-use Rattle.trace.specs.Numbers.{are_known}
-use Rattle.trace.proofs.numbers.are_known.Given as goal
-
-abbrev pub invariant-loop-bit : goal.invariant-loop-bit
-invariant-loop-bit l = are_known l.bits ≡ are_known (drop l.bit-index l.bits)

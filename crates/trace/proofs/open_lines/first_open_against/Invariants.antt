@@ -1,6 +1,0 @@
-use Rattle.std.proofs.Common.{ℕ, ◌<◌}
-use Rattle.trace.specs.OpenTraces.{IsOpenFineAt}
-use Rattle.trace.proofs.open_lines.first_open_against.Given as goal
-
-abbrev pub invariant-loop-k : goal.invariant-loop-k
-invariant-loop-k l = (i : ℕ) → i < l.k → IsOpenFineAt l.latches l.given i

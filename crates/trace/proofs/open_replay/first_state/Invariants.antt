@@ -1,5 +1,0 @@
-use Rattle.trace.proofs.OpenReplayLaws.{OpenBegun}
-use Rattle.trace.proofs.open_replay.first_state.Given as goal
-
-abbrev pub invariant-loop-k : goal.invariant-loop-k
-invariant-loop-k l = OpenBegun l.latches l.given l.state.items l.k

@@ -1,6 +1,0 @@
-use Rattle.trace.specs.OpenValues.{open_value_of}
-use Rattle.trace.proofs.OpenReplayLaws.{OpenTaken}
-use Rattle.trace.proofs.open_replay.take_over.Given as goal
-
-abbrev pub invariant-loop-i : goal.invariant-loop-i
-invariant-loop-i l = OpenTaken (λ x. open_value_of l.values x.next) l.latches l.state l.i

@@ -1,6 +1,0 @@
-use Rattle.std.proofs.Common.{◌≡◌, drop}
-use Rattle.trace.specs.Scopes.{path_length}
-use Rattle.trace.proofs.scopes.path_length.Given as goal
-
-abbrev pub invariant-loop-k : goal.invariant-loop-k
-invariant-loop-k l = path_length (drop l.k l.name) ≡ 0

@@ -1,0 +1,9 @@
+pub mod BitLaws
+pub mod ColumnLaws
+pub mod LoopLaws
+pub mod NameLaws
+pub mod OpenFillLaws
+pub mod OpenLaws
+pub mod OpenOrderLaws
+pub mod OpenReplayLaws
+pub mod SignalLaws

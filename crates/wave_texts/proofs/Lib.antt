@@ -1,0 +1,4 @@
+pub mod ChangeLaws
+pub mod ScopeLaws
+pub mod TextLaws
+pub mod VariableLaws
