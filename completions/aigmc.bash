@@ -9,7 +9,7 @@ _aigmc() {
     fi
     case $before in
     --engine)
-        mapfile -t COMPREPLY < <(compgen -W 'all bmc ic3 corr rounds random' -- "$word")
+        mapfile -t COMPREPLY < <(compgen -W 'all bmc ic3 corr kind rounds random' -- "$word")
         return
         ;;
     -p | --depth | --rounds | --budget | --seed | --timeout) return ;;

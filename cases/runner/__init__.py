@@ -53,9 +53,9 @@ libraries that a C compiler `cc` makes; and `robustness/cut` cuts their texts at
 The cases of `cases/scripts` are of the scripts of bin/ around the programs, those of `cases/library` of the library for
 C, which `tools/library` has to have built, those of `cases/large` of circuits of 200,000 gates, those of
 `cases/witness_judge` of `tools/witness_judge`, those of `cases/witnesses` of the witness circuits that are made and
-adopted, those of `cases/registers` of random circuits with registers that are equal, and those of `cases/justice` of
-justice properties of random circuits; each counts. As many of the tools run side by side as there are processors, but
-`cases/scripts`, which looks at the clock.
+adopted, those of `cases/registers` of random circuits with registers that are equal, those of `cases/justice` of
+justice properties of random circuits, and those of `cases/induction` of what k-induction says of random circuits; each
+counts. As many of the tools run side by side as there are processors, but `cases/scripts`, which looks at the clock.
 
 The line before the last one has the cases that were skipped, which count neither as passed nor as failed. The last line
 is 'N passed, M failed'; the status is 0 only where nothing failed.

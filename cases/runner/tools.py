@@ -13,7 +13,7 @@ PRELOADING = ("refused", "devices", "again")
 
 # The tools of cases/ whose cases count each by itself. Those of ALONE look at the clock: nothing runs beside them.
 ALONE = ("scripts",)
-COUNTING = ("library", "large", "witness_judge", "witnesses", "registers", "justice")
+COUNTING = ("library", "large", "witness_judge", "witnesses", "registers", "justice", "induction")
 
 # The programs that a comparison with simulation needs.
 SIMULATING = ("yosys", "iverilog", "vvp")

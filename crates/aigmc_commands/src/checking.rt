@@ -92,6 +92,7 @@ fn evidence_of(conclusion: &Conclusion) -> Option<Evidence> {
         Conclusion::Decided(Verdict::Unknown(_)) => None,
         Conclusion::Counted(Counted::Bounded { .. }) => Some(Evidence::Certificate),
         Conclusion::Counted(Counted::Unknown { .. }) => None,
+        Conclusion::Shown(_) => Some(Evidence::Certificate),
     }
 }
 
@@ -196,6 +197,7 @@ fn check_in(
         circuit: file.model(),
         property,
         timing,
+        by_text: !matches!(kept, Kept::Witness(_)),
     };
     match about(Role::Circuit, ask(rt, question, Seq::new(rt.alloc()))) {
         Ok(answered) => keep_and_show(rt, whole, property, kept, &answered, begun),
@@ -374,6 +376,7 @@ pub fn check_miter<'a>(
         circuit: file.model(),
         property,
         timing,
+        by_text: map.is_none(),
     };
     let answered = ask(rt, question, Seq::new(rt.alloc()))?;
     let spent = Spent::by(&answered, begun);
@@ -448,6 +451,7 @@ fn check_next(
         circuit: file.model(),
         property,
         timing: whole.timing,
+        by_text: true,
     };
     let answered = about(Role::Circuit, ask(rt, question, candidates))?;
     keep_next(rt, whole, property, answered, begun, clauses)

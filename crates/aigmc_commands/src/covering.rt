@@ -46,12 +46,17 @@ fn tell_unknown(rt: &HostRuntime, reason: Reason, is_over: bool) -> u8 {
     UNKNOWN
 }
 
-/// What is known of the circuit's first bad literal.
-fn verdict_on(rt: &HostRuntime, circuit: &Model, timing: Timing) -> Result<Verdict, ExitError> {
+/// What is known of the circuit's first bad literal. None where a certificate's text says that it is never set.
+fn verdict_on(
+    rt: &HostRuntime,
+    circuit: &Model,
+    timing: Timing,
+) -> Result<Option<Verdict>, ExitError> {
     let question = Question {
         circuit,
         property: Property::Bad(0),
         timing,
+        by_text: false,
     };
     let Answered {
         conclusion,
@@ -59,14 +64,19 @@ fn verdict_on(rt: &HostRuntime, circuit: &Model, timing: Timing) -> Result<Verdi
         counters: _,
     } = ask(rt, question, Seq::new(rt.alloc()))?;
     match conclusion {
-        Conclusion::Decided(verdict) => Ok(verdict),
+        Conclusion::Decided(verdict) => Ok(Some(verdict)),
+        Conclusion::Shown(_) => Ok(None),
         // no rounds are counted of a bad literal
         Conclusion::Counted(_) => unreachable!(),
     }
 }
 
 /// What is known of the bad literal that is set behind so many steps.
-fn verdict_behind(rt: &HostRuntime, circuit: &Model, timing: Timing) -> Result<Verdict, ExitError> {
+fn verdict_behind(
+    rt: &HostRuntime,
+    circuit: &Model,
+    timing: Timing,
+) -> Result<Option<Verdict>, ExitError> {
     let made = bad_behind(rt.alloc(), circuit, timing.search.depth).map_err(ExitError::from);
     let made = about(Role::Circuit, made)?;
     about(Role::Circuit, verdict_on(rt, made.model(), timing))
@@ -75,7 +85,10 @@ fn verdict_behind(rt: &HostRuntime, circuit: &Model, timing: Timing) -> Result<V
 /// Prints a run of the circuit that keeps the constraints, as long as the search is deep.
 fn cover_in(rt: &HostRuntime, circuit: &Model, timing: Timing) -> Result<u8, ExitError> {
     let depth = timing.search.depth;
-    match verdict_behind(rt, circuit, timing)? {
+    let Some(verdict) = verdict_behind(rt, circuit, timing)? else {
+        return Ok(tell_none(rt, depth));
+    };
+    match verdict {
         Verdict::Unsafe(
             Stimulus::Violated {
                 initial,

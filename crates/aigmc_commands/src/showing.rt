@@ -48,7 +48,7 @@ pub struct Found<'a> {
 }
 
 /// Whether the judge accepted the evidence before the verdict was given, or nothing where none was asked: `verdict::decide` has each
-/// run replayed, and no certificate that it makes; of counted rounds the certificate is judged.
+/// run replayed, and no certificate that it makes; of counted rounds and of equal signals the certificate is judged.
 fn checked(conclusion: &Conclusion) -> &'static str
     ensures { result.now ≡ checked_word conclusion.now }
 {
@@ -57,6 +57,7 @@ fn checked(conclusion: &Conclusion) -> &'static str
         Conclusion::Decided(Verdict::Safe(_) | Verdict::Unknown(_)) => "null",
         Conclusion::Counted(Counted::Bounded { .. }) => "true",
         Conclusion::Counted(Counted::Unknown { .. }) => "null",
+        Conclusion::Shown(_) => "true",
     }
 }
 
@@ -70,6 +71,7 @@ fn word_of(conclusion: &Conclusion) -> &'static str
         Conclusion::Decided(Verdict::Unknown(_)) => "unknown",
         Conclusion::Counted(Counted::Bounded { .. }) => "holds",
         Conclusion::Counted(Counted::Unknown { .. }) => "unknown",
+        Conclusion::Shown(_) => "holds",
     }
 }
 
@@ -81,6 +83,7 @@ fn status_for(conclusion: &Conclusion) -> u8
         Conclusion::Decided(verdict) => status_of(verdict),
         Conclusion::Counted(Counted::Bounded { .. }) => DONE,
         Conclusion::Counted(Counted::Unknown { .. }) => UNKNOWN,
+        Conclusion::Shown(_) => DONE,
     }
 }
 
@@ -163,6 +166,7 @@ impl Found<'_> {
                 make_bytes(rt, to.name, certificate.as_slice())
             }
             Conclusion::Counted(Counted::Unknown { .. }) => Ok(()),
+            Conclusion::Shown(certificate) => { make_bytes(rt, to.name, certificate.as_slice()) }
         }
     }
 
@@ -172,7 +176,9 @@ impl Found<'_> {
     {
         match self.conclusion {
             Conclusion::Decided(verdict) => print_alone(rt, self.property, verdict),
-            Conclusion::Counted(_) => print_status(rt, self.property, status_for(self.conclusion)),
+            Conclusion::Counted(_) | Conclusion::Shown(_) => {
+                print_status(rt, self.property, status_for(self.conclusion))
+            }
         }
     }
 

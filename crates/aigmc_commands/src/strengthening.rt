@@ -72,7 +72,8 @@ fn keep_found(
 {
     match conclusion {
         Conclusion::Decided(verdict) => keep_safe(rt, out, property, verdict),
-        Conclusion::Counted(Counted::Bounded { certificate, .. }) => {
+        Conclusion::Counted(Counted::Bounded { certificate, .. })
+        | Conclusion::Shown(certificate) => {
             make_bytes(rt, out, certificate.as_slice())?;
             Ok(DONE)
         }
@@ -93,6 +94,7 @@ fn strengthened(
         circuit: file.model(),
         property,
         timing,
+        by_text: true,
     };
     let conclusion = ask(rt, question, clauses)?.conclusion;
     if asked.verbose {

@@ -109,6 +109,12 @@ fn tell_counted(rt: &HostRuntime, property: Property, counted: &Counted, is_over
     };
 }
 
+/// Says that a certificate of version 3 shows the property.
+fn tell_shown(rt: &HostRuntime, property: Property) {
+    let name = Name(property);
+    let _ = eprint!(rt; "{name}: holds, by a certificate of version 3");
+}
+
 /// Says what was found of the property, and why nothing is known of it.
 fn tell_found(rt: &HostRuntime, property: Property, verdict: &Verdict, is_over: bool) {
     let name = Name(property);
@@ -140,6 +146,7 @@ pub fn conclude(
     match conclusion {
         Conclusion::Decided(verdict) => tell_found(rt, property, verdict, is_over),
         Conclusion::Counted(counted) => tell_counted(rt, property, counted, is_over),
+        Conclusion::Shown(_) => tell_shown(rt, property),
     }
     let _ = match symbol {
         Some(symbol) => eprintln!(rt; " ({})", Printable(symbol)),

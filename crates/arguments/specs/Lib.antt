@@ -1,2 +1,1 @@
-pub mod Engines
 pub mod Places

@@ -1,9 +1,8 @@
 //! What the words of a command line ask for.
 
 ghost use Rattle.std.specs.Prelude.{◌≡◌, Some, None, IfSome, codes, option_map};
-ghost use Rattle.arguments.specs.Engines.{asks_bounded, asks_inductive};
 ghost use Rattle.arguments.specs.Places.{folder_of, name_of};
-ghost use Rattle.arguments.specs.declared.request.EngineKind.TheVariants.{All, Bounded, Inductive, Corresponding, Rounds, Random};
+ghost use Rattle.arguments.specs.declared.request.EngineKind.TheVariants.{All, Bounded, Inductive, Corresponding, KInduction, Rounds, Random};
 ghost use Rattle.arguments.specs.declared.request.Kept.TheVariants.{Nowhere, Certificate, Witness, Folder};
 
 use crate::adopting::{
@@ -21,7 +20,7 @@ use std::alloc::Global;
 /// What looks for evidence.
 #[derive(Clone, Copy, PartialEq, Eq)]
 pub enum EngineKind {
-    /// Bounded search and IC3, each with few steps, then register correspondence, and then the two again.
+    /// Bounded search and IC3, each with few steps, then the others and the two again.
     All,
     /// Bounded search.
     Bounded,
@@ -29,26 +28,12 @@ pub enum EngineKind {
     Inductive,
     /// Register correspondence, and then bounded search.
     Corresponding,
+    /// Bounded search, and then k-induction.
+    KInduction,
     /// Counting rounds, for a justice property alone.
     Rounds,
     /// Random simulation.
     Random,
-}
-
-impl EngineKind {
-    /// Whether bounded search is asked.
-    pub fn has_bounded(self) -> bool
-        ensures { result ≡ asks_bounded self }
-    {
-        matches!(self, EngineKind::All | EngineKind::Bounded)
-    }
-
-    /// Whether IC3 is asked.
-    pub fn has_inductive(self) -> bool
-        ensures { result ≡ asks_inductive self }
-    {
-        matches!(self, EngineKind::All | EngineKind::Inductive)
-    }
 }
 
 /// How a search is to go.
@@ -204,6 +189,7 @@ fn engine_called(name: &str) -> EngineKind
     ensures bounded { name.now ≡ codes "bmc" → result ≡ Bounded }
     ensures inductive { name.now ≡ codes "ic3" → result ≡ Inductive }
     ensures corresponding { name.now ≡ codes "corr" → result ≡ Corresponding }
+    ensures k_induction { name.now ≡ codes "kind" → result ≡ KInduction }
     ensures rounds { name.now ≡ codes "rounds" → result ≡ Rounds }
     ensures random { name.now ≡ codes "random" → result ≡ Random }
 {
@@ -211,6 +197,7 @@ fn engine_called(name: &str) -> EngineKind
         "bmc" => EngineKind::Bounded,
         "ic3" => EngineKind::Inductive,
         "corr" => EngineKind::Corresponding,
+        "kind" => EngineKind::KInduction,
         "rounds" => EngineKind::Rounds,
         "random" => EngineKind::Random,
         _ => EngineKind::All,

@@ -25,7 +25,7 @@ pub enum Takes {
 pub const STEPS: u64 = 200_000_000;
 
 /// The engines that may be asked for.
-static ENGINES: [&str; 6] = ["all", "bmc", "ic3", "corr", "rounds", "random"];
+static ENGINES: [&str; 7] = ["all", "bmc", "ic3", "corr", "kind", "rounds", "random"];
 
 /// An argument of a command.
 #[derive(Clone, Copy)]

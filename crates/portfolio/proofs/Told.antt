@@ -39,6 +39,17 @@ pub are_meant_with : (m : Parts) (j : ℕ) (after : Steps) (c : Counted) → Are
 are_meant_with m j after (counted.Bounded k text) meant = tt
 are_meant_with m j after (counted.Unknown c held) meant = are_why_with m j held after c meant
 
+why_less : (m : Parts) (p : Property) (left rest : ℕ) (r : Reason) → rest ≤ left → IsWhy m p (record { spent = 0; left = left }) r → IsWhy m p (record { spent = 0; left = rest }) r
+why_less m p left rest reason.Budget few why = omega (arith, few, why)
+why_less m p left rest (reason.Depth steps) few why = why
+why_less m p left rest reason.NoEvidence few why = why
+
+-- with fewer steps left the reason stands too
+pub meant_less : (m : Parts) (p : Property) (left rest : ℕ) (v : Verdict) → rest ≤ left → IsMeantWith m p left v → IsMeantWith m p rest v
+meant_less m p left rest (Safe c) few meant = tt
+meant_less m p left rest (Unsafe s) few meant = tt
+meant_less m p left rest (Unknown r) few meant = why_less m p left rest r few meant
+
 -- what is spent says what is left
 pub told_by : (kind : EngineKind) (m : Parts) (p : Property) (budget left steps : ℕ) (c : Conclusion) → left ≤ budget → steps ≡ budget - left → IsTold kind m p left c → IsTold kind m p (budget - steps) c
 told_by kind m p budget left steps c few is = subst (λ n. IsTold kind m p n c) (omega (arith, few, is))

@@ -8,12 +8,7 @@ ghost use Rattle.rounds.specs.Counted.{IsBacked as AreBacked};
 ghost use Rattle.verdict.specs.Verdicts.{IsBacked};
 ghost use Rattle.verdict.specs.declared.verdict.Verdict.TheVariants.{Unknown};
 
-use crate::beginning::Beginning;
 use crate::conclusion::Conclusion;
-use crate::merging::{Merging, bounded_by};
-use crate::reporter::Reporter;
-use crate::timed::{Deadline, Timed};
-use crate::timing::Timing;
 use arguments::EngineKind;
 use base::{Budget, Refused, Seq};
 use cdcl::Cdcl;
@@ -23,8 +18,12 @@ use engine::{Counters, Engine};
 use engine_random::Random;
 use graph::{Lit, Model, Property};
 use ic3::Ic3;
+use k_induction::decide_by_induction;
 use rounds::{Counted, decide_rounds};
+use shown::Shown;
+use solver::Sat;
 use std::alloc::Global;
+use strategies::{Beginning, Deadline, Merging, Reported, Reporter, Timed, Timing, bounded_by};
 use verdict::{DecideError, Verdict, decide, decide_by};
 
 /// Bounded search and IC3 are asked first with one of so many parts of the budget.
@@ -54,6 +53,8 @@ pub struct Question<'a> {
     pub property: Property,
     /// how the search is to go
     pub timing: Timing,
+    /// whether the text of a certificate of version 3 may be the answer for a bad literal or an output
+    pub by_text: bool,
 }
 
 /// The same clauses.
@@ -311,6 +312,63 @@ impl Question<'_> {
         }
     }
 
+    /// The certificate that k-induction comes to, where it comes to one and its text may be the answer. Answers how many steps are
+    /// left too.
+    fn induced(
+        self,
+        rt: &HostRuntime,
+        steps: u64,
+        counters: &mut Counters,
+    ) -> Result<(Option<Seq<u8>>, u64), DecideError>
+        ensures concluded { IfOk result (λ r. IfSome r.0 (λ text. IsConcluded self.entry.circuit.now self.entry.property (conclusion.Shown text))) }
+        ensures left { IfOk result (λ r. r.1 ≤ steps) }
+    {
+        if !self.by_text {
+            return Ok((None, steps));
+        }
+        let (alloc, timing) = (rt.alloc(), self.timing);
+        let mut solver = timing.solver(alloc);
+        let mut progress = Reporter::of(Reported::KInduction, rt, timing.shown);
+        let mut budget = timing.budget(steps);
+        let found = decide_by_induction(
+            alloc,
+            self.circuit,
+            self.property,
+            &mut solver,
+            timing.search.depth,
+            &mut progress,
+            &mut budget,
+        )?;
+        counters.add_statistics("kind", &solver.statistics())?;
+        match found {
+            Shown::Holds(text) => Ok((Some(text), budget.left())),
+            Shown::Unknown(_) => Ok((None, budget.left())),
+        }
+    }
+
+    /// What bounded search says, and else k-induction.
+    #[tactic(auto, using(crate::proofs::Told::meant_less))]
+    fn bounded_or_induced(
+        self,
+        rt: &HostRuntime,
+        steps: u64,
+        counters: &mut Counters,
+    ) -> Result<(Conclusion, u64), DecideError>
+        ensures concluded { IfOk result (λ r. IsConcluded self.entry.circuit.now self.entry.property r.0) }
+        ensures meant { IfOk result (λ r. IsMeantIn self.entry.circuit.now self.entry.property r.1 r.0) }
+        ensures left { IfOk result (λ r. r.1 ≤ steps) }
+    {
+        let (verdict, left) = self.bounded(rt, steps, counters)?;
+        if !matches!(verdict, Verdict::Unknown(_)) {
+            return Ok((Conclusion::Decided(verdict), left));
+        }
+        let (text, rest) = self.induced(rt, left, counters)?;
+        match text {
+            Some(text) => Ok((Conclusion::Shown(text), rest)),
+            None => Ok((Conclusion::Decided(verdict), rest)),
+        }
+    }
+
     /// What counting the rounds comes to, where the property is a justice property and it comes to a bound, and else register
     /// correspondence and the engines behind it.
     fn counted_or_merged(
@@ -403,6 +461,7 @@ impl Question<'_> {
         let (verdict, left) = match self.timing.search.engine {
             EngineKind::All => return self.staged(rt, candidates, counters),
             EngineKind::Rounds => return self.rounds_alone(rt, counters),
+            EngineKind::KInduction => return self.bounded_or_induced(rt, budget, counters),
             EngineKind::Corresponding => self.corresponded(rt, budget, counters)?,
             EngineKind::Bounded => self.bounded(rt, budget, counters)?,
             EngineKind::Inductive => self.inductive(rt, candidates, budget, counters)?,

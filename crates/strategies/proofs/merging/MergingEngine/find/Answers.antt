@@ -1,5 +1,5 @@
-use Rattle.portfolio.specs.Searched.{IsSearched, IsBounded, IsInductive}
-use Rattle.portfolio.proofs.merging.MergingEngine.find.Goals as goal
+use Rattle.strategies.specs.Searched.{IsSearched, IsBounded, IsInductive}
+use Rattle.strategies.proofs.merging.MergingEngine.find.Goals as goal
 
 pub returns-clause-searched : goal.returns-clause-searched
 unfolding IsSearched IsBounded IsInductive

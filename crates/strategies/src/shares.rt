@@ -5,7 +5,7 @@ ghost use Rattle.std.specs.Mem.{type_size};
 ghost use Rattle.base.specs.Sizes.{IsItemSize};
 ghost use Rattle.base.specs.Budget.{Spends};
 ghost use Rattle.engine.specs.Findings.{IsForBad, IsSo};
-ghost use Rattle.portfolio.specs.Shares.{AreInShares, IsOfPart, IsOfRest, IsShown};
+ghost use Rattle.strategies.specs.Shares.{AreInShares, IsOfPart, IsOfRest, IsShown};
 
 use crate::timed::exhaust;
 use base::{Budget, Refused, boxed};

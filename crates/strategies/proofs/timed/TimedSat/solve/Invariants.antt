@@ -1,6 +1,6 @@
 use Rattle.std.proofs.Common.{◌≡◌}
 use Rattle.base.specs.Budget.{Spends}
-use Rattle.portfolio.proofs.timed.TimedSat.solve.Given as goal
+use Rattle.strategies.proofs.timed.TimedSat.solve.Given as goal
 
 abbrev pub invariant-loop : goal.invariant-loop
 invariant-loop g l = record {

@@ -3,7 +3,7 @@
 ghost use Rattle.std.specs.Prelude.{◌≡◌, IfOk};
 ghost use Rattle.base.specs.Budget.{Spends};
 ghost use Rattle.engine.specs.Findings.{IsForBad, IsSo};
-ghost use Rattle.portfolio.specs.Searched.{IsSearched};
+ghost use Rattle.strategies.specs.Searched.{IsSearched};
 
 use crate::reporter::Reporter;
 use crate::shares::InShares;

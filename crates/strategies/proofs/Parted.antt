@@ -6,7 +6,7 @@ use Rattle.engine.specs.Findings.{IsSo}
 use Rattle.engine.specs.declared.engine_error.EngineError.{EngineError}
 use Rattle.engine.specs.declared.finding.Finding.{Finding}
 use Rattle.engine.specs.declared.finding.Finding.TheVariants.{Invariant, Run, Unknown}
-use Rattle.portfolio.specs.Shares.{IsShown}
+use Rattle.strategies.specs.Shares.{IsShown}
 
 shown_of : (m : Parts) (after : Steps) (f : Finding) → IsSo m after f → IsShown m f
 shown_of m after (Run initial inputs) so = so

@@ -33,11 +33,43 @@ impl Shown {
     }
 }
 
+/// The engines of a search.
+#[derive(Clone, Copy, PartialEq, Eq)]
+pub enum Reported {
+    /// Bounded search, IC3, register correspondence and the counting of rounds.
+    Several,
+    /// k-induction.
+    KInduction,
+    /// Signal correspondence.
+    Signals,
+}
+
+impl Reported {
+    /// What the engine is called that looks at one depth after the other.
+    fn deepening(self) -> &'static str {
+        if self == Reported::KInduction {
+            "kind"
+        } else {
+            "bmc"
+        }
+    }
+
+    /// What the engine is called that has rounds of induction.
+    fn inducing(self) -> &'static str {
+        if self == Reported::Signals {
+            "scorr"
+        } else {
+            "corr"
+        }
+    }
+}
+
 /// Shows on standard error how far a search is. A line that cannot be written is left out.
 #[derive(Drop)]
 pub struct Reporter {
     rt: HostRuntime,
     shown: Shown,
+    reported: Reported,
     /// the frame that was opened last
     frame: u32,
     /// the clauses that the frames had then
@@ -52,10 +84,18 @@ impl Reporter {
         Reporter {
             rt: *rt,
             shown,
+            reported: Reported::Several,
             frame: 0,
             clauses: 0,
             written: None,
         }
+    }
+
+    /// A reporter that shows a search by these engines in this way.
+    pub fn of(reported: Reported, rt: &HostRuntime, shown: Shown) -> Reporter {
+        let mut reporter = Reporter::new(rt, shown);
+        reporter.reported = reported;
+        reporter
     }
 
     /// Whether the one line is due: half a second after it was written, or after the first query.
@@ -93,7 +133,8 @@ impl Reporter {
         let spent = budget.spent();
         let all = spent.saturating_add(budget.left());
         let _ = eprint!(self.rt;
-            "{before}bmc: depth {depth}, {variables} variables, {}.{} of {}.{} million steps{behind}",
+            "{before}{}: depth {depth}, {variables} variables, {}.{} of {}.{} million steps{behind}",
+            self.reported.deepening(),
             spent / MILLION,
             spent % MILLION / TENTH,
             all / MILLION,
@@ -106,7 +147,8 @@ impl Reporter {
         let spent = budget.spent();
         let all = spent.saturating_add(budget.left());
         let _ = eprint!(self.rt;
-            "{before}corr: round {round}, {clauses} clauses, {}.{} of {}.{} million steps{behind}",
+            "{before}{}: round {round}, {clauses} clauses, {}.{} of {}.{} million steps{behind}",
+            self.reported.inducing(),
             spent / MILLION,
             spent % MILLION / TENTH,
             all / MILLION,

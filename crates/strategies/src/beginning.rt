@@ -3,7 +3,7 @@
 ghost use Rattle.std.specs.Prelude.{◌≡◌, IfOk};
 ghost use Rattle.base.specs.Budget.{Spends};
 ghost use Rattle.engine.specs.Findings.{IsForBad, IsSo};
-ghost use Rattle.portfolio.specs.Searched.{IsBegun};
+ghost use Rattle.strategies.specs.Searched.{IsBegun};
 
 use crate::merging::{bounded_by, deepening};
 use crate::reporter::Reporter;

@@ -9,7 +9,7 @@ use Rattle.engine.specs.InOrder.{IsInOrder}
 use Rattle.bmc.specs.Depths.{IsShortest, IsWithinDepth}
 use Rattle.ic3.specs.Answers.{IsDecided}
 use Rattle.correspondence.specs.Answered.{IsAnswered}
-use Rattle.portfolio.specs.Shares.{AreInShares}
+use Rattle.strategies.specs.Shares.{AreInShares}
 
 -- what bounded search answers of runs of at most so many steps
 unfoldable pub IsBounded : ℕ → Parts → Steps → Result Finding EngineError → Steps → Type 0
