@@ -1,0 +1,3 @@
+pub mod Classed
+pub mod Known
+pub mod Paired

@@ -1,0 +1,13 @@
+//! Rounds of induction over a circuit's signals (van Eijk 2000).
+//!
+//! - `find_equal_signals` looks for classes of latches, gates, inputs and constants that are equal up to a negation: by
+//!   simulation first, and then by induction over two times. Where the classes exclude a literal, it answers clauses that say
+//!   so. It is not believed: whoever asks proves them.
+#![tactic(auto)]
+
+mod asking;
+mod finding;
+mod parts;
+mod search;
+
+pub use finding::{Found, find_equal_signals};
