@@ -21,7 +21,7 @@ def refused_clauses(text):
     counts = re.findall(rb'"(\w+): refused (?:learned clauses|cores)":(\d+)', text)
     if any(count != b"0" for _, count in counts):
         return [f"a learned clause or a core was refused: {counts!r}"]
-    engines = set(re.findall(rb'"(bmc|ic3|corr|kind): decisions":', text))
+    engines = set(re.findall(rb'"(bmc|ic3|corr|scorr|kind): decisions":', text))
     return [] if engines == {engine for engine, _ in counts} else [f"refused clauses are not counted: {text!r}"]
 
 

@@ -21,6 +21,7 @@ use ic3::Ic3;
 use k_induction::decide_by_induction;
 use rounds::{Counted, decide_rounds};
 use shown::Shown;
+use signals::decide_signals;
 use solver::Sat;
 use std::alloc::Global;
 use strategies::{Beginning, Deadline, Merging, Reported, Reporter, Timed, Timing, bounded_by};
@@ -346,6 +347,62 @@ impl Question<'_> {
         }
     }
 
+    /// The certificate that signal correspondence comes to, where it comes to one and its text may be the answer. Answers how
+    /// many steps are left too.
+    fn signalled(
+        self,
+        rt: &HostRuntime,
+        steps: u64,
+        counters: &mut Counters,
+    ) -> Result<(Option<Seq<u8>>, u64), DecideError>
+        ensures concluded { IfOk result (λ r. IfSome r.0 (λ text. IsConcluded self.entry.circuit.now self.entry.property (conclusion.Shown text))) }
+        ensures left { IfOk result (λ r. r.1 ≤ steps) }
+    {
+        if !self.by_text {
+            return Ok((None, steps));
+        }
+        let (alloc, timing) = (rt.alloc(), self.timing);
+        let mut solver = timing.solver(alloc);
+        let mut progress = Reporter::of(Reported::Signals, rt, timing.shown);
+        let mut budget = timing.budget(steps);
+        let found = decide_signals(
+            alloc,
+            self.circuit,
+            self.property,
+            &mut solver,
+            &mut progress,
+            &mut budget,
+        )?;
+        counters.add_statistics("scorr", &solver.statistics())?;
+        match found {
+            Shown::Holds(text) => Ok((Some(text), budget.left())),
+            Shown::Unknown(_) => Ok((None, budget.left())),
+        }
+    }
+
+    /// What register correspondence says, and bounded search behind it, and else signal correspondence.
+    #[tactic(auto, using(crate::proofs::Told::meant_less))]
+    fn both_corresponded(
+        self,
+        rt: &HostRuntime,
+        steps: u64,
+        counters: &mut Counters,
+    ) -> Result<(Conclusion, u64), DecideError>
+        ensures concluded { IfOk result (λ r. IsConcluded self.entry.circuit.now self.entry.property r.0) }
+        ensures meant { IfOk result (λ r. IsMeantIn self.entry.circuit.now self.entry.property r.1 r.0) }
+        ensures left { IfOk result (λ r. r.1 ≤ steps) }
+    {
+        let (verdict, left) = self.corresponded(rt, steps, counters)?;
+        if !matches!(verdict, Verdict::Unknown(_)) {
+            return Ok((Conclusion::Decided(verdict), left));
+        }
+        let (text, rest) = self.signalled(rt, left, counters)?;
+        match text {
+            Some(text) => Ok((Conclusion::Shown(text), rest)),
+            None => Ok((Conclusion::Decided(verdict), rest)),
+        }
+    }
+
     /// What bounded search says, and else k-induction.
     #[tactic(auto, using(crate::proofs::Told::meant_less))]
     fn bounded_or_induced(
@@ -462,7 +519,7 @@ impl Question<'_> {
             EngineKind::All => return self.staged(rt, candidates, counters),
             EngineKind::Rounds => return self.rounds_alone(rt, counters),
             EngineKind::KInduction => return self.bounded_or_induced(rt, budget, counters),
-            EngineKind::Corresponding => self.corresponded(rt, budget, counters)?,
+            EngineKind::Corresponding => return self.both_corresponded(rt, budget, counters),
             EngineKind::Bounded => self.bounded(rt, budget, counters)?,
             EngineKind::Inductive => self.inductive(rt, candidates, budget, counters)?,
             EngineKind::Random => self.simulated(rt, budget, counters)?,
