@@ -21,7 +21,7 @@ use crate::sections::ItemLine;
 use base::{Refused, Source};
 use graph::{Lit, Property};
 use lrat::LineBuffer;
-use pieces::{LineError, Lines};
+use pieces::{BufferKind, LineError, Lines};
 use scan::LineKind;
 use std::alloc::Global;
 use std::marker::Model;
@@ -179,6 +179,30 @@ impl Reader {
             return Err(ReaderError::Refused(refusal));
         }
         let answer = answered(self.lines.line::<L, S>(alloc, context, from));
+        self.refusal = told(&answer);
+        answer
+    }
+
+    /// Reads the next line, of a kind that is read from one piece, into a buffer, which keeps its memory.
+    pub fn line_in<L: BufferKind<Fault = CertFault>, S: Source>(
+        &mut self,
+        alloc: Global,
+        buffer: &mut L::Buffer,
+        context: L::Context,
+        from: &mut S,
+    ) -> Result<L::Item, ReaderError>
+        requires allows { L.allows context }
+        requires line { IsOfPiece (L.at context) }
+        requires source { S.failed from.old < 2 ^ 64 - 1 }
+        ensures says { Reads (S.leaves from.old) (S.leaves from.new) (λ ys zs. Finds (L.at context (self.old.held ++ ys)) (with_buffer L.seen result buffer.new) self.new.held zs) }
+        ensures device { FailsOnce result Device (S.failed from.old) (S.failed from.new) }
+        ensures again { IfSome self.old.refusal (λ e. (result ≡ Err (IsRefused e)) × (from.new ≡ from.old)) }
+        ensures remembers { self.new.refusal ≡ refusal_of result }
+    {
+        if let Some(refusal) = self.refusal {
+            return Err(ReaderError::Refused(refusal));
+        }
+        let answer = answered(self.lines.line_into::<L, S>(alloc, buffer, context, from));
         self.refusal = told(&answer);
         answer
     }

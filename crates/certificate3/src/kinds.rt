@@ -5,10 +5,10 @@ ghost use Rattle.certificate3.specs.Reading.{claim_at, first_line_at, gate_at, h
 
 use crate::claim::{Claim, read_claim};
 use crate::sizes::Sizes;
-use base::Seq;
 use certificate::{CertFault, GREATEST, IN_LINE, IN_VERSION};
 use graph::{Gate, Latch, Lit};
-use scan::{Fault, LineKind, byte, field, lines, number, tag};
+use pieces::BufferKind;
+use scan::{Fault, LineKind, byte, field, lines_into, number, tag};
 use std::alloc::Global;
 
 /// The first line.
@@ -150,37 +150,65 @@ impl LineKind for SpacedId {
     }
 }
 
-/// As many ids as the count says, and what follows the line end behind them.
+/// As many ids as the count says, put into a list that is emptied first and keeps its memory, and what
+/// follows the line end behind them.
 #[tactic(auto, unfolding(crate::specs::Reading::ids_at))]
-fn ids(alloc: Global, count: u32, text: &[u8]) -> Result<(Seq<u32>, &[u8]), Fault<CertFault>>
-    ensures { Gives (λ x. (x.0, x.1.now)) result (ids_at count text.now) }
+fn ids_into<'t>(
+    alloc: Global,
+    ids: &mut Vec<u32>,
+    count: u32,
+    text: &'t [u8],
+) -> Result<&'t [u8], Fault<CertFault>>
+    ensures { Gives (λ x. (ids.new.items, x.now)) result (ids_at count text.now) }
 {
-    let (ids, rest) = lines::<SpacedId>(alloc, count, text, ())?;
+    let rest = lines_into::<SpacedId>(alloc, ids, count, text, ())?;
     let rest = byte(rest, b'\n', IN_LINE)?;
-    Ok((Seq::from_vec(ids), rest))
+    Ok(rest)
+}
+
+/// The hints of a line, put into a list that is emptied first and keeps its memory, and what follows the
+/// line.
+#[tactic(auto, unfolding(crate::specs::Reading::hints_at))]
+fn hints_into<'t>(
+    alloc: Global,
+    hints: &mut Vec<u32>,
+    text: &'t [u8],
+) -> Result<&'t [u8], Fault<CertFault>>
+    ensures { Gives (λ x. (hints.new.items, x.now)) result (hints_at text.now) }
+{
+    let (count, rest) = number(text, GREATEST, IN_LINE)?;
+    ids_into(alloc, hints, count, rest)
 }
 
 /// The line of a clause's hints.
 pub struct HintsLine;
 
-impl LineKind for HintsLine {
-    type Item = Seq<u32>;
+impl BufferKind for HintsLine {
+    ghost use Rattle.std.specs.Prelude.{ℕ, List};
+
+    type Buffer = Vec<u32>;
+
+    type Item = ();
 
     type Context = ();
 
     type Fault = CertFault;
 
+    ghost Value = { List ℕ };
+
     ghost allows = { λ _. Unit {0} };
 
     ghost at = { λ _ bytes. hints_at bytes };
 
-    #[tactic(auto, unfolding(crate::specs::Reading::hints_at))]
-    fn line(
+    ghost seen = { λ _ hints. hints.items };
+
+    fn line_into<'t>(
         alloc: Global,
-        text: &[u8],
+        hints: &mut Vec<u32>,
+        text: &'t [u8],
         _context: (),
-    ) -> Result<(Seq<u32>, &[u8]), Fault<CertFault>> {
-        let (count, rest) = number(text, GREATEST, IN_LINE)?;
-        ids(alloc, count, rest)
+    ) -> Result<((), &'t [u8]), Fault<CertFault>> {
+        let rest = hints_into(alloc, hints, text)?;
+        Ok(((), rest))
     }
 }

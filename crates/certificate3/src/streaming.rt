@@ -66,8 +66,9 @@ pub fn skip_hints<S: Source>(
     ensures says { Reads (S.leaves from.old) (S.leaves from.new) (λ ys zs. FindsWith (λ hints _. Unit {0}) (many_at hints_at count (reader.old.held ++ ys)) result reader.new.held zs) }
     ensures device { FailsOnce result Device (S.failed from.old) (S.failed from.new) }
 {
+    let mut hints = Vec::new(alloc);
     for _ in 0..count {
-        let _hints = reader.line::<HintsLine, S>(alloc, (), from)?;
+        reader.line_in::<HintsLine, S>(alloc, &mut hints, (), from)?;
     }
     Ok(())
 }

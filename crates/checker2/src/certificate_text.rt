@@ -9,6 +9,7 @@ ghost use Rattle.graph.specs.declared.circuit.Property.{Property as AProperty};
 ghost use Rattle.graph.specs.declared.circuit.Property.TheVariants.{Justice};
 ghost use Rattle.graph.specs.declared.parts.Parts.{Parts as AParts};
 ghost use Rattle.lrat.specs.Courses.{at_formula};
+ghost use Rattle.cnf.specs.Clauses.{gates_at};
 ghost use Rattle.cnf.specs.Formulas.{IsInvariant, shared_formula, start_formula};
 ghost use Rattle.cnf.specs.Tables.{IsTableOf};
 ghost use Rattle.certificate.specs.Reading.{lemmas_at, sections_at};
@@ -31,10 +32,10 @@ use base::{Lists, Refused, Source};
 use certificate::{
     Reader, ReaderError, SectionKind, Version, read_clauses, skip_section, skip_sections,
 };
-use cnf::{NextTable, shared_row};
+use cnf::{NextTable, gates_of, shared_row};
 use graph::{Lit, Model, Property};
 use live_safe::{LiveError, to_safety};
-use lrat::{Fault, Refuter};
+use lrat::{Fault, GateLiterals, Refuter};
 use std::alloc::Global;
 
 /// Reads the sections of all cases, and forgets them.
@@ -117,15 +118,17 @@ fn share_lemmas<S: Source>(
 }
 
 /// The refuter of the clauses of the circuit and of the invariant, which has taken no lemmas.
-fn invariant_refuter(
+fn invariant_refuter<'a>(
     alloc: Global,
     circuit: &Model,
+    gates: &'a [GateLiterals],
     invariant: &Lists<Lit>,
-) -> Result<Refuter, Refused>
-    requires { IsInvariant circuit.now invariant.now }
+) -> Result<Refuter<'a>, Refused>
+    requires gates { gates.now ≡ gates_at circuit.now }
+    requires invariant { IsInvariant circuit.now invariant.now }
     ensures { IfOk result (λ r. r ≡ at_formula (shared_formula circuit.now invariant.now)) }
 {
-    let clauses = shared_row(alloc, circuit, invariant)?;
+    let clauses = shared_row(alloc, circuit, gates, invariant)?;
     Refuter::over(alloc, circuit.max_var() + 1, clauses)
 }
 
@@ -171,8 +174,9 @@ fn check_parts<S: Source>(
     ensures says { Reads (S.leaves from.old) (S.leaves from.new) (λ ys zs. (p : AProperty) → FindsWith (HasSections check.entry.circuit.now check.entry.bad) (parts_at check.entry.version p (length check.entry.invariant.now) check.entry.invariant.now (reader.old.held ++ ys)) result reader.new.held zs) }
     ensures device { FailsOnce result Device (S.failed from.old) (S.failed from.new) }
 {
+    let gates = gates_of(alloc, check.circuit)?;
     let mut start = start_refuter(alloc, check.circuit)?;
-    let mut shared = invariant_refuter(alloc, check.circuit, check.invariant)?;
+    let mut shared = invariant_refuter(alloc, check.circuit, gates.as_slice(), check.invariant)?;
     check_lemmas_and_cases(alloc, check, &mut start, &mut shared, reader, from)
 }
 

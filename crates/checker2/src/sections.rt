@@ -102,7 +102,7 @@ fn check_case(
 }
 
 /// The refuter of the initial cases.
-pub fn start_refuter(alloc: Global, circuit: &Model) -> Result<Refuter, Refused>
+pub fn start_refuter<'a>(alloc: Global, circuit: &Model) -> Result<Refuter<'a>, Refused>
     ensures { IfOk result (λ r. r ≡ at_formula (start_formula circuit.now)) }
 {
     let clauses = start_row(alloc, circuit)?;
@@ -111,11 +111,11 @@ pub fn start_refuter(alloc: Global, circuit: &Model) -> Result<Refuter, Refused>
 
 /// The refuter of the step cases and the bad case, which has taken the lemmas where there are
 /// some. It costs the circuit, the invariant and the lemmas.
-fn shared_refuter(
+fn shared_refuter<'a>(
     alloc: Global,
     circuit: &Model,
     certificate: &Certificate,
-) -> Result<Refuter, CheckError>
+) -> Result<Refuter<'a>, CheckError>
     requires { IsInvariant circuit.now certificate.now.invariant }
     ensures fresh { IfOk result (λ r. r.refusal ≡ None) }
     ensures shared { IfOk result (λ r. IsShared circuit.now certificate.now.invariant certificate.now.lemmas r.base) }

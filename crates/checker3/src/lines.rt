@@ -139,8 +139,9 @@ pub fn check_hints<S: Source>(
     ensures device { FailsOnce result Device (S.failed from.old) (S.failed from.new) }
 {
     let mut literals = Vec::new(alloc);
+    let mut hints = Vec::new(alloc);
     for k in 0..timed.clauses.len() {
-        let hints = reader.line::<HintsLine, S>(alloc, (), from)?;
+        reader.line_in::<HintsLine, S>(alloc, &mut hints, (), from)?;
         clause_into(&mut literals, timed.time, timed.clauses.list(k))?;
         if let Err(fault) = refuter.shows(literals.as_slice(), hints.as_slice()) {
             let left = timed.clauses.len() - (k + 1);

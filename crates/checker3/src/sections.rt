@@ -4,7 +4,7 @@ ghost use Rattle.std.specs.Prelude.{◌≡◌, ◌+◌, ◌-◌, ◌<◌, ◌≤
 ghost use Rattle.base.specs.Devices.{Reads, FailsOnce};
 ghost use Rattle.lrat.specs.Courses.{at_formula};
 ghost use Rattle.lrat.specs.declared.formula.Formula.{Formula as AFormula};
-ghost use Rattle.cnf.specs.Clauses.{literal};
+ghost use Rattle.cnf.specs.Clauses.{gates_at, literal};
 ghost use Rattle.cnf.specs.Formulas.{IsInRange, bad_formula};
 ghost use Rattle.certificate.specs.Reading.{section_at};
 ghost use Rattle.certificate.specs.Streams.{FindsWith, letter_of};
@@ -18,9 +18,9 @@ use crate::lines::{Timed, check_hints, feed_section};
 use base::{Lists, Refused, Source};
 use certificate::{Reader, ReaderError, SectionKind, skip_section};
 use certificate3::{skip_hints, skip_later};
-use cnf::{TimeFrame, bad_row, begin_row, pair_row};
+use cnf::{TimeFrame, bad_row, begin_row, gates_of, pair_row};
 use graph::{Lit, Model};
-use lrat::{Fault, Refuter};
+use lrat::{Fault, GateLiterals, Refuter};
 use std::alloc::Global;
 
 /// Clauses over a circuit that exclude one of its literals.
@@ -35,34 +35,50 @@ pub struct Claims<'a> {
 }
 
 /// The refuter of the first time.
-fn begin_refuter(alloc: Global, circuit: &Model) -> Result<Refuter, Refused>
+fn begin_refuter<'a>(
+    alloc: Global,
+    circuit: &Model,
+    gates: &'a [GateLiterals],
+) -> Result<Refuter<'a>, Refused>
+    requires gates { gates.now ≡ gates_at circuit.now }
     ensures { IfOk result (λ r. r ≡ at_formula (begin_formula circuit.now)) }
 {
     circuit.well_formed();
-    let clauses = begin_row(alloc, circuit)?;
+    let clauses = begin_row(alloc, circuit, gates)?;
     Refuter::over(alloc, circuit.max_var() + 1, clauses)
 }
 
 /// The refuter of a step.
-fn pair_refuter(alloc: Global, circuit: &Model, invariant: &Lists<Lit>) -> Result<Refuter, Refused>
+fn pair_refuter<'a>(
+    alloc: Global,
+    circuit: &Model,
+    gates: &'a [GateLiterals],
+    invariant: &Lists<Lit>,
+) -> Result<Refuter<'a>, Refused>
+    requires gates { gates.now ≡ gates_at circuit.now }
     requires over { All (IsOverAll circuit.now) invariant.now }
     requires few { length invariant.now ≤ 4194303 }
     ensures { IfOk result (λ r. r ≡ at_formula (pair_formula circuit.now invariant.now)) }
 {
     circuit.well_formed();
-    let clauses = pair_row(alloc, circuit, invariant)?;
+    let clauses = pair_row(alloc, circuit, gates, invariant)?;
     Refuter::over(alloc, 2 * (circuit.max_var() + 1), clauses)
 }
 
 /// The refuter of the literal.
-fn bad_refuter(alloc: Global, claims: Claims) -> Result<Refuter, Refused>
+fn bad_refuter<'a>(
+    alloc: Global,
+    claims: Claims,
+    gates: &'a [GateLiterals],
+) -> Result<Refuter<'a>, Refused>
+    requires gates { gates.now ≡ gates_at claims.circuit.now }
     requires over { All (IsOverAll claims.circuit.now) claims.invariant.now }
     requires few { length claims.invariant.now ≤ 4194303 }
     requires bad { IsInRange claims.circuit.now.max_var claims.bad }
     ensures { IfOk result (λ r. r ≡ at_formula (bad_formula claims.entry.circuit.now claims.entry.invariant.now claims.entry.bad)) }
 {
     claims.circuit.well_formed();
-    let clauses = bad_row(alloc, claims.circuit, claims.invariant, claims.bad)?;
+    let clauses = bad_row(alloc, claims.circuit, gates, claims.invariant, claims.bad)?;
     Refuter::over(alloc, claims.circuit.max_var() + 1, clauses)
 }
 
@@ -96,10 +112,12 @@ fn check_shown<S: Source>(
 fn check_first<S: Source>(
     alloc: Global,
     claims: Claims,
+    gates: &[GateLiterals],
     reader: &mut Reader,
     from: &mut S,
 ) -> Result<Option<Fault>, ReaderError>
     requires source { S.failed from.old < 2 ^ 64 - 1 }
+    requires gates { gates.now ≡ gates_at claims.circuit.now }
     requires over { All (IsOverAll claims.circuit.now) claims.invariant.now }
     requires few { length claims.invariant.now ≤ 4194303 }
     ensures says { Reads (S.leaves from.old) (S.leaves from.new) (λ ys zs. FindsWith (HoldsFirst claims.entry.circuit.now claims.entry.invariant.now) (shown_at 105 (length claims.entry.invariant.now) (reader.old.held ++ ys)) result reader.new.held zs) }
@@ -110,7 +128,7 @@ fn check_first<S: Source>(
         time: TimeFrame::first(claims.circuit),
         clauses: claims.invariant,
     };
-    let mut refuter = begin_refuter(alloc, claims.circuit)?;
+    let mut refuter = begin_refuter(alloc, claims.circuit, gates)?;
     check_shown(
         alloc,
         SectionKind::Initial,
@@ -125,10 +143,12 @@ fn check_first<S: Source>(
 fn check_step<S: Source>(
     alloc: Global,
     claims: Claims,
+    gates: &[GateLiterals],
     reader: &mut Reader,
     from: &mut S,
 ) -> Result<Option<Fault>, ReaderError>
     requires source { S.failed from.old < 2 ^ 64 - 1 }
+    requires gates { gates.now ≡ gates_at claims.circuit.now }
     requires over { All (IsOverAll claims.circuit.now) claims.invariant.now }
     requires few { length claims.invariant.now ≤ 4194303 }
     ensures says { Reads (S.leaves from.old) (S.leaves from.new) (λ ys zs. FindsWith (HoldsNext claims.entry.circuit.now claims.entry.invariant.now) (shown_at 115 (length claims.entry.invariant.now) (reader.old.held ++ ys)) result reader.new.held zs) }
@@ -139,7 +159,7 @@ fn check_step<S: Source>(
         time: TimeFrame::after(claims.circuit, 1),
         clauses: claims.invariant,
     };
-    let mut refuter = pair_refuter(alloc, claims.circuit, claims.invariant)?;
+    let mut refuter = pair_refuter(alloc, claims.circuit, gates, claims.invariant)?;
     check_shown(alloc, SectionKind::Step, &mut refuter, timed, reader, from)
 }
 
@@ -169,22 +189,24 @@ fn check_refuted<S: Source>(
 fn check_later<S: Source>(
     alloc: Global,
     claims: Claims,
+    gates: &[GateLiterals],
     reader: &mut Reader,
     from: &mut S,
 ) -> Result<Option<Fault>, ReaderError>
     requires source { S.failed from.old < 2 ^ 64 - 1 }
+    requires gates { gates.now ≡ gates_at claims.circuit.now }
     requires over { All (IsOverAll claims.circuit.now) claims.invariant.now }
     requires few { length claims.invariant.now ≤ 4194303 }
     requires bad { IsInRange claims.circuit.now.max_var claims.bad }
     ensures says { Reads (S.leaves from.old) (S.leaves from.new) (λ ys zs. FindsWith (HasLater claims.entry.circuit.now claims.entry.bad claims.entry.invariant.now) (later_at (length claims.entry.invariant.now) (reader.old.held ++ ys)) result reader.new.held zs) }
     ensures device { FailsOnce result Device (S.failed from.old) (S.failed from.new) }
 {
-    let found = check_step(alloc, claims, reader, from)?;
+    let found = check_step(alloc, claims, gates, reader, from)?;
     if let Some(fault) = found {
         skip_section(alloc, SectionKind::Bad, reader, from)?;
         return Ok(Some(fault));
     }
-    let mut refuter = bad_refuter(alloc, claims)?;
+    let mut refuter = bad_refuter(alloc, claims, gates)?;
     check_refuted(alloc, &mut refuter, reader, from)
 }
 
@@ -203,10 +225,11 @@ pub fn check_proofs<S: Source>(
     ensures says { Reads (S.leaves from.old) (S.leaves from.new) (λ ys zs. FindsWith (HasProofs claims.entry.circuit.now claims.entry.bad claims.entry.invariant.now) (proofs_at (length claims.entry.invariant.now) (reader.old.held ++ ys)) result reader.new.held zs) }
     ensures device { FailsOnce result Device (S.failed from.old) (S.failed from.new) }
 {
-    let found = check_first(alloc, claims, reader, from)?;
+    let gates = gates_of(alloc, claims.circuit)?;
+    let found = check_first(alloc, claims, gates.as_slice(), reader, from)?;
     if let Some(fault) = found {
         skip_later(alloc, claims.invariant.len() as u32, reader, from)?;
         return Ok(Some(fault));
     }
-    check_later(alloc, claims, reader, from)
+    check_later(alloc, claims, gates.as_slice(), reader, from)
 }

@@ -9,6 +9,7 @@ use Rattle.graph.specs.declared.circuit.Gate.{Gate}
 use Rattle.graph.specs.declared.parts.Parts.{Parts}
 use Rattle.graph.specs.Circuits.{variable}
 use Rattle.lrat.specs.Shared.{unit_clauses}
+use Rattle.lrat.specs.declared.gate_literals.GateLiterals.{GateLiterals}
 
 -- a variable, or its negation
 abbrev pub signed : Bool → ℕ → ℤ
@@ -36,6 +37,14 @@ abbrev pub gate_clauses : ℕ → ℕ → Gate → List (List ℤ)
 gate_clauses n o g =
     (denial n o g.lhs ∷ literal n o g.rhs0 ∷ []) ∷ (denial n o g.lhs ∷ literal n o g.rhs1 ∷ [])
     ∷ (literal n o g.lhs ∷ denial n o g.rhs0 ∷ denial n o g.rhs1 ∷ []) ∷ []
+
+-- the literals of a gate
+abbrev pub gate_at : ℕ → ℕ → Gate → GateLiterals
+gate_at n o g = record { output = literal n o g.lhs; left = literal n o g.rhs0; right = literal n o g.rhs1 }
+
+-- those of a circuit's gates at a first time
+abbrev pub gates_at : Parts → List GateLiterals
+gates_at m = map (gate_at m.max_var 0) m.gates
 
 -- the unit of the value that a latch is reset to, if it is reset to one
 abbrev pub reset_clauses : ℕ → ℕ → Latch → List (List ℤ)

@@ -2,16 +2,17 @@
 
 ghost use Rattle.std.specs.Prelude.{◌≡◌, ◌∷◌, [], IfOk, OnOk};
 ghost use Rattle.lrat.specs.Limits.{IsFormula};
-ghost use Rattle.cnf.specs.Clauses.{truth_clause, frame_clauses as frame_list, start_clauses as start_list, time_clauses, shared_clauses as shared_list};
+ghost use Rattle.cnf.specs.Clauses.{truth_clause, frame_clauses as frame_list, gates_at, start_clauses as start_list, time_clauses, shared_clauses as shared_list};
 ghost use Rattle.cnf.specs.Formulas.{formula_of, frame_formula, start_formula, shared_formula, IsInvariant, IsOver};
 ghost use Rattle.cnf.specs.Invariants.{SafetyLaw};
 ghost use Rattle.cnf.specs.Meaning.{FrameLaw};
 
 use crate::push::{push, push_constraints, push_gates, push_invariant, push_lists, push_resets};
+use crate::rows::add_time;
 use crate::time_frame::TimeFrame;
 use base::{Lists, Refused, Seq};
 use graph::{Lit, Model};
-use lrat::{AddClause, Clause, ClauseRow, Formula};
+use lrat::{AddClause, Clause, ClauseRow, Formula, GateLiterals};
 use std::alloc::Global;
 
 /// The clauses as a formula over the variables of one time.
@@ -146,7 +147,7 @@ pub fn shared_base(
 }
 
 /// The clauses of `start_base`, for a refuter to take over.
-pub fn start_row(alloc: Global, circuit: &Model) -> Result<ClauseRow, Refused>
+pub fn start_row<'a>(alloc: Global, circuit: &Model) -> Result<ClauseRow<'a>, Refused>
     ensures formula { IfOk result (λ r. formula_of circuit.now r ≡ start_formula circuit.now) }
     ensures is_formula { IfOk result (λ r. IsFormula (formula_of circuit.now r)) }
 {
@@ -156,20 +157,23 @@ pub fn start_row(alloc: Global, circuit: &Model) -> Result<ClauseRow, Refused>
     Ok(clauses)
 }
 
-/// The clauses of `shared_base`, for a refuter to take over.
-pub fn shared_row(
+/// The clauses of `shared_base`, for a refuter to take over. The gates are those of `gates_of`.
+pub fn shared_row<'a>(
     alloc: Global,
     circuit: &Model,
+    gates: &'a [GateLiterals],
     invariant: &Lists<Lit>,
-) -> Result<ClauseRow, Refused>
-    requires { IsInvariant circuit.now invariant.now }
+) -> Result<ClauseRow<'a>, Refused>
+    requires gates { gates.now ≡ gates_at circuit.now }
+    requires invariant { IsInvariant circuit.now invariant.now }
     ensures formula { IfOk result (λ r. formula_of circuit.now r ≡ shared_formula circuit.now invariant.now) }
     ensures is_formula { IfOk result (λ r. IsFormula (formula_of circuit.now r)) }
     ensures safety { IfOk result (λ _. SafetyLaw circuit.now invariant.now) }
 {
     circuit.well_formed();
+    let time = TimeFrame::first(circuit);
     let mut clauses = ClauseRow::new(alloc);
-    push_constrained_frame(alloc, &mut clauses, circuit)?;
-    push_lists(alloc, &mut clauses, TimeFrame::first(circuit), invariant)?;
+    add_time(alloc, &mut clauses, circuit, gates, time)?;
+    push_lists(alloc, &mut clauses, time, invariant)?;
     Ok(clauses)
 }

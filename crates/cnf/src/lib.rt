@@ -29,6 +29,7 @@ mod unrolling;
 pub use bases::{frame, shared_base, shared_row, start_base, start_row};
 pub use error::CnfError;
 pub use next_table::NextTable;
+pub use push::gates_of;
 pub use rows::{bad_row, begin_row, clause_into, pair_row};
 pub use time_frame::TimeFrame;
 pub use units::{bad_unit, init_units, init_units_into, step_units, step_units_into};

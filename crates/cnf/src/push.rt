@@ -1,13 +1,13 @@
 //! Lists of clauses in the making.
 
-ghost use Rattle.std.specs.Prelude.{◌≡◌, ◌<◌, ◌+◌, ◌^◌, ◌++◌, ◌∷◌, [], All, map, flat_map, OnOk};
+ghost use Rattle.std.specs.Prelude.{◌≡◌, ◌<◌, ◌+◌, ◌^◌, ◌++◌, ◌∷◌, [], All, map, flat_map, IfOk, OnOk};
 ghost use Rattle.lrat.specs.Shared.{unit_clauses};
-ghost use Rattle.cnf.specs.Clauses.{literal, denial, gate_clauses, reset_clauses};
+ghost use Rattle.cnf.specs.Clauses.{literal, denial, gate_at, gate_clauses, gates_at, reset_clauses};
 ghost use Rattle.cnf.specs.Formulas.{IsGateIn, IsInRange};
 
 use crate::time_frame::TimeFrame;
 use base::{Lists, Refused, Seq};
-use graph::{Gate, Latch, Lit};
+use graph::{Gate, Latch, Lit, Model};
 use lrat::{AddClause, GateLiterals};
 use std::alloc::Global;
 
@@ -60,6 +60,19 @@ pub fn push_constraints<C: AddClause>(
     Ok(())
 }
 
+/// The literals of a gate at this time.
+fn gate_literals(time: TimeFrame, gate: Gate) -> GateLiterals
+    requires fits { time.offset + time.max_var + 1 < 2 ^ 31 }
+    requires in_range { IsGateIn time.max_var gate }
+    ensures { result ≡ gate_at time.max_var time.offset gate }
+{
+    GateLiterals {
+        output: time.literal(gate.lhs),
+        left: time.literal(gate.rhs0),
+        right: time.literal(gate.rhs1),
+    }
+}
+
 fn push_gate<C: AddClause>(
     alloc: Global,
     clauses: &mut C,
@@ -70,13 +83,29 @@ fn push_gate<C: AddClause>(
     requires in_range { IsGateIn time.max_var gate }
     ensures { OnOk result (C.clauses clauses.new ≡ C.clauses clauses.old ++ gate_clauses time.max_var time.offset gate) }
 {
-    let literals = GateLiterals {
-        output: time.literal(gate.lhs),
-        left: time.literal(gate.rhs0),
-        right: time.literal(gate.rhs1),
-    };
-    clauses.add_gate(alloc, literals)?;
+    clauses.add_gate(alloc, gate_literals(time, gate))?;
     Ok(())
+}
+
+/// The literals of gates at this time.
+fn literals_of(alloc: Global, time: TimeFrame, gates: &[Gate]) -> Result<Seq<GateLiterals>, Refused>
+    requires fits { time.offset + time.max_var + 1 < 2 ^ 31 }
+    requires in_range { All (IsGateIn time.max_var) gates.now }
+    ensures { IfOk result (λ s. s ≡ map (gate_at time.max_var time.offset) gates.now) }
+{
+    let mut literals = Seq::new(alloc);
+    for gate in gates {
+        literals.push(gate_literals(time, *gate))?;
+    }
+    Ok(literals)
+}
+
+/// The literals of the circuit's gates at a first time, for rows of clauses. It costs the gates.
+pub fn gates_of(alloc: Global, circuit: &Model) -> Result<Seq<GateLiterals>, Refused>
+    ensures { IfOk result (λ s. s ≡ gates_at circuit.now) }
+{
+    circuit.well_formed();
+    literals_of(alloc, TimeFrame::first(circuit), circuit.gates())
 }
 
 /// Adds the clauses of the gates.

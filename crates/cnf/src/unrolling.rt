@@ -65,7 +65,7 @@ fn push_join<C: AddClause>(
 }
 
 /// Each latch gets the value of its next literal.
-fn push_joins<C: AddClause>(
+pub(crate) fn push_joins<C: AddClause>(
     alloc: Global,
     clauses: &mut C,
     time: TimeFrame,

@@ -1,5 +1,5 @@
--- Clauses as lists and as gates, in runs.
-use Rattle.std.specs.Prelude.{ℕ, ℤ, ◌-◌, ◌≤◌, List, [], ◌∷◌, ◌++◌, take, drop, length, flat_map, neg_ℤ, unsigned_abs, All}
+-- Clauses as lists, and gates among them.
+use Rattle.std.specs.Prelude.{ℕ, ℤ, pos, ◌+◌, ◌≤◌, ◌+ℤ◌, ◌-ℤ◌, int_lt, if◌then◌else◌, List, [], ◌∷◌, ◌++◌, take, drop, length, map, flat_map, neg_ℤ, unsigned_abs, All}
 use Rattle.lrat.specs.declared.gate_literals.GateLiterals.{GateLiterals}
 use Rattle.lrat.specs.declared.run.Run.{Run}
 
@@ -14,25 +14,43 @@ pub record HasNegations (g : GateLiterals) : Type 0 where
   pub left : unsigned_abs g.left ≤ 2147483647
   pub right : unsigned_abs g.right ≤ 2147483647
 
--- those from index a up to b
-abbrev pub stretch : {A : Type 0} → ℕ → ℕ → List A → List A
-stretch a b xs = take (b - a) (drop a xs)
+-- the literal whose variable is greater by s
+abbrev pub moved_literal : ℕ → ℤ → ℤ
+moved_literal s z = if int_lt z (pos 0) then z -ℤ pos s else z +ℤ pos s
 
--- the clauses of a run that begins at l and g: lists up to a, and then gates up to b
-abbrev pub run_clauses : List (List ℤ) → List GateLiterals → ℕ → ℕ → ℕ → ℕ → List (List ℤ)
-run_clauses ls gs l g a b = stretch l a ls ++ flat_map and_clauses (stretch g b gs)
+-- the same gate over variables that are greater by s
+abbrev pub moved_gate : ℕ → GateLiterals → GateLiterals
+moved_gate s g = record { output = moved_literal s g.output; left = moved_literal s g.left; right = moved_literal s g.right }
 
--- the clauses from l and g on: those of the runs, those of a last run of lists up to a and of all gates, and the other lists
-abbrev pub rows : List (List ℤ) → List GateLiterals → ℕ → List Run → ℕ → ℕ → List (List ℤ)
-rows ls gs a [] l g = run_clauses ls gs l g a (length gs) ++ drop a ls
-rows ls gs a (r ∷ rs) l g = run_clauses ls gs l g r.lists r.gates ++ rows ls gs a rs r.lists r.gates
+-- the literals and their negations fit 32 bits where their variables are greater by s
+pub record FitsMoved (s : ℕ) (g : GateLiterals) : Type 0 where
+  pub output : unsigned_abs g.output + s ≤ 2147483647
+  pub left : unsigned_abs g.left + s ≤ 2147483647
+  pub right : unsigned_abs g.right + s ≤ 2147483647
 
--- runs follow one another from l and g on, up to a last run of lists up to a, of n and m
-abbrev pub AreRuns : ℕ → ℕ → ℕ → List Run → ℕ → ℕ → Type 0
-AreRuns n m a [] l g = (l ≤ a) × (a ≤ n) × (g ≤ m)
-AreRuns n m a (r ∷ rs) l g = (l ≤ r.lists) × (g ≤ r.gates) × AreRuns n m a rs r.lists r.gates
+-- the clauses of a run's gates
+abbrev pub run_clauses : Run → List (List ℤ)
+run_clauses r = flat_map and_clauses (map (moved_gate r.shift) r.gates.now)
 
--- runs of these lists and gates, whose literals have negations
-pub record AreRowed (ls : List (List ℤ)) (gs : List GateLiterals) (a : ℕ) (rs : List Run) : Type 0 where
-  pub runs : AreRuns (length ls) (length gs) a rs 0 0
-  pub negations : All HasNegations gs
+-- a list with another one in it, behind so many items
+abbrev pub with_inside : {A : Type 0} → ℕ → List A → List A → List A
+with_inside n ys xs = take n xs ++ ys ++ drop n xs
+
+-- the lists, with the clauses of each run where it stands
+abbrev pub rows : List (List ℤ) → List Run → List (List ℤ)
+rows ls [] = ls
+rows ls (r ∷ rs) = with_inside r.lists (run_clauses r) (rows ls rs)
+
+-- how many gates there are
+abbrev pub gate_count : List Run → ℕ
+gate_count [] = 0
+gate_count (r ∷ rs) = length r.gates.now + gate_count rs
+
+-- a run behind some of n lists, of gates that fit where they are moved
+pub record IsRunIn (n : ℕ) (r : Run) : Type 0 where
+  pub within : r.lists ≤ n
+  pub fits : All (FitsMoved r.shift) r.gates.now
+
+-- lists, and runs among them
+abbrev pub AreRowed : List (List ℤ) → List Run → Type 0
+AreRowed ls rs = All (IsRunIn (length ls)) rs

@@ -1,8 +1,8 @@
 //! Clauses that a refuter takes over.
 
-ghost use Rattle.std.specs.Prelude.{◌≡◌, ◌<◌, ◌≤◌, ◌+◌, ◌^◌, ◌++◌, ◌∷◌, [], All, IfErr, IfOk, OnOk, get_or, length};
+ghost use Rattle.std.specs.Prelude.{◌≡◌, ◌<◌, ◌^◌, ◌++◌, ◌∷◌, [], All, OnOk, flat_map, get_or, length, map};
 ghost use Rattle.lrat.specs.Found.{found_literals};
-ghost use Rattle.lrat.specs.Rows.{AreRowed, HasNegations, and_clauses, rows, run_clauses};
+ghost use Rattle.lrat.specs.Rows.{AreRowed, FitsMoved, HasNegations, and_clauses, gate_count, moved_gate, rows};
 
 use crate::clause::Clause;
 use crate::found_clause::FoundClause;
@@ -45,42 +45,60 @@ impl AddClause for Seq<Clause> {
 }
 
 /// Clauses in the form in which a `Refuter` keeps those of a formula: it takes them over and copies
-/// nothing. A clause costs 16 bytes and 4 for each literal, and an AND gate, which stands for three
-/// clauses, 12 bytes. A contract sees the list of the clauses.
+/// nothing. A clause costs 16 bytes and 4 for each literal. Gates that are kept elsewhere stand among
+/// them, for one time or for several, and cost nothing but that. A contract sees the list of the
+/// clauses.
 #[derive(Drop)]
-pub struct ClauseRow {
+pub struct ClauseRow<'a> {
     /// the clauses that were added as such
     lists: Lists<i32>,
-    /// the gates
-    gates: Vec<GateLiterals>,
-    /// in which order they came: where each run ends, but for the last one
-    runs: Vec<Run>,
-    /// how many lists there are up to the gates of the last run
-    before: usize,
+    /// the gates among them
+    runs: Vec<Run<'a>>,
 }
 
-impl Model for ClauseRow {
+impl<'a> Model for ClauseRow<'a> {
     ghost use Rattle.std.specs.Prelude.{ℤ, List};
     ghost use Rattle.lrat.specs.Rows.{AreRowed, rows};
 
     ghost Value = { List (List ℤ) };
 
-    ghost view = { λ r. rows r.lists r.gates.items r.before r.runs.items 0 0 };
+    ghost view = { λ r. rows r.lists r.runs.items };
 
-    ghost invariant = { λ r. AreRowed r.lists r.gates.items r.before r.runs.items };
+    ghost invariant = { λ r. AreRowed r.lists r.runs.items };
 }
 
-impl ClauseRow {
+impl<'a> ClauseRow<'a> {
     /// No clauses, which take no memory.
-    pub fn new(alloc: Global) -> ClauseRow
+    pub fn new(alloc: Global) -> ClauseRow<'a>
         ensures { result ≡ [] }
     {
         ClauseRow {
             lists: Lists::new(alloc),
-            gates: Vec::new(alloc),
             runs: Vec::new(alloc),
-            before: 0,
         }
+    }
+
+    /// Adds the three clauses of each of these gates behind the others, over variables that are greater
+    /// by `shift`. The gates stay where they are.
+    pub fn add_gates(&mut self, gates: &'a [GateLiterals], shift: u32) -> Result<(), Refused>
+        requires { All (FitsMoved shift) gates.now }
+        ensures { OnOk result (self.new ≡ self.old ++ flat_map and_clauses (map (moved_gate shift) gates.now)) }
+    {
+        let run = Run {
+            lists: self.lists.len(),
+            gates,
+            shift,
+        };
+        push(&mut self.runs, run)?;
+        Ok(())
+    }
+
+    /// Drops all clauses, and gives their memory back.
+    pub(crate) fn clear(&mut self, alloc: Global)
+        ensures { self.new ≡ [] }
+    {
+        self.lists = Lists::new(alloc);
+        self.runs.clear();
     }
 
     /// How many clauses there are.
@@ -88,21 +106,20 @@ impl ClauseRow {
         requires few { length self.now < 2 ^ 32 }
         ensures { result ≡ length self.now }
     {
-        self.lists.len() + 3 * self.gates.len()
+        self.lists.len() + 3 * count_gates(self.runs.as_slice())
     }
 
-    /// The clause at the index. It costs the number of runs: one more for each time that clauses came
-    /// and then gates.
-    #[inline]
+    /// The clause at the index. It costs the number of times that gates were added.
+    #[inline(always)]
     pub(crate) fn clause(&self, index: usize) -> FoundClause<'_>
         requires { index < length self.now }
         ensures { found_literals result ≡ get_or self.now index [] }
     {
-        clause_at(&self.lists, &self.gates, &self.runs, self.before, index)
+        clause_at(&self.lists, self.runs.as_slice(), index)
     }
 }
 
-impl AddClause for ClauseRow {
+impl<'a> AddClause for ClauseRow<'a> {
     ghost clauses = { λ r. r };
 
     #[inline(always)]
@@ -111,81 +128,43 @@ impl AddClause for ClauseRow {
         Ok(())
     }
 
-    #[inline(always)]
-    fn add_gate(&mut self, _alloc: Global, gate: GateLiterals) -> Result<(), Refused> {
-        let lists = self.lists.len();
-        if self.gates.len() == 0 {
-            self.before = lists;
-        } else if self.before < lists {
-            let run = Run {
-                lists: self.before,
-                gates: self.gates.len(),
-            };
-            push(&mut self.runs, run)?;
-            self.before = lists;
+    fn add_gate(&mut self, alloc: Global, gate: GateLiterals) -> Result<(), Refused> {
+        for index in 0..3 {
+            self.add_clause(alloc, gate.clause(index).as_slice())?;
         }
-        push(&mut self.gates, gate)?;
         Ok(())
     }
 }
 
-/// The clause at the index.
-#[inline(always)]
-fn clause_at<'a>(
-    lists: &'a Lists<i32>,
-    gates: &[GateLiterals],
-    runs: &[Run],
-    before: usize,
-    index: usize,
-) -> FoundClause<'a>
-    requires are { AreRowed lists.now gates.now before runs.now }
-    requires within { index < length (rows lists.now gates.now before runs.now 0 0) }
-    ensures { found_literals result ≡ get_or (rows lists.now gates.now before runs.now 0 0) index [] }
+/// How many gates there are.
+fn count_gates(runs: &[Run<'_>]) -> usize
+    requires few { gate_count runs.now < 2 ^ 32 }
+    ensures { result ≡ gate_count runs.now }
 {
-    let mut begin = Run { lists: 0, gates: 0 };
-    let mut left = index;
+    let mut count = 0;
     for run in runs {
-        match clause_in(lists, gates, begin, *run, left) {
-            Ok(clause) => return clause,
-            Err(later) => left = later,
-        }
-        begin = *run;
+        count += run.gates.len();
     }
-    let end = Run {
-        lists: before,
-        gates: gates.len(),
-    };
-    match clause_in(lists, gates, begin, end, left) {
-        Ok(clause) => clause,
-        Err(later) => FoundClause::Slice(lists.list(before + later)),
-    }
+    count
 }
 
-/// The clause at the index of a run, or how far behind the run it is.
+/// The clause at the index.
 #[inline(always)]
-fn clause_in<'a>(
-    lists: &'a Lists<i32>,
-    gates: &[GateLiterals],
-    begin: Run,
-    end: Run,
-    index: usize,
-) -> Result<FoundClause<'a>, usize>
-    requires negations { All HasNegations gates.now }
-    requires lists { (begin.lists ≤ end.lists) × (end.lists ≤ length lists.now) }
-    requires gates { (begin.gates ≤ end.gates) × (end.gates ≤ length gates.now) }
-    ensures within { IfOk result (λ c. index < length (run_clauses lists.now gates.now begin.lists begin.gates end.lists end.gates)) }
-    ensures found { IfOk result (λ c. found_literals c ≡ get_or (run_clauses lists.now gates.now begin.lists begin.gates end.lists end.gates) index []) }
-    ensures behind { IfErr result (λ later. index ≡ length (run_clauses lists.now gates.now begin.lists begin.gates end.lists end.gates) + later) }
+fn clause_at<'a>(lists: &'a Lists<i32>, runs: &[Run<'_>], index: usize) -> FoundClause<'a>
+    requires are { AreRowed lists.now runs.now }
+    requires within { index < length (rows lists.now runs.now) }
+    ensures { found_literals result ≡ get_or (rows lists.now runs.now) index [] }
 {
-    let many = end.lists - begin.lists;
-    if index < many {
-        return Ok(FoundClause::Slice(lists.list(begin.lists + index)));
+    let mut left = index;
+    for run in runs {
+        if left >= run.lists {
+            let behind = left - run.lists;
+            let place = behind / 3;
+            if place < run.gates.len() {
+                return run.gates[place].moved_clause(run.shift, behind - 3 * place);
+            }
+            left -= 3 * run.gates.len();
+        }
     }
-    let behind = index - many;
-    let gate = behind / 3;
-    let many_gates = end.gates - begin.gates;
-    if gate < many_gates {
-        return Ok(gates[begin.gates + gate].clause(behind - 3 * gate));
-    }
-    Err(behind - 3 * many_gates)
+    FoundClause::Slice(lists.list(left))
 }

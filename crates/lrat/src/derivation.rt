@@ -12,7 +12,7 @@ ghost use Rattle.lrat.specs.Faults.{IsImproper, StopsWithin, StopsLast};
 use crate::clauses::Clauses;
 use crate::fault::Fault;
 use crate::hint::Hint;
-use crate::look::{Left, look};
+use crate::look::{Left, look_found};
 use crate::lookup::Lookup;
 use crate::step_error::StepError;
 use crate::trail::Trail;
@@ -142,7 +142,7 @@ fn follow<C: Lookup, H: Hint>(trail: &mut Trail, clauses: &C, hints: &[H]) -> Re
         let Some(clause) = clauses.get(hint.id()) else {
             return Err(Fault::UnknownId);
         };
-        match look(trail, clause.as_slice()) {
+        match look_found(trail, clause) {
             Left::False => return Err(Fault::EarlyConflict),
             Left::Several => return Err(Fault::SeveralLeft),
             Left::One(literal) => {
@@ -164,7 +164,7 @@ fn conclude<C: Lookup>(trail: &Trail, clauses: &C, hint: u32) -> Result<(), Faul
     let Some(clause) = clauses.get(hint) else {
         return Err(Fault::UnknownId);
     };
-    match look(trail, clause.as_slice()) {
+    match look_found(trail, clause) {
         Left::False => Ok(()),
         Left::One(_) => Err(Fault::NotFalse),
         Left::Several => Err(Fault::NotFalse),

@@ -23,7 +23,11 @@ use std::alloc::Global;
 /// on, out of memory aside, and a refusal has the first cause and its line. Whatever satisfies the
 /// formula satisfies what is shared. It costs the literals of the formula, of the lines, and of
 /// the clauses that they hint, and the logarithm of the number of clauses for each id.
-pub fn extends(alloc: Global, formula: &Formula, proof: &Proof) -> Result<Refuter, StepError>
+pub fn extends<'a>(
+    alloc: Global,
+    formula: &Formula,
+    proof: &Proof,
+) -> Result<Refuter<'a>, StepError>
     requires { IsFormula formula.now }
     ensures extended { IfOk result (λ r. (t : Stage) × Extends formula.now.vars (first_stage formula.now) proof.now t × (r ≡ at_units (base_at formula.now.vars t) [])) }
     ensures refused { IfErr result (λ e. IsRefusedExtension formula.now proof.now e) }

@@ -10,8 +10,8 @@
 //!   then nothing satisfies the formula. Each refusal has its first cause and that line.
 //! - `Refuter` does the same line by line, for many refutations that begin with one formula, or
 //!   with one formula and lemmas.
-//! - `ClauseRow` is a list of clauses for a `Refuter` to take over. It keeps an AND gate as its three
-//!   literals.
+//! - `ClauseRow` is a list of clauses for a `Refuter` to take over. AND gates stand among them as they
+//!   are kept elsewhere, as three literals each, for one time or for several.
 //! - `extends` checks lines that follow from a formula, as lemmas that many refutations share.
 //! - `read` and `parse_line` answer Ok exactly on the texts that spell a proof and a line, want of
 //!   memory aside; `write` puts the one text that spells a proof. `next_line` is for readers of

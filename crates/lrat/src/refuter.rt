@@ -35,18 +35,18 @@ use std::marker::Model;
 /// number of clauses, or a constant where no id up to it is missing, or none behind it. The first
 /// deletion of a clause of the formula costs all clauses.
 #[derive(Drop)]
-pub struct Refuter {
+pub struct Refuter<'a> {
     /// holds nothing between lines
     trail: Trail,
     /// the clauses that are present, over those that all refutations share
-    stack: Stack,
+    stack: Stack<'a>,
     /// whether the empty clause was added
     closed: bool,
     /// the first refusal
     refusal: Option<Fault>,
 }
 
-impl Model for Refuter {
+impl<'a> Model for Refuter<'a> {
     ghost use Rattle.lrat.specs.Courses.{Course, course_code, course_of, IsSteady};
     ghost use Rattle.lrat.specs.contracts.fault.Fault as fault;
 
@@ -59,9 +59,9 @@ impl Model for Refuter {
     ghost invariant = { λ r. IsSteady r.trail r.stack };
 }
 
-impl Refuter {
+impl<'a> Refuter<'a> {
     /// At the formula, before the first line. It costs the formula's literals and variables.
-    pub fn new(alloc: Global, formula: &Formula) -> Result<Refuter, Refused>
+    pub fn new(alloc: Global, formula: &Formula) -> Result<Refuter<'a>, Refused>
         requires { IsFormula formula.now }
         ensures { IfOk result (λ r. r ≡ at_formula formula.now) }
     {
@@ -75,9 +75,9 @@ impl Refuter {
 
     /// At the formula of these clauses, before the first line. It takes the clauses over, and costs
     /// the variables.
-    pub fn over(alloc: Global, vars: u32, clauses: ClauseRow) -> Result<Refuter, Refused>
+    pub fn over(alloc: Global, vars: u32, clauses: ClauseRow<'a>) -> Result<Refuter<'a>, Refused>
         requires { IsFormula (record { vars = vars; clauses = clauses }) }
-        ensures { IfOk result (λ r. r ≡ at_formula (record { vars = vars; clauses = clauses })) }
+        ensures { IfOk result (λ r. r ≡ at_formula (record { vars = vars; clauses = clauses.entry })) }
     {
         let trail = Trail::new(alloc, vars)?;
         Ok(Refuter {
@@ -279,7 +279,7 @@ fn adds_empty(line: LineRef<'_>) -> bool
 }
 
 /// Takes the clauses with these ids out, one after the other.
-fn take_out(stack: &mut Stack, ids: &[u32]) -> Result<(), Fault>
+fn take_out(stack: &mut Stack<'_>, ids: &[u32]) -> Result<(), Fault>
     ensures base { stack.new.base ≡ stack.old.base }
     ensures top { stack.new.top ≡ stack.old.top }
     ensures ok { OnOk result (TakesOut stack.old.present ids.now stack.new.present) }

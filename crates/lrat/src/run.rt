@@ -1,10 +1,14 @@
-//! Runs of clauses.
+//! Gates among clauses.
 
-/// Where a run of clauses ends: lists and then gates, each from where the run before it ends.
+use crate::gate_literals::GateLiterals;
+
+/// Gates that stand behind so many lists of clauses, with their variables moved up.
 #[derive(Clone, Copy)]
-pub struct Run {
-    /// how many lists there are up to here
+pub struct Run<'a> {
+    /// how many lists stand before them
     pub lists: usize,
-    /// how many gates there are up to here
-    pub gates: usize,
+    /// the gates as they are before they are moved
+    pub gates: &'a [GateLiterals],
+    /// by how much their variables are moved up
+    pub shift: u32,
 }

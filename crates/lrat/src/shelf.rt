@@ -16,16 +16,16 @@ use std::marker::Model;
 /// Clauses by rising ids: first those of a formula under the ids 1, 2 and so on, in the form in which
 /// they came, then others. None of the formula's can be taken out before `loosen`.
 #[derive(Drop)]
-pub struct Shelf {
+pub struct Shelf<'a> {
     /// the formula's clauses
-    formula: ClauseRow,
+    formula: ClauseRow<'a>,
     /// how many they are
     given: usize,
     /// the others
     row: Row,
 }
 
-impl Model for Shelf {
+impl<'a> Model for Shelf<'a> {
     ghost use Rattle.lrat.specs.Shelves.{Shelf as AShelf, shelf_code};
 
     ghost Value = { AShelf };
@@ -39,13 +39,13 @@ impl Model for Shelf {
     ghost invariant = { λ s. AreShelved s.row.vars s.formula s.given };
 }
 
-impl Shelf {
+impl<'a> Shelf<'a> {
     /// The clauses of a formula alone. It takes no memory.
-    pub fn over(alloc: Global, vars: u32, formula: ClauseRow) -> Shelf
+    pub fn over(alloc: Global, vars: u32, formula: ClauseRow<'a>) -> Shelf<'a>
         requires in_range { All (λ c. All (IsLiteral vars) c) formula }
         requires few { length formula < 2 ^ 32 }
-        ensures row { result.row ≡ record { vars = vars; slots = slots_from 1 formula } }
-        ensures given { result.given ≡ length formula }
+        ensures row { result.row ≡ record { vars = vars; slots = slots_from 1 formula.entry } }
+        ensures given { result.given ≡ length formula.entry }
     {
         let given = formula.len();
         Shelf {
@@ -143,7 +143,7 @@ impl Shelf {
     {
         if index < self.given {
             let row = joined(&self.formula, self.given, &self.row)?;
-            self.formula = ClauseRow::new(row.allocator());
+            self.formula.clear(row.allocator());
             self.given = 0;
             self.row = row;
         }
@@ -203,7 +203,7 @@ impl Shelf {
 }
 
 /// The formula's clauses, and behind them the others, in one row.
-fn joined(formula: &ClauseRow, given: usize, row: &Row) -> Result<Row, Refused>
+fn joined(formula: &ClauseRow<'_>, given: usize, row: &Row) -> Result<Row, Refused>
     requires { AreShelved row.now.vars formula.now given }
     ensures { IfOk result (λ r. r ≡ record { vars = row.now.vars; slots = slots_from 1 formula.now ++ row.now.slots }) }
 {
@@ -215,7 +215,7 @@ fn joined(formula: &ClauseRow, given: usize, row: &Row) -> Result<Row, Refused>
 }
 
 /// The formula's clauses in a row of the same variables.
-fn numbered(formula: &ClauseRow, given: usize, row: &Row) -> Result<Row, Refused>
+fn numbered(formula: &ClauseRow<'_>, given: usize, row: &Row) -> Result<Row, Refused>
     requires { AreShelved row.now.vars formula.now given }
     ensures { IfOk result (λ r. r ≡ record { vars = row.now.vars; slots = slots_from 1 formula.now }) }
 {

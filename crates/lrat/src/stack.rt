@@ -25,9 +25,9 @@ use std::marker::Model;
 /// the logarithm. One of the refutation's own that is taken out makes room for others. The formula's
 /// keep the form in which they came, until one of them is taken out.
 #[derive(Drop)]
-pub struct Stack {
+pub struct Stack<'a> {
     /// the shared clauses, and then the refutation's own
-    shelf: Shelf,
+    shelf: Shelf<'a>,
     /// how many clauses are shared
     mark: u32,
     /// the greatest id that was ever present when they were shared
@@ -38,7 +38,7 @@ pub struct Stack {
     top: u32,
 }
 
-impl Model for Stack {
+impl<'a> Model for Stack<'a> {
     ghost use Rattle.lrat.specs.Layers.{Layers, layers_code, layers_of, AreLayered};
     ghost use Rattle.lrat.specs.Shelves.{AreLoose};
 
@@ -51,9 +51,9 @@ impl Model for Stack {
     ghost invariant = { λ s. AreLayered s.shelf.row.slots s.mark s.shared_top s.hidden.items s.top × AreLoose s.shelf.given s.mark s.hidden.items };
 }
 
-impl Stack {
+impl<'a> Stack<'a> {
     /// The formula's clauses, shared. It costs their literals.
-    pub fn new(alloc: Global, formula: &Formula) -> Result<Stack, Refused>
+    pub fn new(alloc: Global, formula: &Formula) -> Result<Stack<'a>, Refused>
         requires { IsFormula formula.now }
         ensures { IfOk result (λ s. s ≡ bare (base_of formula.now)) }
     {
@@ -62,9 +62,9 @@ impl Stack {
     }
 
     /// These clauses, shared, under the ids 1, 2 and so on. It takes no memory.
-    pub fn over(alloc: Global, vars: u32, clauses: ClauseRow) -> Stack
+    pub fn over(alloc: Global, vars: u32, clauses: ClauseRow<'a>) -> Stack<'a>
         requires { IsFormula (record { vars = vars; clauses = clauses }) }
-        ensures { result ≡ bare (base_of (record { vars = vars; clauses = clauses })) }
+        ensures { result ≡ bare (base_of (record { vars = vars; clauses = clauses.entry })) }
     {
         let shelf = Shelf::over(alloc, vars, clauses);
         let mark = shelf.given() as u32;
@@ -146,6 +146,7 @@ impl Stack {
     pub fn share(&mut self)
         ensures { self.new ≡ bare (record { vars = self.old.base.vars; present = self.old.present; top = self.old.top }) }
     {
+        let _top = self.top();
         self.shelf.compact();
         self.hidden.clear();
         self.mark = self.shelf.len() as u32;
@@ -163,7 +164,7 @@ impl Stack {
     }
 }
 
-impl Lookup for Stack {
+impl<'a> Lookup for Stack<'a> {
     ghost vars = { λ s. s.base.vars };
 
     ghost find = { find_present };
@@ -182,7 +183,7 @@ impl Lookup for Stack {
 }
 
 /// The formula's clauses in a row.
-fn listed(alloc: Global, formula: &[Clause]) -> Result<ClauseRow, Refused>
+fn listed<'a>(alloc: Global, formula: &[Clause]) -> Result<ClauseRow<'a>, Refused>
     ensures { IfOk result (λ r. r ≡ formula.now) }
 {
     let mut row = ClauseRow::new(alloc);
@@ -194,7 +195,7 @@ fn listed(alloc: Global, formula: &[Clause]) -> Result<ClauseRow, Refused>
 
 /// At which index the live clause with this id is.
 #[inline(always)]
-fn find(shelf: &Shelf, id: u32) -> Option<usize>
+fn find(shelf: &Shelf<'_>, id: u32) -> Option<usize>
     requires { IsRising 0 (ids_in shelf.now.row.slots) }
     ensures { MatchOption result (fin.get (live_of shelf.now.row.slots) id ≡ None) (IsLiveAt shelf.now.row.slots id) }
 {
@@ -208,7 +209,7 @@ fn find(shelf: &Shelf, id: u32) -> Option<usize>
 }
 
 /// Makes the clauses at these indices live again.
-fn revive(shelf: &mut Shelf, indices: &[u32])
+fn revive(shelf: &mut Shelf<'_>, indices: &[u32])
     requires within { All (λ i. i < length shelf.old.row.slots) indices.now }
     requires loose { All (λ i. shelf.old.given ≤ i) indices.now }
     ensures given { shelf.new.given ≡ shelf.old.given }

@@ -5,30 +5,30 @@ use Rattle.certificate3.specs.Reading.{hints_at}
 use Rattle.certificate3.proofs.PieceLaws.{hints_of_piece}
 use Rattle.certificate3.proofs.streaming.skip_hints.Goals as goal
 
-pub line-requires-clause-line : goal.line-requires-clause-line
-line-requires-clause-line g c = hints_of_piece
+pub line_in-requires-clause-line : goal.line_in-requires-clause-line
+line_in-requires-clause-line g c = hints_of_piece
 
-pub returns-in_err-_hints-clause-says : goal.returns-in_err-_hints-clause-says
-returns-in_err-_hints-clause-says g c text later left =
-    let (zs, between, refused) = c.in_err-_hints.ensures.says text later left in
+pub returns-in_err-line_in-clause-says : goal.returns-in_err-line_in-clause-says
+returns-in_err-line_in-clause-says g c text later left =
+    let (zs, between, refused) = c.in_err-line_in.ensures.says text later left in
     let (ys, before, (front, still)) = c.loop.invariant.reads text zs between in
     let read = many_at hints_at c.args.count (c.args.reader.now.held ++ ys) in (
       ys,
       before,
-      err_finds (λ hints x. Unit {0}) read c.from_residual.result c.in_err-_hints.field-0.0 c.line.new.self.held later c.from_residual.ensures.1
-          (many_refused hints_at read front c.args.count c.loop.counter c.in_err-_hints.field-0.0 c.loop.reader.held zs c.loop-test.true still refused),
+      err_finds (λ hints x. Unit {0}) read c.from_residual.result c.in_err-line_in.field-0.0 c.line_in.new.self.held later c.from_residual.ensures.1
+          (many_refused hints_at read front c.args.count c.loop.counter c.in_err-line_in.field-0.0 c.loop.reader.held zs c.loop-test.true still refused),
     )
 
 pub loop-preserved : goal.loop-preserved
 loop-preserved g c = record {
   steady = search rules;
   reads = λ text later left.
-      let (zs, between, one) = c.in_ok-_hints.ensures.says text later left in
+      let (zs, between, one) = c.in_ok-line_in.ensures.says text later left in
       let (ys, before, (front, still)) = c.loop.invariant.reads text zs between in
       let read = many_at hints_at c.args.count (c.args.reader.now.held ++ ys) in (
         ys,
         before,
-        (front ++ c.in_ok-_hints._hints ∷ [], many_goes hints_at read front c.args.count c.loop.counter c.in_ok-_hints._hints c.loop.reader.held c.line.new.self.held zs later c.loop-test.true still one),
+        (front ++ c.line_in.new.buffer.items ∷ [], many_goes hints_at read front c.args.count c.loop.counter c.line_in.new.buffer.items c.loop.reader.held c.line_in.new.self.held zs later c.loop-test.true still one),
       );
 }
 

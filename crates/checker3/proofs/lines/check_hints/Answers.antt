@@ -16,26 +16,26 @@ use Rattle.checker3.specs.Judged.{AreHinted}
 use Rattle.checker3.proofs.Feeding.{all_shown, clause_here, shown_more, unshown_here}
 use Rattle.checker3.proofs.lines.check_hints.Goals as goal
 
-pub line-requires-clause-line : goal.line-requires-clause-line
-line-requires-clause-line g c = hints_of_piece
+pub line_in-requires-clause-line : goal.line_in-requires-clause-line
+line_in-requires-clause-line g c = hints_of_piece
 
 pub clause_into-requires-clause-in_range : goal.clause_into-requires-clause-in_range
 clause_into-requires-clause-in_range g c =
     let lt : c.loop-k.k < length c.args.timed.clauses.now = omega (arith, c.len-k-end.ensures, c.loop-k-test.true) in
     subst (All (IsInRange c.args.timed.time.max_var)) (sym c.list.ensures) (c.requires.over c.loop-k.k [] lt)
 
-pub returns-in_err-hints-clause-says : goal.returns-in_err-hints-clause-says
-returns-in_err-hints-clause-says g c text later left =
+pub returns-in_err-line_in-clause-says : goal.returns-in_err-line_in-clause-says
+returns-in_err-line_in-clause-says g c text later left =
     let n = length c.args.timed.clauses.now in
     let r = c.args.refuter.now in
     let cs = map (map (literal c.args.timed.time.max_var c.args.timed.time.offset)) c.args.timed.clauses.now in
-    let (zs, between, refused) = c.in_err-hints.ensures.says text later left in
+    let (zs, between, refused) = c.in_err-line_in.ensures.says text later left in
     let (ys, before, (front, len, shown, still)) = c.loop-k.invariant.reads text zs between in
     let read = many_at hints_at n (c.args.reader.now.held ++ ys) in (
       ys,
       before,
-      err_finds (AreHinted r.base.vars (fin.get r.stage.present) cs) read c.from_residual.result c.in_err-hints.field-0.0 c.line.new.self.held later c.from_residual.ensures.1
-          (many_refused hints_at read front n c.loop-k.k c.in_err-hints.field-0.0 c.loop-k.reader.held zs (omega (arith, c.len-k-end.ensures, c.loop-k-test.true)) still refused),
+      err_finds (AreHinted r.base.vars (fin.get r.stage.present) cs) read c.from_residual.result c.in_err-line_in.field-0.0 c.line_in.new.self.held later c.from_residual.ensures.1
+          (many_refused hints_at read front n c.loop-k.k c.in_err-line_in.field-0.0 c.loop-k.reader.held zs (omega (arith, c.len-k-end.ensures, c.loop-k-test.true)) still refused),
     )
 
 pub loop-k-preserved : goal.loop-k-preserved
@@ -49,8 +49,8 @@ loop-k-preserved g c = record {
       let v = c.args.timed.time.max_var in
       let o = c.args.timed.time.offset in
       let cs : List (List ℤ) = map (map (literal v o)) c.args.timed.clauses.now in
-      let h = c.in_ok-hints.hints in
-      let (zs, between, one) = c.in_ok-hints.ensures.says text later left in
+      let h = c.line_in.new.buffer.items in
+      let (zs, between, one) = c.in_ok-line_in.ensures.says text later left in
       let (ys, before, (front, len, shown, still)) = c.loop-k.invariant.reads text zs between in
       let read = many_at hints_at n (c.args.reader.now.held ++ ys) in
       let lits : c.clause_into.new.literals.items ≡ get_or cs k [] = c.in_ok-clause_into.ensures.literals ∙ ap (map (literal v o)) c.list.ensures ∙ sym (clause_here v o c.args.timed.clauses.now k) in
@@ -61,7 +61,7 @@ loop-k-preserved g c = record {
           front ++ h ∷ [],
           length_push front h ∙ ap (λ n. n + 1) len,
           shown_more r.base.vars (fin.get r.stage.present) cs front h k len shown accepted,
-          many_goes hints_at read front n k h c.loop-k.reader.held c.line.new.self.held zs later (omega (arith, c.len-k-end.ensures, c.loop-k-test.true)) still one,
+          many_goes hints_at read front n k h c.loop-k.reader.held c.line_in.new.self.held zs later (omega (arith, c.len-k-end.ensures, c.loop-k-test.true)) still one,
         ),
       );
 }
@@ -74,13 +74,13 @@ returns-in-Err-clause-says g c text later left =
     let v = c.args.timed.time.max_var in
     let o = c.args.timed.time.offset in
     let cs : List (List ℤ) = map (map (literal v o)) c.args.timed.clauses.now in
-    let h = c.in_ok-hints.hints in
+    let h = c.line_in.new.buffer.items in
     let fault = c.in-Err.fault in
     let (us, here, skipped) = rw c.len.ensures at (c.skip_unshown.ensures.says text later left) in
-    let (zs, between, one) = c.in_ok-hints.ensures.says text us here in
+    let (zs, between, one) = c.in_ok-line_in.ensures.says text us here in
     let (ys, before, (front, len, shown, still)) = c.loop-k.invariant.reads text zs between in
     let read = many_at hints_at n (c.args.reader.now.held ++ ys) in
-    let further = many_goes hints_at read front n k h c.loop-k.reader.held c.line.new.self.held zs us (omega (arith, c.len-k-end.ensures, c.loop-k-test.true)) still one in
+    let further = many_goes hints_at read front n k h c.loop-k.reader.held c.line_in.new.self.held zs us (omega (arith, c.len-k-end.ensures, c.loop-k-test.true)) still one in
     let same : c.loop-k.refuter ≡ r = c.loop-k.invariant.same in
     let fresh : c.loop-k.refuter.refusal ≡ None = ap (λ (q : Course). q.refusal) same ∙ c.requires.fresh in
     let lits : c.as_slice.result.now ≡ get_or cs k [] =
@@ -88,11 +88,11 @@ returns-in-Err-clause-says g c text later left =
     let refused : IsRefusedLine r.base.vars (fin.get r.stage.present) (get_or cs k []) h fault =
     subst (λ (q : Course). IsRefusedLine q.base.vars (fin.get q.stage.present) (get_or cs k []) h fault) same
     (subst (λ (w : List ℤ). IsRefusedLine c.loop-k.refuter.base.vars (fin.get c.loop-k.refuter.stage.present) w h fault) lits
-    (subst (λ (w : List ℕ). IsRefusedLine c.loop-k.refuter.base.vars (fin.get c.loop-k.refuter.stage.present) c.as_slice.result.now w fault) c.as_slice-in-loop-k.ensures (c.in-Err.ensures.refused fresh))) in
+    (subst (λ (w : List ℕ). IsRefusedLine c.loop-k.refuter.base.vars (fin.get c.loop-k.refuter.stage.present) c.as_slice.result.now w fault) c.as_slice-in-loop-k.ensures.value (c.in-Err.ensures.refused fresh))) in
     let inside : k < length cs = omega (arith, length-map c.args.timed.clauses.now (map (literal v o)), c.len-k-end.ensures, c.loop-k-test.true) in (
       ys,
       before,
-      others_found (λ hints found. (found ≡ Some fault) × (fault ≢ OutOfMemory witness)) (AreHinted r.base.vars (fin.get r.stage.present) cs) read (front ++ h ∷ []) (many_at hints_at (n - (k + 1))) c.line.new.self.held c.skip_unshown.new.reader.held us later c.skip_unshown.result further
+      others_found (λ hints found. (found ≡ Some fault) × (fault ≢ OutOfMemory witness)) (AreHinted r.base.vars (fin.get r.stage.present) cs) read (front ++ h ∷ []) (many_at hints_at (n - (k + 1))) c.line_in.new.self.held c.skip_unshown.new.reader.held us later c.skip_unshown.result further
           skipped (λ more x found. unshown_here r.base.vars (fin.get r.stage.present) cs front h more k fault x len inside shown refused found),
     )
 

@@ -15,7 +15,7 @@ returns-in_err-found-clause-says g c =
     let n = length inv in
     let P = HasProofs m c.args.claims.bad inv in
     same_reads P (λ bytes. shown_at 105 n bytes >>= λ a. (later_at n a.1 >>= λ l. Some (a_proofs a.0 l.0, l.1))) (proofs_at n) _ _ _ _ _ (proofs_is n)
-    (stops P (shown_at 105 n) (λ a rest. later_at n rest >>= λ l. Some (a_proofs a l.0, l.1)) c.in_err-found.field-0.0 _ _ _ _ _ c.from_residual.ensures.1 c.in_err-found.ensures.says)
+    (stops P (shown_at 105 n) (λ a rest. later_at n rest >>= λ l. Some (a_proofs a l.0, l.1)) c.in_err-found.field-0.0 _ _ _ _ _ c.from_residual-in_err-found.ensures.1 c.in_err-found.ensures.says)
 
 pub returns-in_err-skip_later-clause-says : goal.returns-in_err-skip_later-clause-says
 returns-in_err-skip_later-clause-says g c =

@@ -1,34 +1,27 @@
-use Rattle.std.proofs.Common.{get_or, arith}
+use Rattle.std.proofs.Common.{◌∙◌, ◌-◌, ◌*◌, ◌/◌, ℕ, [], sym, arith, get_or}
 use Rattle.std.proofs.lemmas.List.{get_or_default}
 use Rattle.lrat.specs.declared.run.Run.{Run}
-use Rattle.lrat.proofs.Rowed.{left_none, left_run, left_more, last_fits}
+use Rattle.lrat.proofs.Rowed.{left_before, left_gate, left_behind}
 use Rattle.lrat.proofs.clause_row.clause_at.Goals as goal
+use Rattle.lrat.proofs.clause_row.clause_at.Goals.{then-left-run+else-place-run, else-left-run}
 
-pub loop-run-init : goal.loop-run-init
-loop-run-init c = left_none c.args.lists.now c.args.gates.now c.args.before c.args.runs.now c.args.index c.requires.are.runs c.requires.within
-
-pub clause_in-requires-clause-lists : goal.clause_in-requires-clause-lists
-clause_in-requires-clause-lists c =
-    let none : Run = record { lists = 0; gates = 0 } in
-    let r : Run = get_or c.args.runs.now c.loop-run.run-index none in
-    (left_run c.args.lists.now c.args.gates.now c.args.before c.args.runs.now c.args.index c.loop-run.run-index c.loop-run.begin.lists c.loop-run.begin.gates c.loop-run.left r c.loop-run-test.true
-    (get_or_default c.args.runs.now c.loop-run.run-index none r c.loop-run-test.true) c.loop-run.invariant).0
-
-pub clause_in-requires-clause-gates : goal.clause_in-requires-clause-gates
-clause_in-requires-clause-gates c =
-    let none : Run = record { lists = 0; gates = 0 } in
-    let r : Run = get_or c.args.runs.now c.loop-run.run-index none in
-    (left_run c.args.lists.now c.args.gates.now c.args.before c.args.runs.now c.args.index c.loop-run.run-index c.loop-run.begin.lists c.loop-run.begin.gates c.loop-run.left r c.loop-run-test.true
-    (get_or_default c.args.runs.now c.loop-run.run-index none r c.loop-run-test.true) c.loop-run.invariant).1
-
-pub overflow_add-before : goal.overflow_add-before
-overflow_add-before c =
-    let fits = last_fits c.args.lists.now c.args.gates.now c.args.before c.args.runs.now c.args.index c.loop-run.run-index c.loop-run.begin.lists c.loop-run.begin.gates c.loop-run.left c.in-Err-clause_in.later c.loop-run-test.false c.loop-run.invariant c.in-Err-clause_in.ensures.behind in
-    omega (arith, fits, c.ranges.index.fits)
+pub returns-then-place-run : goal.returns-then-place-run
+returns-then-place-run c =
+    let none : Run = record { lists = 0; gates = record { ref_ptr = (0, 0); now = [] }; shift = 0 } in
+    let k = c.loop-run.run-index in
+    let r : Run = get_or c.args.runs.now k none in
+    let behind : ℕ = c.loop-run.left - r.lists in
+    let found = left_gate c.args.lists.now c.args.runs.now c.args.index k c.loop-run.left (behind / 3) (behind - 3 * (behind / 3)) r _ c.loop-run-test.true (get_or_default c.args.runs.now k none r c.loop-run-test.true) c.loop-run.invariant
+    c.if-left-run.true c.if-place-run.true (omega arith) (omega arith) in
+    c.moved_clause.ensures ∙ sym found
 
 pub loop-run-preserved : goal.loop-run-preserved
 loop-run-preserved c =
-    let none : Run = record { lists = 0; gates = 0 } in
-    let r : Run = get_or c.args.runs.now c.loop-run.run-index none in
-    left_more c.args.lists.now c.args.gates.now c.args.before c.args.runs.now c.args.index c.loop-run.run-index c.loop-run.begin.lists c.loop-run.begin.gates c.loop-run.left c.in-Err.later r c.loop-run-test.true
-    (get_or_default c.args.runs.now c.loop-run.run-index none r c.loop-run-test.true) c.loop-run.invariant c.in-Err.ensures.behind
+    let none : Run = record { lists = 0; gates = record { ref_ptr = (0, 0); now = [] }; shift = 0 } in
+    let k = c.loop-run.run-index in
+    let r : Run = get_or c.args.runs.now k none in
+    let at = get_or_default c.args.runs.now k none r c.loop-run-test.true in
+    elim c.if-left-run.branch [
+      | then-left-run+else-place-run w ↦ left_behind c.args.lists.now c.args.runs.now c.args.index k c.loop-run.left c.if-left-run.left r c.loop-run-test.true at c.loop-run.invariant (omega (arith, w.if-left-run.true, w.if-place-run.false)) (omega (arith, w.left-is))
+      | else-left-run w ↦ rw w.left-is (left_before c.args.lists.now c.args.runs.now c.args.index k c.loop-run.left r c.loop-run-test.true at c.loop-run.invariant (omega (arith, w.if-left-run.false)))
+    ]

@@ -1,5 +1,6 @@
 use Rattle.std.proofs.Common.{◌≡◌, ◌≤◌, ◌∙◌, ap, arith, length}
 use Rattle.std.proofs.lemmas.List.Elements.{All-nil}
+use Rattle.lrat.specs.Layers.{Layers}
 use Rattle.lrat.specs.Slots.{Row, live_slots}
 use Rattle.lrat.proofs.Layering.{few_live, shared_layered, shared_layers}
 use Rattle.lrat.proofs.stack.Stack.share.Goals as goal
@@ -9,7 +10,8 @@ overflow_cast-self c =
     let s = c.self.inside in
     let few : length (live_slots s.shelf.row.slots) ≤ s.top = few_live s.shelf.row.slots s.mark s.shared_top s.hidden.items s.top c.self.invariant.0 in
     let n : c.len.result ≡ length (live_slots s.shelf.row.slots) = c.len.ensures ∙ ap (λ (r : Row). length r.slots) c.compact.ensures.row in
-    omega arith
+    let same : s.top ≡ c.args.self.now.top = ap (λ (l : Layers). l.top) c.self.view_is in
+    omega (arith, few, n, same, c.top-top.ensures)
 
 pub invariant_of-self : goal.invariant_of-self
 invariant_of-self c =
