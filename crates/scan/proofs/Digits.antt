@@ -3,7 +3,7 @@ use Rattle.std.proofs.Common.{◌≡◌, ℕ, zero, suc, ◌+◌, ◌-◌, ◌*�
 use Rattle.std.specs.Char.{is_ascii_digit}
 use Rattle.std.proofs.lemmas.Bool.{le-leb, lt-leb, lt-ltb, leb-true, leb-false, and_parts}
 use Rattle.std.proofs.lemmas.List.{at_drop_more, at_drop_all, drop_all, take_rest}
-use Rattle.scan.specs.Numbers.{at_most, digits_after}
+use Rattle.scan.specs.Numbers.{at_most, begins_digit, digits_after}
 
 abbrev pub IsDigit : ℕ → Type 0
 IsDigit c = (48 ≤ c) × (c ≤ 57)
@@ -18,6 +18,12 @@ next_of limit n c cs e = rw e refl
 stop_of : (limit n c : ℕ) (cs : List ℕ) → is_ascii_digit c ≡ false → digits_after limit n (c ∷ cs) ≡ (n, c ∷ cs)
 unfolding digits_after
 stop_of limit n c cs e = rw e refl
+
+-- no digit comes next
+pub digits_none : (limit n : ℕ) (text : List ℕ) → begins_digit text ≡ false → digits_after limit n text ≡ (n, text)
+unfolding digits_after
+digits_none limit n [] e = refl
+digits_none limit n (c ∷ cs) e = stop_of limit n c cs e
 
 pub digits_stop : (limit n : ℕ) (text : List ℕ) (i : ℕ) → i < length text → is_ascii_digit (get_or text i 0) ≡ false → digits_after limit n (drop i text) ≡ (n, take (length text - i) (drop i text))
 digits_stop limit n text i lt e =

@@ -10,13 +10,17 @@ use crate::fault::{Fault, Kinds};
 /// How many digits are read behind the first without a look at the limit: no number of these passes 64 bits.
 const UNLOOKED: usize = 9;
 
-/// The digits that come next, behind a number. A number past the limit is some number past it.
+/// The digits that come next, behind a number. A number past the limit is some number past it. Many numbers
+/// are one digit, and end here at once.
 #[inline(always)]
 fn digits(text: &[u8], limit: u32, first: u8) -> (u64, &[u8])
     requires { first < 10 }
     ensures value { at_most limit (result.0, result.1.now) ≡ at_most limit (digits_after limit first text.now) }
     ensures shorter { length result.1.now ≤ length text.now }
 {
+    if !has_digit(text) {
+        return (u64::from(first), text);
+    }
     let mut value = u64::from(first);
     let near = text.len().min(UNLOOKED);
     for (i, c) in text[..near].iter().enumerate() {

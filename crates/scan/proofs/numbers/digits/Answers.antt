@@ -2,11 +2,16 @@ use Rattle.std.proofs.Common.{◌≡◌, ◌<◌, ◌≤◌, ◌+◌, ◌-◌, �
 use Rattle.std.specs.Char.{is_ascii_digit}
 use Rattle.std.proofs.lemmas.List.{get_or-take, length-take-le, take_rest}
 use Rattle.scan.specs.Numbers.{at_most, digits_after}
-use Rattle.scan.proofs.Digits.{digit_from, digits_on, digits_stop, most_first, most_next, most_nine}
+use Rattle.scan.proofs.Digits.{digit_from, digits_none, digits_on, digits_stop, most_first, most_next, most_nine}
 use Rattle.scan.proofs.numbers.digits.Goals as goal
 
 pub loop-i-init : goal.loop-i-init
 loop-i-init c = (rw c.from-value.ensures refl, omega (arith, most_first, c.from-value.ensures, c.requires))
+
+pub returns-then-not-has_digit-clause-value : goal.returns-then-not-has_digit-clause-value
+returns-then-not-has_digit-clause-value c =
+    let text = c.args.text.now in
+    rw c.from.ensures (ap (at_most c.args.limit) (sym (digits_none c.args.limit c.args.first text (sym c.has_digit.ensures ∙ c.if-not-has_digit.true))))
 
 pub returns-then-not-is_ascii_digit-clause-value : goal.returns-then-not-is_ascii_digit-clause-value
 returns-then-not-is_ascii_digit-clause-value c =
@@ -33,7 +38,7 @@ overflow_add-value c =
     let within : n ≤ length text = omega (arith, c.min-near.ensures) in
     let lt : c.loop-i.i ≤ 9 = omega (arith, c.loop-i-test.true, length-take-le n text within, c.min-near.ensures) in
     let d = digit_from (get_or (take n text) c.loop-i.i 0) (sym c.is_ascii_digit.ensures.value ∙ c.if-not-is_ascii_digit.false) in
-    omega (arith, c.loop-i.invariant.1, most_nine c.loop-i.i lt, c.from.ensures, d)
+    omega (arith, c.loop-i.invariant.1, most_nine c.loop-i.i lt, c.from-in-loop-i.ensures, d)
 
 pub loop-i-preserved : goal.loop-i-preserved
 loop-i-preserved c =
@@ -46,8 +51,8 @@ loop-i-preserved c =
     let same : get_or (take n text) i 0 ≡ get_or text i 0 = get_or-take n text i 0 lt in
     let e : is_ascii_digit (get_or text i 0) ≡ true = ap is_ascii_digit (sym same) ∙ sym c.is_ascii_digit.ensures.value ∙ c.if-not-is_ascii_digit.false in
     let d = digit_from (get_or text i 0) e in
-    let is : v * 10 + c.from.result ≡ v * 10 + (get_or text i 0 - 48) = ap (λ k. v * 10 + k) (c.from.ensures ∙ ap (λ k. k - 48) same) in (
-      sym (digits_on c.args.limit v (v * 10 + c.from.result) text i (omega (arith, lt, within)) e is) ∙ c.loop-i.invariant.0,
+    let is : v * 10 + c.from-in-loop-i.result ≡ v * 10 + (get_or text i 0 - 48) = ap (λ k. v * 10 + k) (c.from-in-loop-i.ensures ∙ ap (λ k. k - 48) same) in (
+      sym (digits_on c.args.limit v (v * 10 + c.from-in-loop-i.result) text i (omega (arith, lt, within)) e is) ∙ c.loop-i.invariant.0,
       omega (arith, c.loop-i.invariant.1, most_next i, d, is),
     )
 
