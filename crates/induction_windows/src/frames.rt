@@ -1,6 +1,6 @@
 //! Clauses over several times.
 
-ghost use Rattle.std.specs.Prelude.{◌≡◌, ◌≤◌, ◌<◌, ◌++◌, ◌∷◌, [], All, OnOk};
+ghost use Rattle.std.specs.Prelude.{◌≡◌, ◌≤◌, ◌<◌, All, OnOk};
 ghost use Rattle.graph.specs.Circuits.{variable as variable_of};
 ghost use Rattle.lrat.specs.Literals.{IsLiteral};
 

@@ -1,6 +1,6 @@
 //! Latches that say what was.
 
-ghost use Rattle.std.specs.Prelude.{◌≡◌, ◌+◌, ◌*◌, ◌≤◌, ◌++◌, ◌↔◌, IsTrue, OnOk};
+ghost use Rattle.std.specs.Prelude.{◌≡◌, ◌+◌, ◌≤◌, ◌++◌, ◌↔◌, IsTrue, OnOk};
 ghost use Rattle.induction_windows.specs.Rows.{delayed as delayed_of, negated_literal, row_latches, variable_literal};
 
 use crate::fact::Fact;

@@ -1,2 +1,4 @@
+pub mod Later
 pub mod Leading
+pub mod Led
 pub mod Marked

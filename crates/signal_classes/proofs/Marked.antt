@@ -18,7 +18,3 @@ marked_so_far xs n before after n_in marked here more v found = elim (Contains-p
   | inl old ↦ more v (marked v old)
   | inr same ↦ ap (λ x. get_or after x true) (sym same) ∙ here
 ]
-
--- each place of the list is marked
-pub all_marked : (xs ys : List ℕ) (t : List Bool) → ys ≡ xs → ((v : ℕ) → Contains ys v → get_or t v true ≡ true) → (v : ℕ) → Contains xs v → get_or t v true ≡ true
-all_marked xs ys t is marked v found = marked v (subst (λ (zs : List ℕ). Contains zs v) (sym is) found)

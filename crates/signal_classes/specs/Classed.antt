@@ -1,5 +1,5 @@
 -- Signals in classes.
-use Rattle.std.specs.Prelude.{ℕ, true, List, [], ◌∷◌, length, slice_index_or, Option, None, Some, nat_lt, ◌==◌, if◌then◌else◌}
+use Rattle.std.specs.Prelude.{◌≡◌, ℕ, true, List, [], ◌∷◌, length, slice_index_or, Option, None, Some, nat_lt, ◌==◌, if◌then◌else◌}
 use Rattle.graph.specs.declared.circuit.Lit.{Lit}
 use Rattle.graph.specs.Circuits.{variable}
 use Rattle.cnf.specs.Clauses.{along}
@@ -14,9 +14,25 @@ pub record Classed : Type 0 where
   pub births : List ℕ
   pub count : ℕ
 
+-- what stands at a place of a list, or 0
+abbrev pub place_at : List ℕ → ℕ → ℕ
+place_at places k = slice_index_or places k 0
+
 -- the place of the first signal of the class of the signal at a place
 abbrev pub lead_of : Classed → ℕ → ℕ
-lead_of c k = slice_index_or c.leads k 0
+lead_of c k = place_at c.leads k
+
+-- the first signal of a class is the first of its own class
+abbrev pub AreLed : List ℕ → Type 0
+AreLed leads = (k : ℕ) → place_at leads (place_at leads k) ≡ place_at leads k
+
+-- each is in the class of its lead, by other leads
+abbrev pub AreWithin : List ℕ → List ℕ → Type 0
+AreWithin others leads = (k : ℕ) → place_at others (place_at leads k) ≡ place_at others k
+
+-- what is in one class now was in one class before
+abbrev pub Refines : List ℕ → List ℕ → Type 0
+Refines before after = (a b : ℕ) → place_at after a ≡ place_at after b → place_at before a ≡ place_at before b
 
 -- the signal at a place, or the constant
 abbrev pub signal_of : Classed → ℕ → Signal

@@ -1,12 +1,12 @@
 //! Classes of signals.
 
-ghost use Rattle.std.specs.Prelude.{◌≡◌, ◌≢◌, ◌<◌, ℕ, ◌++◌, flat_map, length, slice_index_or, true, IfOk, IsSome, OnOk};
+ghost use Rattle.std.specs.Prelude.{◌≡◌, ◌≢◌, ◌<◌, ℕ, ◌++◌, ◌∷◌, [], flat_map, length, slice_index_or, slice_set, true, IfOk, IsSome, IsTrue, OnOk};
 ghost use Rattle.simulate.specs.Lanes.{value_in};
-ghost use Rattle.signal_classes.specs.Classed.{clauses_at, clauses_of, equal_of, lead_of, signal_of};
+ghost use Rattle.signal_classes.specs.Classed.{AreLed, AreWithin, Refines, clauses_at, clauses_of, equal_of, lead_of, place_at, signal_of};
 
 use crate::pairing::Pair;
 use crate::signal::{Equal, Signal, lits_of, negated};
-use base::{Refused, Seq, insert, push};
+use base::{Refused, Seq, copied, insert, push};
 use graph::{Lit, Model};
 use random_runs::Runs;
 use simulate::lanes::{both, lowest, negated_if, none, value};
@@ -48,6 +48,39 @@ fn signature(class: usize, values: u64x4) -> u64 {
     number
 }
 
+/// What stands at a place of the list, or 0.
+fn at(list: &[usize], place: usize) -> usize
+    ensures { result ≡ place_at list.now place }
+{
+    match list.get(place) {
+        Some(value) => *value,
+        None => 0,
+    }
+}
+
+/// Puts a value at a place of the list, where it has that.
+#[tactic(auto, using(crate::proofs::Led::put_past))]
+fn put(list: &mut [usize], place: usize, value: usize)
+    ensures { list.new ≡ slice_set list.old place value }
+{
+    if place < list.len() {
+        list[place] = value;
+    }
+}
+
+/// Turns each signal so that it is false in this run.
+fn turn_all(signals: &mut [Signal], runs: &Runs<'_>, run: u32)
+    requires run { run < 256 }
+    requires stepped { IsSome runs.now.wide.now }
+    ensures { length signals.new ≡ length signals.old }
+{
+    for signal in signals {
+        if value(runs.value(signal.now), run) {
+            *signal = signal.negated();
+        }
+    }
+}
+
 /// Adds the clauses that say that two literals are equal, or that the one is false.
 fn push_clauses(
     alloc: Global,
@@ -67,13 +100,16 @@ fn push_clauses(
 impl Classes {
     /// All signals of marked variables in the first class, as if this literal were false, and each other one in a class of its
     /// own.
+    #[tactic(auto, using(crate::proofs::Led::led_push, crate::proofs::Led::led_own, crate::proofs::Led::first_push, crate::proofs::Led::first_set))]
     pub fn new(
         alloc: Global,
         circuit: &Model,
         pair: &Pair,
         marks: &[bool],
         bad: Lit,
-    ) -> Result<Classes, Refused> {
+    ) -> Result<Classes, Refused>
+        ensures { IfOk result (λ c. AreLed c.leads) }
+    {
         let mut classes = Classes {
             signals: Vec::new(alloc),
             leads: Vec::new(alloc),
@@ -84,18 +120,22 @@ impl Classes {
         let lits = lits_of(alloc, circuit)?;
         for (place, lit) in lits.as_slice().iter().enumerate() {
             let is_bad = lit.variable() == bad.variable();
-            push(
-                &mut classes.signals,
-                pair.signal(if is_bad { bad } else { *lit }),
-            )?;
-            push(&mut classes.leads, 0)?;
-            push(&mut classes.births, 0)?;
+            classes.add(pair.signal(if is_bad { bad } else { *lit }))?;
             let is_marked = marks.get(lit.variable() as usize).copied();
             if place > 0 && !is_marked.unwrap_or(false) {
                 classes.part(place);
             }
         }
         Ok(classes)
+    }
+
+    /// Adds a signal to the first class.
+    fn add(&mut self, signal: Signal) -> Result<(), Refused>
+        ensures { OnOk result (self.new.leads ≡ self.old.leads ++ 0 ∷ []) }
+    {
+        push(&mut self.signals, signal)?;
+        push(&mut self.leads, 0)?;
+        push(&mut self.births, 0)
     }
 
     /// How many classes there are.
@@ -147,7 +187,8 @@ impl Classes {
 
     /// The signal at a place and the first of its class, where that is another one.
     pub fn equal_at(&self, place: usize) -> Option<Equal>
-        ensures { result ≡ equal_of self.now place }
+        ensures equal { result ≡ equal_of self.now place }
+        ensures apart { IsSome result → lead_of self.now place ≢ place }
     {
         let lead = self.lead(place);
         if lead == place {
@@ -166,37 +207,36 @@ impl Classes {
     /// Puts the signal at a place into the class of which another one is the first.
     fn join(&mut self, place: usize, lead: usize)
         ensures signals { self.new.signals ≡ self.old.signals }
-        ensures lead { place < length self.old.leads → lead_of self.new place ≡ lead }
-        ensures others { (k : ℕ) → k ≢ place → lead_of self.new k ≡ lead_of self.old k }
+        ensures leads { self.new.leads ≡ slice_set self.old.leads place lead }
     {
-        if let Some(of) = self.leads.get_mut(place) {
-            *of = lead;
-        }
+        put(self.leads.as_mut_slice(), place, lead);
     }
 
     /// Puts the signal at a place into a class of its own.
     pub fn part(&mut self, place: usize)
         ensures signals { self.new.signals ≡ self.old.signals }
-        ensures lead { place < length self.old.leads → lead_of self.new place ≡ place }
-        ensures others { (k : ℕ) → k ≢ place → lead_of self.new k ≡ lead_of self.old k }
+        ensures leads { self.new.leads ≡ slice_set self.old.leads place place }
     {
         self.join(place, place);
-        if let Some(birth) = self.births.get_mut(place) {
-            *birth = self.count;
-        }
+        put(self.births.as_mut_slice(), place, self.count);
         self.count = self.count.saturating_add(1);
+    }
+
+    /// Whether the signal at a place may join the class of which another one is the first: both were in one class.
+    fn may_join(&self, before: &[usize], place: usize, other: usize) -> bool
+        ensures { IsTrue result → (lead_of self.now other ≡ other) × (place_at before.now other ≡ place_at before.now place) }
+    {
+        self.lead(other) == other && at(before, other) == at(before, place)
     }
 
     /// Turns each signal so that it is false in this run.
     fn turn(&mut self, runs: &Runs<'_>, run: u32)
         requires run { run < 256 }
         requires stepped { IsSome runs.now.wide.now }
+        ensures leads { self.new.leads ≡ self.old.leads }
+        ensures places { length self.new.signals ≡ length self.old.signals }
     {
-        for signal in self.signals.as_mut_slice() {
-            if value(runs.value(signal.now), run) {
-                *signal = signal.negated();
-            }
-        }
+        turn_all(self.signals.as_mut_slice(), runs, run);
     }
 
     /// Those of these runs in which the signals of each class are equal.
@@ -215,16 +255,20 @@ impl Classes {
     }
 
     /// Moves the signal at a place out of its class where the values differ. Those that leave a class with the same values go to
-    /// one class. Answers a run that told them apart, where this made a new class.
+    /// one class, by the leads before any left. Answers a run that told them apart, where this made a new class.
     fn compare(
         &mut self,
         runs: &Runs<'_>,
         running: u64x4,
         is_later: bool,
         place: usize,
+        before: &[usize],
         parted: &mut BTreeMap<u64, usize>,
     ) -> Result<Option<u32>, Refused>
         requires stepped { IsSome runs.now.wide.now }
+        ensures signals { self.new.signals ≡ self.old.signals }
+        ensures led { AreLed self.old.leads → AreLed self.new.leads }
+        ensures within { AreWithin before.now self.old.leads → AreWithin before.now self.new.leads }
     {
         let Some(equal) = self.equal_at(place) else {
             return Ok(None);
@@ -235,7 +279,9 @@ impl Classes {
             return Ok(None);
         }
         let number = signature(self.lead(place), both(values, running));
-        if let Some(other) = parted.get(&number) {
+        if let Some(other) = parted.get(&number)
+            && self.may_join(before, place, *other)
+        {
             self.join(place, *other);
             return Ok(None);
         }
@@ -246,6 +292,7 @@ impl Classes {
 
     /// Splits the classes by the values in these runs, a step later where that is wanted. Answers a run that told signals apart,
     /// where this made a new class.
+    #[tactic(auto, using(crate::proofs::Led::refines_by))]
     pub fn split(
         &mut self,
         alloc: Global,
@@ -254,6 +301,9 @@ impl Classes {
         is_later: bool,
     ) -> Result<Option<u32>, Refused>
         requires stepped { IsSome runs.now.wide.now }
+        ensures places { length self.new.signals ≡ length self.old.signals }
+        ensures led { AreLed self.old.leads → AreLed self.new.leads }
+        ensures refines { AreLed self.old.leads → Refines self.old.leads self.new.leads }
     {
         let Some(first) = lowest(running) else {
             return Ok(None);
@@ -262,10 +312,29 @@ impl Classes {
             self.turn(runs, first);
             self.is_begun = true;
         }
+        let before = copied(alloc, self.leads.as_slice())?;
+        self.part_all(alloc, runs, running, is_later, before.as_slice())
+    }
+
+    /// Moves each signal out of its class where the values differ, by the leads before any left. Answers a run that told signals
+    /// apart, where this made a new class.
+    fn part_all(
+        &mut self,
+        alloc: Global,
+        runs: &Runs<'_>,
+        running: u64x4,
+        is_later: bool,
+        before: &[usize],
+    ) -> Result<Option<u32>, Refused>
+        requires stepped { IsSome runs.now.wide.now }
+        ensures signals { self.new.signals ≡ self.old.signals }
+        ensures led { AreLed self.old.leads → AreLed self.new.leads }
+        ensures within { AreWithin before.now self.old.leads → AreWithin before.now self.new.leads }
+    {
         let mut parted = BTreeMap::new(alloc);
         let mut told = None;
         for place in 0..self.len() {
-            if let Some(run) = self.compare(runs, running, is_later, place, &mut parted)? {
+            if let Some(run) = self.compare(runs, running, is_later, place, before, &mut parted)? {
                 told = Some(run);
             }
         }

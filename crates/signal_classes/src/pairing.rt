@@ -1,13 +1,15 @@
 //! A circuit at two times.
 
-ghost use Rattle.std.specs.Prelude.{◌≡◌, ◌*◌, ◌+◌, ◌++◌, [], if◌then◌else◌, length, map, slice_index_or, IfOk, IfSome, OnOk};
+ghost use Rattle.std.specs.Prelude.{◌≡◌, ◌≤◌, ◌*◌, ◌+◌, ◌++◌, [], if◌then◌else◌, length, map, slice_index_or, IfOk, IfSome, OnOk};
 ghost use Rattle.graph.specs.Circuits.{variable};
-ghost use Rattle.signal_classes.specs.Paired.{IsPairOf, IsTwice, at_next, gate_next};
+ghost use Rattle.cnf.specs.Tables.{IsTableOf};
+ghost use Rattle.signal_classes.specs.Paired.{AreLater, IsPairOf, IsTwice, at_next, gate_next, later_in};
 
 use crate::signal::{Signal, lits_of, negated_as, push_latches};
 use base::{Refused, Seq, copied, extend, filled, push};
+use cnf::NextTable;
 use cones::GateTable;
-use graph::{Gate, Latch, Lit, MOST_VARIABLES, Model, Parts, ReadError};
+use graph::{Gate, Lit, MOST_VARIABLES, Model, Parts, ReadError};
 use std::alloc::Global;
 
 /// A circuit at any time, and at the next one.
@@ -27,28 +29,40 @@ pub struct Pair {
     pub ranks: Vec<u32>,
 }
 
-/// Puts the next literal of each latch at its variable.
-fn put_nexts(later: &mut [Lit], latches: &[Latch])
-    ensures { length later.new ≡ length later.old }
+/// The literal of a variable at the next time: a latch's is its next literal, and each other variable is another one then.
+fn later_lit(nexts: &NextTable, most: u32, variable: u32) -> Lit
+    requires few { most ≤ 4194303 }
+    requires there { variable ≤ most }
+    ensures { result ≡ later_in nexts.now most variable }
 {
-    for latch in latches {
-        if let Some(lit) = later.get_mut(latch.lit.variable() as usize) {
-            *lit = latch.next;
-        }
+    if nexts.is_latch(variable) {
+        nexts.next_of(Lit(2 * variable))
+    } else {
+        Lit(2 * (variable + most))
     }
 }
 
-/// For each variable its literal at the next time: a latch's is its next literal.
-fn later_lits(alloc: Global, circuit: &Model) -> Result<Vec<Lit>, Refused> {
+/// For each variable its literal at the next time, by a table of the latches.
+fn lits_by(alloc: Global, nexts: &NextTable, circuit: &Model) -> Result<Vec<Lit>, Refused>
+    requires table { IsTableOf circuit.now.latches nexts.now }
+    ensures { IfOk result (λ ls. AreLater circuit.now ls.items) }
+{
     circuit.well_formed();
     let most = circuit.max_var();
     let mut later = Vec::new(alloc);
     push(&mut later, Lit(0))?;
     for variable in 1..most + 1 {
-        push(&mut later, Lit(2 * (variable + most)))?;
+        push(&mut later, later_lit(nexts, most, variable))?;
     }
-    put_nexts(later.as_mut_slice(), circuit.latches());
     Ok(later)
+}
+
+/// For each variable its literal at the next time.
+fn later_lits(alloc: Global, circuit: &Model) -> Result<Vec<Lit>, Refused>
+    ensures { IfOk result (λ ls. AreLater circuit.now ls.items) }
+{
+    let nexts = NextTable::new(alloc, circuit)?;
+    lits_by(alloc, &nexts, circuit)
 }
 
 /// The literal at the next time, by those of the variables.
