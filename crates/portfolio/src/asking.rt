@@ -31,7 +31,7 @@ use verdict::{DecideError, Verdict, decide, decide_by};
 const FIRST_PARTS: u64 = 8;
 
 /// How many steps they may take at most then.
-const FIRST_STEPS: u64 = 400_000;
+const FIRST_STEPS: u64 = 500_000;
 
 /// A shadow circuit has so many variables more for each latch.
 const SHADOWS: u64 = 8;
@@ -39,8 +39,20 @@ const SHADOWS: u64 = 8;
 /// So many variables the times that deeper bounded search looks at may have together.
 const VARIABLES: u64 = 1_000_000;
 
+/// Register correspondence and the engines behind it have so many steps at most before equal signals are looked for.
+const MERGED_STEPS: u64 = 40_000_000;
+
+/// Signal correspondence is asked then with one of so many parts of what is left.
+const SIGNALS_PARTS: u64 = 8;
+
+/// How many steps it may take at most.
+const SIGNALS_STEPS: u64 = 4_000_000;
+
+/// Where bounded search alone stands behind it, signal correspondence has one of so many parts of what is left.
+const HALVES: u64 = 2;
+
 /// The rounds of a justice property are counted then with one of so many parts of what is left.
-const ROUNDS_PARTS: u64 = 4;
+const ROUNDS_PARTS: u64 = 16;
 
 /// How many steps of a budget of its own `is_shown_safe` may cost.
 const OWN_STEPS: u64 = 100_000_000;
@@ -126,10 +138,11 @@ impl Question<'_> {
         )
     }
 
-    /// What register correspondence says, and bounded search behind it.
+    /// What register correspondence says, and bounded search through runs of at most so many steps behind it.
     fn corresponded(
         self,
         rt: &HostRuntime,
+        depth: u8,
         steps: u64,
         counters: &mut Counters,
     ) -> Result<(Verdict, u64), DecideError>
@@ -138,7 +151,7 @@ impl Question<'_> {
         ensures left { IfOk result (λ r. r.1 ≤ steps) }
     {
         let (alloc, timing) = (rt.alloc(), self.timing);
-        let bounded = bounded_by(rt, timing, timing.search.depth);
+        let bounded = bounded_by(rt, timing, depth);
         let engine = Corresponding::new(timing.solver(alloc), bounded);
         let mut engine = engine.with_progress(Reporter::new(rt, timing.shown));
         self.decided_by(rt, &mut engine, steps, counters)
@@ -149,8 +162,6 @@ impl Question<'_> {
         self,
         rt: &HostRuntime,
         candidates: Seq<Seq<Lit>>,
-        first: u8,
-        last: u8,
         steps: u64,
         counters: &mut Counters,
     ) -> Result<(Verdict, u64), DecideError>
@@ -158,11 +169,12 @@ impl Question<'_> {
         ensures meant { IfOk result (λ r. IsMeantWith self.entry.circuit.now self.entry.property r.1 r.0) }
         ensures left { IfOk result (λ r. r.1 ≤ steps) }
     {
+        let (first, last) = (self.timing.search.depth, self.last_depth());
         let mut engine = Merging::new(rt, self.timing, first, last, candidates)?;
         self.decided_by(rt, &mut engine, steps, counters)
     }
 
-    /// What bounded search says with at most half of so many steps, and IC3 and deeper bounded search with the others.
+    /// What bounded search says with at most four fifths of so many steps, and IC3 and deeper bounded search with the others.
     fn begun(
         self,
         rt: &HostRuntime,
@@ -380,9 +392,46 @@ impl Question<'_> {
         }
     }
 
-    /// What register correspondence says, and bounded search behind it, and else signal correspondence.
-    #[tactic(auto, using(crate::proofs::Told::meant_less))]
+    /// What signal correspondence comes to with at most so many of the steps.
+    fn signals_with(
+        self,
+        rt: &HostRuntime,
+        part: u64,
+        steps: u64,
+        counters: &mut Counters,
+    ) -> Result<(Option<Conclusion>, u64), DecideError>
+        ensures concluded { IfOk result (λ r. IfSome r.0 (IsConcluded self.entry.circuit.now self.entry.property)) }
+        ensures meant { IfOk result (λ r. IfSome r.0 (IsMeantIn self.entry.circuit.now self.entry.property r.1)) }
+        ensures left { IfOk result (λ r. r.1 ≤ steps) }
+    {
+        let (text, left) = self.signalled(rt, part, counters)?;
+        let rest = steps.saturating_sub(part.saturating_sub(left));
+        match text {
+            Some(text) => Ok((Some(Conclusion::Shown(text)), rest)),
+            None => Ok((None, rest)),
+        }
+    }
+
+    /// What register correspondence says of runs without a step, and else signal correspondence with half of what is left.
     fn both_corresponded(
+        self,
+        rt: &HostRuntime,
+        steps: u64,
+        counters: &mut Counters,
+    ) -> Result<(Option<Conclusion>, u64), DecideError>
+        ensures concluded { IfOk result (λ r. IfSome r.0 (IsConcluded self.entry.circuit.now self.entry.property)) }
+        ensures meant { IfOk result (λ r. IfSome r.0 (IsMeantIn self.entry.circuit.now self.entry.property r.1)) }
+        ensures left { IfOk result (λ r. r.1 ≤ steps) }
+    {
+        let (verdict, left) = self.corresponded(rt, 0, steps, counters)?;
+        match verdict {
+            Verdict::Unknown(_) => self.signals_with(rt, left / HALVES, left, counters),
+            found => Ok((Some(Conclusion::Decided(found)), left)),
+        }
+    }
+
+    /// What both correspondences say, and else bounded search behind equal registers.
+    fn corresponding(
         self,
         rt: &HostRuntime,
         steps: u64,
@@ -392,15 +441,13 @@ impl Question<'_> {
         ensures meant { IfOk result (λ r. IsMeantIn self.entry.circuit.now self.entry.property r.1 r.0) }
         ensures left { IfOk result (λ r. r.1 ≤ steps) }
     {
-        let (verdict, left) = self.corresponded(rt, steps, counters)?;
-        if !matches!(verdict, Verdict::Unknown(_)) {
-            return Ok((Conclusion::Decided(verdict), left));
+        let (found, rest) = self.both_corresponded(rt, steps, counters)?;
+        if let Some(conclusion) = found {
+            return Ok((conclusion, rest));
         }
-        let (text, rest) = self.signalled(rt, left, counters)?;
-        match text {
-            Some(text) => Ok((Conclusion::Shown(text), rest)),
-            None => Ok((Conclusion::Decided(verdict), rest)),
-        }
+        let depth = self.timing.search.depth;
+        let (verdict, left) = self.corresponded(rt, depth, rest, counters)?;
+        Ok((Conclusion::Decided(verdict), left))
     }
 
     /// What bounded search says, and else k-induction.
@@ -443,19 +490,62 @@ impl Question<'_> {
         if let Some(counted) = bound {
             return Ok((Conclusion::Counted(counted), rest));
         }
-        let (verdict, left) = self.merged(
-            rt,
-            candidates,
-            self.timing.search.depth,
-            self.last_depth(),
-            rest,
-            counters,
-        )?;
+        let (verdict, left) = self.merged(rt, candidates, rest, counters)?;
         Ok((Conclusion::Decided(verdict), left))
     }
 
-    /// What bounded search and IC3 say with few steps, else what the counting of rounds comes to, else register correspondence
-    /// and the two behind it.
+    /// What register correspondence and the engines behind it say with few steps, and else signal correspondence.
+    fn by_equals(
+        self,
+        rt: &HostRuntime,
+        candidates: Seq<Seq<Lit>>,
+        steps: u64,
+        counters: &mut Counters,
+    ) -> Result<(Option<Conclusion>, u64), DecideError>
+        ensures concluded { IfOk result (λ r. IfSome r.0 (IsConcluded self.entry.circuit.now self.entry.property)) }
+        ensures meant { IfOk result (λ r. IfSome r.0 (IsMeantIn self.entry.circuit.now self.entry.property r.1)) }
+        ensures left { IfOk result (λ r. r.1 ≤ steps) }
+    {
+        let few = steps.min(MERGED_STEPS);
+        let (verdict, left) = self.merged(rt, candidates, few, counters)?;
+        let rest = steps.saturating_sub(few.saturating_sub(left));
+        let part = (rest / SIGNALS_PARTS).min(SIGNALS_STEPS);
+        match verdict {
+            Verdict::Unknown(_) => self.signals_with(rt, part, rest, counters),
+            found => Ok((Some(Conclusion::Decided(found)), rest)),
+        }
+    }
+
+    /// Whether equal signals may show the property.
+    fn is_for_signals(self) -> bool {
+        self.by_text && !matches!(self.property, Property::Justice(_))
+    }
+
+    /// What equal registers and signals come to, where signals may show the property; else what the counting of rounds comes to,
+    /// else register correspondence and the engines behind it.
+    fn behind(
+        self,
+        rt: &HostRuntime,
+        candidates: Seq<Seq<Lit>>,
+        steps: u64,
+        counters: &mut Counters,
+    ) -> Result<(Conclusion, u64), DecideError>
+        ensures concluded { IfOk result (λ r. IsConcluded self.entry.circuit.now self.entry.property r.0) }
+        ensures meant { IfOk result (λ r. IsMeantIn self.entry.circuit.now self.entry.property r.1 r.0) }
+        ensures left { IfOk result (λ r. r.1 ≤ steps) }
+    {
+        if !self.is_for_signals() {
+            return self.counted_or_merged(rt, candidates, steps, counters);
+        }
+        let first = copied(rt.alloc(), candidates.as_slice())?;
+        let (found, rest) = self.by_equals(rt, first, steps, counters)?;
+        match found {
+            Some(conclusion) => Ok((conclusion, rest)),
+            None => self.counted_or_merged(rt, candidates, rest, counters),
+        }
+    }
+
+    /// What bounded search and IC3 say with few steps, and else what stands behind them.
     fn staged(
         self,
         rt: &HostRuntime,
@@ -479,7 +569,7 @@ impl Question<'_> {
         )?;
         let rest = all.saturating_sub(few.saturating_sub(left));
         match verdict {
-            Verdict::Unknown(_) => self.counted_or_merged(rt, candidates, rest, counters),
+            Verdict::Unknown(_) => self.behind(rt, candidates, rest, counters),
             found => Ok((Conclusion::Decided(found), rest)),
         }
     }
@@ -519,7 +609,7 @@ impl Question<'_> {
             EngineKind::All => return self.staged(rt, candidates, counters),
             EngineKind::Rounds => return self.rounds_alone(rt, counters),
             EngineKind::KInduction => return self.bounded_or_induced(rt, budget, counters),
-            EngineKind::Corresponding => return self.both_corresponded(rt, budget, counters),
+            EngineKind::Corresponding => return self.corresponding(rt, budget, counters),
             EngineKind::Bounded => self.bounded(rt, budget, counters)?,
             EngineKind::Inductive => self.inductive(rt, candidates, budget, counters)?,
             EngineKind::Random => self.simulated(rt, budget, counters)?,

@@ -19,7 +19,7 @@ use ic3::Ic3;
 use std::alloc::Global;
 
 /// IC3 and deeper bounded search have at least one of so many parts of the budget.
-const HALVES: u64 = 2;
+const FIFTHS: u64 = 5;
 
 /// Asks bounded search, then IC3 and then deeper bounded search.
 #[derive(Drop)]
@@ -45,7 +45,7 @@ impl Beginning {
         let behind = deepening(rt, timing, last, candidates)?;
         let bounded = bounded_by(rt, timing, first);
         Ok(Beginning {
-            engine: InShares::new(rt.alloc(), bounded, behind, HALVES)?,
+            engine: InShares::new(rt.alloc(), bounded, behind, FIFTHS)?,
         })
     }
 }
