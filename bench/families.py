@@ -277,6 +277,76 @@ def closed_buffer(places):
     return circuit.justice_text([circuit.conjunction(closed, taken)])
 
 
+def counted(circuit, latches, carry):
+    """The next literals of latches that count where the carry is set."""
+    following = []
+    for latch in latches:
+        following.append(circuit.exclusive_or(latch, carry))
+        carry = circuit.conjunction(carry, latch)
+    return following
+
+
+def waiting_uart(divider):
+    """A transmitter sends ten bits, each for 2^divider steps; wanted: somebody waits for it to be idle."""
+    circuit = Circuit()
+    sends, asked = circuit.add_input(), circuit.add_input()
+    baud, place = [circuit.add_latch() for _ in range(divider)], [circuit.add_latch() for _ in range(4)]
+    word = [(circuit.add_input(), circuit.add_latch()) for _ in range(8)]
+    idle, ticks = is_number(circuit, place, 0), circuit.all_of(baud)
+    starts, ends = circuit.conjunction(idle, sends), is_number(circuit, place, 10)
+    for latch, following in zip(baud, counted(circuit, baud, idle ^ 1)):
+        circuit.set_next(latch, following)
+    for k, (latch, following) in enumerate(zip(place, counted(circuit, place, 1))):
+        moved = circuit.choice(ticks, circuit.conjunction(following, ends ^ 1), latch)
+        circuit.set_next(latch, circuit.choice(idle, starts if k == 0 else 0, moved))
+    above = [latch for _, latch in word[1:]] + [1]
+    for (bit, latch), following in zip(word, above):
+        circuit.set_next(latch, circuit.choice(starts, bit, circuit.choice(ticks, following, latch)))
+    return circuit.justice_text([circuit.waits(asked, idle)])
+
+
+def waiting_handshake(steps):
+    """A request stays until its acknowledgement, which comes so many steps later or sooner; wanted: somebody waits for it."""
+    circuit = Circuit()
+    asks, early, guessed = circuit.add_input(), circuit.add_input(), circuit.add_input()
+    request, acknowledged = circuit.add_latch(), circuit.add_latch()
+    waited = [circuit.add_latch() for _ in range(steps)]  # latch k: for more than k steps
+    due = circuit.conjunction(early ^ 1, waited[-1] ^ 1) ^ 1
+    circuit.set_next(request, circuit.conjunction(circuit.conjunction(request ^ 1, asks ^ 1) ^ 1, acknowledged ^ 1))
+    circuit.set_next(acknowledged, circuit.conjunction(request, due))
+    open_still = circuit.conjunction(request, acknowledged ^ 1)
+    for latch, before in zip(waited, [1] + waited):
+        circuit.set_next(latch, circuit.conjunction(open_still, before))
+    return circuit.justice_text([circuit.waits(circuit.conjunction(open_still, guessed), acknowledged)])
+
+
+def waiting_servers(servers):
+    """A request goes from server to server, each of which lets it through again and again; wanted: somebody waits for the
+    last one."""
+    circuit = Circuit()
+    asks, guessed = circuit.add_input(), circuit.add_input()
+    lets, request = [circuit.add_input() for _ in range(servers)], circuit.add_latch()
+    done = [circuit.add_latch() for _ in range(servers)]
+    asked = circuit.conjunction(request ^ 1, asks ^ 1) ^ 1
+    circuit.set_next(request, circuit.conjunction(asked, done[-1] ^ 1))
+    for let, latch, before in zip(lets, done, [1] + done):
+        passed = circuit.conjunction(latch ^ 1, circuit.conjunction(let, before) ^ 1) ^ 1
+        circuit.set_next(latch, circuit.conjunction(request, passed))
+    open_still = circuit.conjunction(request, done[-1] ^ 1)
+    return circuit.justice_text([circuit.waits(circuit.conjunction(open_still, guessed), done[-1])], lets)
+
+
+def ending_counter(values):
+    """A counter counts where the input allows it, up to its last value; wanted: it has that."""
+    circuit = Circuit()
+    counts = circuit.add_input()
+    latches = [circuit.add_latch() for _ in range((values - 1).bit_length())]
+    last = is_number(circuit, latches, values - 1)
+    for latch, following in zip(latches, counted(circuit, latches, circuit.conjunction(counts, last ^ 1))):
+        circuit.set_next(latch, following)
+    return circuit.justice_text([last], [counts])
+
+
 # Circuits without a violation, by their names.
 SAFE = [
     ("counter of 8 bits, back after 199", safe_counter(8, 199, 220)),
@@ -319,4 +389,13 @@ JUST = [
     ("waiting for a counter, bits", waiting_counter, (2, 3, 4, 5, 6)),
     ("phases, latches", phases, (4, 8, 16, 32, 64)),
     ("a closed buffer, places", closed_buffer, (4, 8, 16, 32, 64)),
+    ("waiting for a UART, divider's bits", waiting_uart, (1, 2, 3, 4, 5)),
+    ("waiting in a handshake, steps", waiting_handshake, (4, 8, 16, 32, 64)),
+    ("waiting for servers", waiting_servers, (2, 4, 8, 16, 32)),
 ]
+
+# Those of them whose wanted literal may be set and cleared again. Of the others it stays, where it is set again and again.
+PULSES = (phases, closed_buffer)
+
+# Families with a justice property that is violated, with their sizes.
+LASSOS = [("a counter that ends, values", ending_counter, (8, 16, 32, 64))]
