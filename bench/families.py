@@ -306,7 +306,7 @@ def waiting_uart(divider):
 
 
 def waiting_handshake(steps):
-    """A request stays until its acknowledgement, which comes so many steps later or sooner; wanted: somebody waits for it."""
+    """A request stays until its acknowledgement, which comes so many steps later or sooner; wanted: somebody waits."""
     circuit = Circuit()
     asks, early, guessed = circuit.add_input(), circuit.add_input(), circuit.add_input()
     request, acknowledged = circuit.add_latch(), circuit.add_latch()
@@ -321,8 +321,8 @@ def waiting_handshake(steps):
 
 
 def waiting_servers(servers):
-    """A request goes from server to server, each of which lets it through again and again; wanted: somebody waits for the
-    last one."""
+    """A request goes from server to server, each of which lets it through again and again; wanted: somebody waits for
+    the last one."""
     circuit = Circuit()
     asks, guessed = circuit.add_input(), circuit.add_input()
     lets, request = [circuit.add_input() for _ in range(servers)], circuit.add_latch()
@@ -394,7 +394,8 @@ JUST = [
     ("waiting for servers", waiting_servers, (2, 4, 8, 16, 32)),
 ]
 
-# Those of them whose wanted literal may be set and cleared again. Of the others it stays, where it is set again and again.
+# Those of them whose wanted literal may be set and cleared again. Of the others it stays set, where it is so again and
+# again.
 PULSES = (phases, closed_buffer)
 
 # Families with a justice property that is violated, with their sizes.
