@@ -19,7 +19,7 @@ const NEAR_STEPS: u64 = 2_000;
 const MOST_STEPS: u64 = 300_000;
 
 /// So many gates are made, or gathered for a question, for one step of the budget.
-const GATES_A_STEP: usize = 64;
+const GATES_A_STEP: usize = 8;
 
 /// What a round says of the classes.
 #[derive(Clone, Copy, PartialEq, Eq)]
@@ -403,12 +403,14 @@ impl<'a> Search<'a> {
         parts: &mut Parts,
         situation: &[bool],
         place: usize,
+        budget: &mut Budget,
     ) -> Result<(), SatError>
         requires vars { S.vars solver.old ≡ parts.old }
         ensures vars { S.vars solver.new ≡ S.vars solver.old }
         ensures parts { parts.new ≡ parts.old }
+        ensures spends { Spends budget.old budget.new }
     {
-        let violated = self.violated(alloc, parts.taken(), situation)?;
+        let violated = self.violated(alloc, parts.taken(), situation, budget)?;
         if !ask_also(solver, alloc, parts, violated.as_slice())? {
             self.classes.part(place);
         }
@@ -436,7 +438,8 @@ impl<'a> Search<'a> {
         if self.is_split_by(alloc, situation.as_slice(), question, budget)? {
             return Ok(());
         }
-        self.doubt(solver, alloc, parts, situation.as_slice(), question.place)
+        let (situation, place) = (situation.as_slice(), question.place);
+        self.doubt(solver, alloc, parts, situation, place, budget)
     }
 
     /// Asks until the signal is equal to the first of its class, or has no other before it. False where the budget is exhausted.

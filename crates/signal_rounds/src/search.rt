@@ -1,6 +1,6 @@
 //! Splitting classes by simulation.
 
-ghost use Rattle.std.specs.Prelude.{◌<◌, IfOk, IsSome, IsTrue};
+ghost use Rattle.std.specs.Prelude.{◌≡◌, ◌<◌, IfOk, IsSome, IsTrue, false};
 ghost use Rattle.base.specs.Budget.{Spends};
 
 use crate::parts::Taken;
@@ -20,8 +20,8 @@ const RESETS: u32 = 4;
 
 const STEPS: u32 = 64;
 
-/// Gates that are simulated in 256 runs for one step of the budget.
-const GATES: usize = 64;
+/// Gates that are simulated in 256 runs for one step of the budget, which so costs as long as elsewhere.
+const GATES: usize = 16;
 
 /// How many values are flipped in 256 runs around a situation.
 const FLIPS: u32 = 768;
@@ -40,18 +40,15 @@ pub(crate) struct Search<'a> {
     generator: Lcg128Xsl64,
 }
 
-/// Pays for the simulation of one step. False where the budget is exhausted.
+/// Pays for the simulation of one step. False where nothing is left of the budget then.
 fn pay(circuit: &Model, budget: &mut Budget) -> bool
-    ensures { Spends budget.old budget.new }
+    ensures spends { Spends budget.old budget.new }
+    ensures spent { result ≡ false → budget.new.left ≡ 0 }
 {
     circuit.well_formed();
     let cost = (circuit.gates().len() + circuit.latches().len()) / GATES + 1;
-    for _ in 0..cost {
-        if !budget.tick() {
-            return false;
-        }
-    }
-    true
+    budget.spend(cost as u64);
+    budget.left() > 0
 }
 
 /// The values of one run.
@@ -402,14 +399,17 @@ impl<'a> Search<'a> {
         Ok(differing)
     }
 
-    /// Which of what is taken to be equal is not so in a situation.
+    /// Which of what is taken to be equal is not so in a situation. None of it where the budget is exhausted.
     pub(crate) fn violated(
         &mut self,
         alloc: Global,
         taken: &[Taken],
         situation: &[bool],
-    ) -> Result<Vec<Taken>, Refused> {
-        if !self.step_at(alloc, situation)? {
+        budget: &mut Budget,
+    ) -> Result<Vec<Taken>, Refused>
+        ensures { Spends budget.old budget.new }
+    {
+        if !pay(&self.pair.circuit, budget) || !self.step_at(alloc, situation)? {
             return Ok(Vec::new(alloc));
         }
         self.differing(alloc, taken)
