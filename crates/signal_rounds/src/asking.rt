@@ -1,4 +1,4 @@
-//! Asking a solver whether signals are equal.
+//! Asking a solver whether signals are equal, or true wherever others are.
 
 ghost use Rattle.std.specs.Prelude.{◌≡◌, IfOk, OnOk, None, false};
 ghost use Rattle.base.specs.Budget.{Spends};
@@ -21,12 +21,12 @@ const MOST_STEPS: u64 = 300_000;
 /// So many gates are made, or gathered for a question, for one step of the budget.
 const GATES_A_STEP: usize = 8;
 
-/// What a round says of the classes.
+/// What a round says of the classes and implications.
 #[derive(Clone, Copy, PartialEq, Eq)]
 pub(crate) enum Round {
-    /// Signals that are equal stay equal.
+    /// Signals that are equal stay equal, and what implies others still does.
     Stays,
-    /// A class was split.
+    /// A class was split, or an implication violated.
     Split,
     /// The classes don't exclude the literal, so no later ones do.
     Open,
@@ -285,20 +285,6 @@ fn value_of(values: &[bool], lit: Lit) -> bool {
     (lit.variable() > 0 && value.unwrap_or(false)) != lit.is_negated()
 }
 
-/// The values of the inputs, by those of what they are looked at as.
-fn situation_of(
-    alloc: Global,
-    parts: &Parts,
-    inputs: &[Lit],
-    values: &[bool],
-) -> Result<Vec<bool>, Refused> {
-    let mut row = Vec::new(alloc);
-    for input in inputs {
-        push(&mut row, value_of(values, parts.root(*input)))?;
-    }
-    Ok(row)
-}
-
 /// Has the constraints be true.
 fn constrain<S: Sat>(
     solver: &mut S,
@@ -394,15 +380,97 @@ impl<'a> Search<'a> {
         Ok(self.classes.lead(question.place) != lead)
     }
 
-    /// Has the next questions also be about what is taken to be equal and isn't so in a situation. Where there is no such thing,
-    /// the signal comes into a class of its own.
+    /// Has the next questions also be about what is taken to hold and does not so in a situation. False where there is no such
+    /// thing.
     fn doubt<S: Sat>(
         &mut self,
         solver: &mut S,
         alloc: Global,
         parts: &mut Parts,
         situation: &[bool],
+        is_later: bool,
+        budget: &mut Budget,
+    ) -> Result<bool, SatError>
+        requires vars { S.vars solver.old ≡ parts.old }
+        ensures vars { S.vars solver.new ≡ S.vars solver.old }
+        ensures parts { parts.new ≡ parts.old }
+        ensures spends { Spends budget.old budget.new }
+    {
+        let violated = self.violated(alloc, parts.taken(), situation, is_later, budget)?;
+        let is_new = ask_also(solver, alloc, parts, violated.taken.as_slice())?;
+        let places = violated.implications.as_slice();
+        Ok(self.use_implications(solver, alloc, parts, places)? || is_new)
+    }
+
+    /// Has the next questions also be about these implications. False where they all are so already.
+    fn use_implications<S: Sat>(
+        &mut self,
+        solver: &mut S,
+        alloc: Global,
+        parts: &mut Parts,
+        places: &[usize],
+    ) -> Result<bool, SatError>
+        requires vars { S.vars solver.old ≡ parts.old }
+        ensures vars { S.vars solver.new ≡ S.vars solver.old }
+        ensures parts { parts.new ≡ parts.old }
+    {
+        let mut is_new = false;
+        'adding: for place in places {
+            if self.implications.take(*place)? {
+                is_new = true;
+                self.add_used(solver, alloc, parts, *place)?;
+            }
+        }
+        Ok(is_new)
+    }
+
+    /// Adds the implication at a place, where no run violates it, and has the next questions also be about it.
+    fn add_used<S: Sat>(
+        &self,
+        solver: &mut S,
+        alloc: Global,
+        parts: &mut Parts,
         place: usize,
+    ) -> Result<(), SatError>
+        requires vars { S.vars solver.old ≡ parts.old }
+        ensures vars { S.vars solver.new ≡ S.vars solver.old }
+        ensures parts { parts.new ≡ parts.old }
+    {
+        let Some(implication) = self.implications.left(place) else {
+            return Ok(());
+        };
+        let high = parts.root(implication.high.now);
+        let low = parts.root(implication.low.now);
+        parts.ask_also_of(high, low)?;
+        add_implication(solver, alloc, parts, high, low)
+    }
+
+    /// Adds the implications by which others are shown.
+    fn add_all_used<S: Sat>(
+        &self,
+        solver: &mut S,
+        alloc: Global,
+        parts: &mut Parts,
+    ) -> Result<(), SatError>
+        requires vars { S.vars solver.old ≡ parts.old }
+        ensures vars { S.vars solver.new ≡ S.vars solver.old }
+        ensures parts { parts.new ≡ parts.old }
+    {
+        'adding: for place in self.implications.used() {
+            self.add_used(solver, alloc, parts, *place)?;
+        }
+        Ok(())
+    }
+
+    /// Drops implications by values that violate the one at a place. Where these are none of a situation in which those hold that
+    /// are taken to, the next questions are about that too. Where that is no reason, the one at the place is dropped.
+    fn drop_by<S: Sat>(
+        &mut self,
+        solver: &mut S,
+        alloc: Global,
+        parts: &mut Parts,
+        question: Question,
+        values: &[bool],
         budget: &mut Budget,
     ) -> Result<(), SatError>
         requires vars { S.vars solver.old ≡ parts.old }
@@ -410,11 +478,106 @@ impl<'a> Search<'a> {
         ensures parts { parts.new ≡ parts.old }
         ensures spends { Spends budget.old budget.new }
     {
-        let violated = self.violated(alloc, parts.taken(), situation, budget)?;
-        if !ask_also(solver, alloc, parts, violated.as_slice())? {
-            self.classes.part(place);
+        let Question { place, is_later } = question;
+        let situation = self.situation_of(alloc, parts, values)?;
+        let first = copied(alloc, situation.as_slice())?;
+        self.chase(alloc, first, is_later, budget)?;
+        let situation = situation.as_slice();
+        if self.implications.left(place).is_some()
+            && !self.doubt(solver, alloc, parts, situation, is_later, budget)?
+        {
+            self.implications.discard(place);
         }
         Ok(())
+    }
+
+    /// Asks until the implication at a place is shown, or is dropped. False where the budget is exhausted.
+    fn ask_used<S: PartSat>(
+        &mut self,
+        solver: &mut S,
+        alloc: Global,
+        parts: &mut Parts,
+        question: Question,
+        budget: &mut Budget,
+    ) -> Result<bool, SatError>
+        requires vars { S.vars solver.old ≡ parts.old }
+        ensures vars { S.vars solver.new ≡ S.vars solver.old }
+        ensures parts { parts.new ≡ parts.old }
+        ensures spends { Spends budget.old budget.new }
+        ensures spent { IfOk result (λ b. b ≡ false → budget.new.left ≡ 0) }
+    {
+        let Question { place, is_later } = question;
+        'asking: while budget.tick() {
+            let Some(implication) = self.implications.left(place) else {
+                return Ok(true);
+            };
+            let high = parts.root(implication.high.at(is_later));
+            let low = parts.root(implication.low.at(is_later));
+            if high == low {
+                return Ok(true);
+            }
+            match ask_implication(solver, alloc, parts, high, low, budget)? {
+                Reply::Equal => return Ok(true),
+                Reply::Differ(values) => {
+                    self.drop_by(solver, alloc, parts, question, values.as_slice(), budget)?;
+                }
+                Reply::Unknown => self.implications.discard(place),
+            }
+        }
+        Ok(false)
+    }
+
+    /// Asks so of each implication by which others are shown. False where the budget is exhausted.
+    fn ask_all_used<S: PartSat>(
+        &mut self,
+        solver: &mut S,
+        alloc: Global,
+        parts: &mut Parts,
+        is_later: bool,
+        budget: &mut Budget,
+    ) -> Result<bool, SatError>
+        requires vars { S.vars solver.old ≡ parts.old }
+        ensures vars { S.vars solver.new ≡ S.vars solver.old }
+        ensures parts { parts.new ≡ parts.old }
+        ensures spends { Spends budget.old budget.new }
+        ensures spent { IfOk result (λ b. b ≡ false → budget.new.left ≡ 0) }
+    {
+        let mut count = 0_usize;
+        'asking: while budget.tick() {
+            let Some(place) = self.implications.used().get(count).copied() else {
+                return Ok(true);
+            };
+            let question = Question { place, is_later };
+            if !self.ask_used(solver, alloc, parts, question, budget)? {
+                return Ok(false);
+            }
+            count = count.saturating_add(1);
+        }
+        Ok(false)
+    }
+
+    /// The value of an input of the pair, or where there are implications in the first run, if the last part does not have it.
+    fn value_in(&self, parts: &Parts, values: &[bool], input: Lit) -> bool {
+        let root = parts.root(input);
+        if self.implications.len() == 0 || root.variable() == 0 || parts.has(root.variable()) {
+            return value_of(values, root);
+        }
+        let signal = self.classes.signal(self.pair.rank(input) as usize);
+        signal.now.variable() == input.variable() && signal.now.is_negated()
+    }
+
+    /// The values of the inputs of the pair, or those in the first run of what the last part does not have.
+    fn situation_of(
+        &self,
+        alloc: Global,
+        parts: &Parts,
+        values: &[bool],
+    ) -> Result<Vec<bool>, Refused> {
+        let mut row = Vec::new(alloc);
+        for input in self.pair.circuit.inputs() {
+            push(&mut row, self.value_in(parts, values, *input))?;
+        }
+        Ok(row)
     }
 
     /// Splits the classes by values by which the signal differs from the first of its class. Where these are none of a situation
@@ -434,12 +597,15 @@ impl<'a> Search<'a> {
         ensures parts { parts.new ≡ parts.old }
         ensures spends { Spends budget.old budget.new }
     {
-        let situation = situation_of(alloc, parts, self.pair.circuit.inputs(), values)?;
+        let situation = self.situation_of(alloc, parts, values)?;
         if self.is_split_by(alloc, situation.as_slice(), question, budget)? {
             return Ok(());
         }
-        let (situation, place) = (situation.as_slice(), question.place);
-        self.doubt(solver, alloc, parts, situation, place, budget)
+        let (situation, is_later) = (situation.as_slice(), question.is_later);
+        if !self.doubt(solver, alloc, parts, situation, is_later, budget)? {
+            self.classes.part(question.place);
+        }
+        Ok(())
     }
 
     /// Asks until the signal is equal to the first of its class, or has no other before it. False where the budget is exhausted.
@@ -547,7 +713,34 @@ impl<'a> Search<'a> {
                 ended => return Ok(ended),
             }
         }
-        if self.classes.count() == count {
+        if self.classes.count() != count {
+            return Ok(Round::Split);
+        }
+        self.round_of_used(solver, alloc, parts, is_later, bad, budget)
+    }
+
+    /// Asks of each implication by which others are shown. Answers whether one of them was violated, or a class was split.
+    fn round_of_used<S: PartSat>(
+        &mut self,
+        solver: &mut S,
+        alloc: Global,
+        parts: &mut Parts,
+        is_later: bool,
+        bad: Lit,
+        budget: &mut Budget,
+    ) -> Result<Round, SatError>
+        requires vars { S.vars solver.old ≡ parts.old }
+        ensures spends { Spends budget.old budget.new }
+        ensures spent { IfOk result (λ r. r ≡ Spent → budget.new.left ≡ 0) }
+    {
+        let (count, lost) = (self.classes.count(), self.implications.lost());
+        if !self.ask_all_used(solver, alloc, parts, is_later, budget)? {
+            return Ok(Round::Spent);
+        }
+        if !self.excludes(bad) {
+            return Ok(Round::Open);
+        }
+        if self.classes.count() == count && self.implications.lost() == lost {
             Ok(Round::Stays)
         } else {
             Ok(Round::Split)
@@ -573,6 +766,9 @@ impl<'a> Search<'a> {
             take_resets(parts, self.circuit.latches())?;
         }
         self.begin_round(solver, alloc, parts, is_later, budget)?;
+        if is_later {
+            self.add_all_used(solver, alloc, parts)?;
+        }
         self.ask_places(solver, alloc, parts, is_later, bad, budget)
     }
 
@@ -593,7 +789,7 @@ impl<'a> Search<'a> {
     }
 
     /// Whether the signal at a place is a latch.
-    fn is_latch(&self, place: usize) -> bool {
+    pub(crate) fn is_latch(&self, place: usize) -> bool {
         let inputs = self.circuit.inputs().len();
         inputs < place && !self.is_gate(place)
     }
@@ -698,6 +894,7 @@ impl<'a> Search<'a> {
     {
         let mut parts = Parts::new(alloc, self.pair)?;
         self.begin_round(solver, alloc, &mut parts, false, budget)?;
+        self.add_all_used(solver, alloc, &mut parts)?;
         self.needed_places(solver, alloc, &mut parts, budget)
     }
 }

@@ -16,12 +16,18 @@ use signal_classes::{Classes, Pair};
 use solver::{PartSat, SatError};
 use std::alloc::Global;
 
+/// Implications are looked for with one of so many parts of what is left of the budget.
+const IMPLIED_PARTS: u64 = 2;
+
+/// How many steps that may cost, times the circuit's variables.
+const IMPLIED_STEPS: u64 = 12_000_000_000;
+
 /// What is found of a circuit's signals.
 #[derive(Drop)]
 pub enum Found {
-    /// Clauses that say which signals are equal. They exclude the literal.
+    /// Clauses that say which signals are equal, and which are true wherever others are. They exclude the literal.
     Clauses(Seq<Seq<Lit>>),
-    /// The classes of equal signals don't exclude the literal.
+    /// Signals that are equal don't exclude the literal, nor do implications, as far as these were looked for.
     Open,
     /// The circuit at two times has too many variables.
     Variables,
@@ -88,8 +94,31 @@ fn needed<S: PartSat>(
     ensures spent { IfOk result (λ r. r ≡ Spent → budget.new.left ≡ 0) }
 {
     match search.ask_now(solver, alloc, budget)? {
-        Some(places) => Ok(Found::Clauses(search.classes.clauses(alloc, places.as_slice())?)),
+        Some(places) => {
+            let mut clauses = search.classes.clauses(alloc, places.as_slice())?;
+            search.implications.push_clauses(alloc, &mut clauses)?;
+            Ok(Found::Clauses(clauses))
+        }
         None => Ok(Found::Spent),
+    }
+}
+
+/// What is found where the rounds ended so.
+fn found_of<S: PartSat>(
+    solver: &mut S,
+    alloc: Global,
+    search: &Search,
+    round: Round,
+    budget: &mut Budget,
+) -> Result<Found, SatError>
+    requires spent { round ≡ RoundSpent → budget.old.left ≡ 0 }
+    ensures spends { Spends budget.old budget.new }
+    ensures spent { IfOk result (λ r. r ≡ Spent → budget.new.left ≡ 0) }
+{
+    match round {
+        Round::Stays => needed(solver, alloc, search, budget),
+        Round::Spent => Ok(Found::Spent),
+        Round::Open | Round::Split => Ok(Found::Open),
     }
 }
 
@@ -105,11 +134,8 @@ fn found_by<S: PartSat, P: Progress>(
     ensures spends { Spends budget.old budget.new }
     ensures spent { IfOk result (λ r. r ≡ Spent → budget.new.left ≡ 0) }
 {
-    match correspond(solver, alloc, search, bad, progress, budget)? {
-        Round::Stays => needed(solver, alloc, search, budget),
-        Round::Spent => Ok(Found::Spent),
-        Round::Open | Round::Split => Ok(Found::Open),
-    }
+    let round = correspond(solver, alloc, search, bad, progress, budget)?;
+    found_of(solver, alloc, search, round, budget)
 }
 
 /// A search through the signals of the circuit, in which those of which the literal is made may be equal. None where the circuit
@@ -141,13 +167,117 @@ fn found_in<S: PartSat, P: Progress>(
     ensures spends { Spends budget.old budget.new }
     ensures spent { IfOk result (λ r. r ≡ Spent → budget.new.left ≡ 0) }
 {
-    match search_for(alloc, circuit, pair, bad)? {
-        Some(mut search) => found_by(solver, alloc, &mut search, bad, progress, budget),
-        None => Ok(Found::Open),
+    let Some(mut search) = search_for(alloc, circuit, pair, bad)? else {
+        return Ok(Found::Open);
+    };
+    match found_by(solver, alloc, &mut search, bad, progress, budget)? {
+        Found::Open => found_behind(alloc, circuit, pair, bad, solver, progress, budget),
+        found => Ok(found),
     }
 }
 
-/// Looks for signals of the circuit that are equal at each time, and exclude the literal. Neither the solver nor what is found is
+/// What is found with implications and a part of the budget.
+fn found_behind<S: PartSat, P: Progress>(
+    alloc: Global,
+    circuit: &Model,
+    pair: &Pair,
+    bad: Lit,
+    solver: &mut S,
+    progress: &mut P,
+    budget: &mut Budget,
+) -> Result<Found, SatError>
+    requires { variable bad ≤ circuit.now.max_var }
+    ensures spends { Spends budget.old budget.new }
+    ensures spent { IfOk result (λ r. r ≡ Spent → budget.new.left ≡ 0) }
+{
+    let most = IMPLIED_STEPS / u64::from(circuit.max_var()).max(1);
+    let mut piece = Budget::new((budget.left() / IMPLIED_PARTS).min(most));
+    let found = found_implied(alloc, circuit, pair, bad, solver, progress, &mut piece)?;
+    budget.spend(piece.spent());
+    match found {
+        Found::Spent => Ok(Found::Open),
+        found => Ok(found),
+    }
+}
+
+/// What the rounds end in with implications: in the end they are shown by no others than they need.
+fn induce_implied<S: PartSat, P: Progress>(
+    solver: &mut S,
+    alloc: Global,
+    search: &mut Search,
+    bad: Lit,
+    progress: &mut P,
+    budget: &mut Budget,
+) -> Result<Round, SatError>
+    ensures spends { Spends budget.old budget.new }
+    ensures spent { IfOk result (λ r. r ≡ RoundSpent → budget.new.left ≡ 0) }
+{
+    match induce(solver, alloc, search, bad, progress, budget)? {
+        Round::Stays => {}
+        ended => return Ok(ended),
+    }
+    search.implications.forget();
+    induce(solver, alloc, search, bad, progress, budget)
+}
+
+/// What the rounds end in with implications, where the first states keep to those that are used.
+fn correspond_implied<S: PartSat, P: Progress>(
+    solver: &mut S,
+    alloc: Global,
+    search: &mut Search,
+    bad: Lit,
+    progress: &mut P,
+    budget: &mut Budget,
+) -> Result<Round, SatError>
+    ensures spends { Spends budget.old budget.new }
+    ensures spent { IfOk result (λ r. r ≡ RoundSpent → budget.new.left ≡ 0) }
+{
+    'corresponding: while budget.tick() {
+        match induce_implied(solver, alloc, search, bad, progress, budget)? {
+            Round::Stays => {}
+            ended => return Ok(ended),
+        }
+        match search.ask_all(solver, alloc, false, bad, budget)? {
+            Round::Split => {}
+            ended => return Ok(ended),
+        }
+    }
+    Ok(Round::Spent)
+}
+
+/// What is found of the signals of the circuit with implications.
+fn found_implied<S: PartSat, P: Progress>(
+    alloc: Global,
+    circuit: &Model,
+    pair: &Pair,
+    bad: Lit,
+    solver: &mut S,
+    progress: &mut P,
+    budget: &mut Budget,
+) -> Result<Found, SatError>
+    requires { variable bad ≤ circuit.now.max_var }
+    ensures spends { Spends budget.old budget.new }
+    ensures spent { IfOk result (λ r. r ≡ Spent → budget.new.left ≡ 0) }
+{
+    let Some(mut search) = search_for(alloc, circuit, pair, bad)? else {
+        return Ok(Found::Open);
+    };
+    search.simulate(alloc, budget)?;
+    search.sample(alloc, bad, budget)?;
+    if search.implications.len() == 0 || !search.excludes(bad) {
+        return Ok(Found::Open);
+    }
+    match search.ask_all(solver, alloc, false, bad, budget)? {
+        Round::Spent => return Ok(Found::Spent),
+        Round::Open => return Ok(Found::Open),
+        Round::Stays | Round::Split => {}
+    }
+    let round = correspond_implied(solver, alloc, &mut search, bad, progress, budget)?;
+    found_of(solver, alloc, &search, round, budget)
+}
+
+/// Looks for signals of the circuit that are equal at each time, and exclude the literal; where they don't, for signals that are true
+/// wherever others are too, with half of what is left of the budget and a limit. Neither the solver nor what is found is
 /// believed: whoever asks proves the clauses. A literal of a variable that the circuit does not have is not looked at.
 ///
 /// It takes the circuit twice, with its clauses.

@@ -207,6 +207,19 @@ impl<'a> Parts<'a> {
         Ok(true)
     }
 
+    /// Has questions about more than a few gates also be about these literals.
+    pub(crate) fn ask_also_of(&mut self, one: Lit, other: Lit) -> Result<(), Refused>
+        ensures { self.new ≡ self.old }
+    {
+        push(&mut self.also, one)?;
+        push(&mut self.also, other)
+    }
+
+    /// Whether the last part has the variable.
+    pub(crate) fn has(&self, variable: u32) -> bool {
+        self.marks.get(variable as usize).copied() == Some(self.mark)
+    }
+
     /// Begins another part, which has nothing yet.
     fn clear(&mut self)
         ensures { self.new ≡ self.old }

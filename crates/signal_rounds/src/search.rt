@@ -10,7 +10,8 @@ use rand_core::SeedableRng;
 use rand_core::utils::NextWord;
 use rand_pcg::Lcg128Xsl64;
 use random_runs::{Bias, Runs, draw_biases, draw_row, rare, uniform};
-use signal_classes::{Classes, Pair};
+use signal_classes::{Classes, Pair, Signal};
+use signal_implications::{Implications, Samples, near};
 use simulate::lanes::{all, both, none, value};
 use std::alloc::Global;
 use std::simd::u64x4;
@@ -23,11 +24,31 @@ const STEPS: u32 = 64;
 /// Gates that are simulated in 256 runs for one step of the budget, which so costs as long as elsewhere.
 const GATES: usize = 16;
 
+/// Implications that are looked at in 256 runs for one step of the budget.
+const IMPLICATIONS: usize = 8;
+
 /// How many values are flipped in 256 runs around a situation.
 const FLIPS: u32 = 768;
 
 /// The most variables of a run that questions are about at once, of those that are not what they are taken to be.
 const MOST_TAKEN: usize = 8;
+
+/// How many steps the situations behind one that split a class are simulated at most.
+const FRAMES: u32 = 32;
+
+/// The most signals that are sampled.
+const MOST_SAMPLED: usize = 1_000;
+
+/// The most implications that questions are about at once, of those that are violated.
+const MOST_VIOLATED: usize = 32;
+
+/// What is taken to hold, and does not so in a situation.
+#[derive(Drop)]
+pub(crate) struct Violated {
+    pub taken: Vec<Taken>,
+    /// the places of implications
+    pub implications: Vec<usize>,
+}
 
 /// Classes of a circuit's signals, and the means to split them.
 #[derive(Drop)]
@@ -35,6 +56,8 @@ pub(crate) struct Search<'a> {
     pub circuit: &'a Model,
     pub pair: &'a Pair,
     pub classes: Classes,
+    /// signals of which one may be true wherever another one is
+    pub implications: Implications,
     /// the circuit at both times, in 256 runs
     runs: Runs<'a>,
     generator: Lcg128Xsl64,
@@ -102,6 +125,7 @@ impl<'a> Search<'a> {
                 circuit,
                 pair,
                 classes,
+                implications: Implications::new(alloc),
                 runs,
                 generator: Lcg128Xsl64::seed_from_u64(0),
             })),
@@ -127,7 +151,8 @@ impl<'a> Search<'a> {
         biases: &[Bias],
         budget: &mut Budget,
     ) -> Result<bool, Refused>
-        ensures { Spends budget.old budget.new }
+        ensures spends { Spends budget.old budget.new }
+        ensures stepped { IfOk result (λ b. IsTrue b → IsSome runs.new.wide.now) }
     {
         if runs.is_over() || !pay(self.circuit, budget) {
             return Ok(false);
@@ -168,6 +193,67 @@ impl<'a> Search<'a> {
                 self.go_far(alloc, &mut runs, budget)?;
             }
         }
+        Ok(())
+    }
+
+    /// The signals that are sampled: of those of which the literal is made first the first of each class, and latches that never
+    /// changed.
+    fn sampled(&self, alloc: Global, bad: Lit) -> Result<Vec<Signal>, Refused> {
+        let mut signals = Vec::new(alloc);
+        for lit in near(alloc, self.circuit, bad, MOST_SAMPLED)?.iter() {
+            let place = self.pair.rank(*lit) as usize;
+            let lead = self.classes.lead(place);
+            if lead == place || (lead == 0 && self.is_latch(place)) {
+                push(&mut signals, self.classes.signal(place))?;
+            }
+        }
+        Ok(signals)
+    }
+
+    /// Goes on by inputs whose biases change all eight steps, and adds the values of a quarter of the steps to the samples.
+    fn sample_far(
+        &mut self,
+        alloc: Global,
+        runs: &mut Runs,
+        samples: &mut Samples,
+        phase: u32,
+        budget: &mut Budget,
+    ) -> Result<(), Refused>
+        ensures { Spends budget.old budget.new }
+    {
+        let count = self.circuit.inputs().len();
+        let mut biases = draw_biases(alloc, count, &mut self.generator)?;
+        'going: for step in 0..STEPS {
+            if step % 8 == 7 {
+                biases = draw_biases(alloc, count, &mut self.generator)?;
+            }
+            if !self.go(alloc, runs, biases.as_slice(), budget)? {
+                return Ok(());
+            }
+            if step % RESETS == phase {
+                samples.add(runs)?;
+            }
+        }
+        Ok(())
+    }
+
+    /// Simulates runs of the circuit again, and takes the implications that they don't violate.
+    pub(crate) fn sample(
+        &mut self,
+        alloc: Global,
+        bad: Lit,
+        budget: &mut Budget,
+    ) -> Result<(), Refused>
+        ensures { Spends budget.old budget.new }
+    {
+        let mut samples = Samples::new(alloc, self.sampled(alloc, bad)?)?;
+        'simulating: for phase in 0..RESETS {
+            let states = self.first_states(alloc)?;
+            if let Some(mut runs) = Runs::begin(alloc, self.circuit, states.as_slice())? {
+                self.sample_far(alloc, &mut runs, &mut samples, phase, budget)?;
+            }
+        }
+        self.implications = Implications::of(alloc, &samples, budget)?;
         Ok(())
     }
 
@@ -314,10 +400,54 @@ impl<'a> Search<'a> {
             let Some(next) = around else {
                 return Ok(());
             };
+            if is_later && self.implications.len() > 0 {
+                self.go_on(alloc, budget)?;
+            }
             born = count;
             situation = next;
         }
         Ok(())
+    }
+
+    /// The states behind those that were simulated last, with inputs that are drawn.
+    fn successors(&mut self, alloc: Global) -> Result<Vec<u64x4>, Refused>
+        requires stepped { IsSome self.old.runs.wide.now }
+        ensures runs { self.new.runs ≡ self.old.runs }
+    {
+        let mut row = Vec::new(alloc);
+        for place in 0..self.pair.circuit.inputs().len() {
+            let values = match self.circuit.latches().get(place) {
+                Some(latch) => self.runs.value(self.pair.signal(latch.lit).later),
+                None => uniform(&mut self.generator),
+            };
+            push(&mut row, values)?;
+        }
+        Ok(row)
+    }
+
+    /// Goes on from the situations that were simulated last, as long as that splits classes.
+    fn go_on(&mut self, alloc: Global, budget: &mut Budget) -> Result<(), Refused>
+        requires stepped { IsSome self.old.runs.wide.now }
+        ensures spends { Spends budget.old budget.new }
+    {
+        'going: for _ in 0..FRAMES {
+            if !self.pay_twice(budget) {
+                return Ok(());
+            }
+            let row = self.successors(alloc)?;
+            let Some(_) = self.split_from(alloc, row.as_slice(), true)? else {
+                return Ok(());
+            };
+        }
+        Ok(())
+    }
+
+    /// Pays for the simulation of both times and a look at each implication. False where nothing is left of the budget then.
+    fn pay_twice(&self, budget: &mut Budget) -> bool
+        ensures { Spends budget.old budget.new }
+    {
+        budget.spend((self.implications.len() / IMPLICATIONS) as u64);
+        pay(&self.pair.circuit, budget)
     }
 
     /// Simulates a situation and those around it. Answers the one that split a class, where one did.
@@ -329,9 +459,10 @@ impl<'a> Search<'a> {
         is_later: bool,
         budget: &mut Budget,
     ) -> Result<Option<Vec<bool>>, Refused>
-        ensures { Spends budget.old budget.new }
+        ensures spends { Spends budget.old budget.new }
+        ensures stepped { IfOk result (λ r. IsSome r → IsSome self.new.runs.wide.now) }
     {
-        if !pay(&self.pair.circuit, budget) {
+        if !self.pay_twice(budget) {
             return Ok(None);
         }
         let row = self.around(alloc, situation, born, is_later)?;
@@ -350,7 +481,8 @@ impl<'a> Search<'a> {
             running = both(running, self.runs.value(*constraint));
         }
         if is_later {
-            self.classes.agreeing(&self.runs, running)
+            let agreeing = self.classes.agreeing(&self.runs, running);
+            self.implications.agreeing(&self.runs, agreeing)
         } else {
             running
         }
@@ -362,7 +494,9 @@ impl<'a> Search<'a> {
         alloc: Global,
         row: &[u64x4],
         is_later: bool,
-    ) -> Result<Option<u32>, Refused> {
+    ) -> Result<Option<u32>, Refused>
+        ensures stepped { IfOk result (λ r. IsSome r → IsSome self.new.runs.wide.now) }
+    {
         if !self.runs.step(row) {
             return Ok(None);
         }
@@ -370,6 +504,7 @@ impl<'a> Search<'a> {
         if none(running) {
             return Ok(None);
         }
+        self.implications.split(&self.runs, running, is_later);
         self.classes.split(alloc, &self.runs, running, is_later)
     }
 
@@ -399,19 +534,35 @@ impl<'a> Search<'a> {
         Ok(differing)
     }
 
-    /// Which of what is taken to be equal is not so in a situation. None of it where the budget is exhausted.
+    /// Which implications the situation violates that was simulated last: none, where they are not taken to hold.
+    fn violated_implications(&self, alloc: Global, is_later: bool) -> Result<Vec<usize>, Refused>
+        requires stepped { IsSome self.now.runs.wide.now }
+    {
+        let most = if is_later { MOST_VIOLATED } else { 0 };
+        self.implications.violated(alloc, &self.runs, most)
+    }
+
+    /// What is taken to hold and does not so in a situation: what is taken to be equal, and where a step later is asked about,
+    /// implications. Nothing, where the budget is exhausted.
     pub(crate) fn violated(
         &mut self,
         alloc: Global,
         taken: &[Taken],
         situation: &[bool],
+        is_later: bool,
         budget: &mut Budget,
-    ) -> Result<Vec<Taken>, Refused>
+    ) -> Result<Violated, Refused>
         ensures { Spends budget.old budget.new }
     {
-        if !pay(&self.pair.circuit, budget) || !self.step_at(alloc, situation)? {
-            return Ok(Vec::new(alloc));
+        if !self.pay_twice(budget) || !self.step_at(alloc, situation)? {
+            return Ok(Violated {
+                taken: Vec::new(alloc),
+                implications: Vec::new(alloc),
+            });
         }
-        self.differing(alloc, taken)
+        Ok(Violated {
+            taken: self.differing(alloc, taken)?,
+            implications: self.violated_implications(alloc, is_later)?,
+        })
     }
 }
