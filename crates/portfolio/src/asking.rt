@@ -39,14 +39,23 @@ const SHADOWS: u64 = 8;
 /// So many variables the times that deeper bounded search looks at may have together.
 const VARIABLES: u64 = 1_000_000;
 
+/// Of a circuit with so many variables at most, equal registers alone are looked for before equal signals are.
+const FEW_VARIABLES: u32 = 8_000;
+
+/// A circuit has many variables where it has more than these.
+const MANY_VARIABLES: u32 = 30_000;
+
 /// Register correspondence and the engines behind it have so many steps at most before equal signals are looked for.
-const MERGED_STEPS: u64 = 40_000_000;
+const MERGED_STEPS: u64 = 10_000_000;
+
+/// They have so many at most where the circuit has many variables.
+const MOST_MERGED_STEPS: u64 = 40_000_000;
 
 /// Signal correspondence is asked then with one of so many parts of what is left.
 const SIGNALS_PARTS: u64 = 8;
 
 /// How many steps it may take at most.
-const SIGNALS_STEPS: u64 = 4_000_000;
+const SIGNALS_STEPS: u64 = 10_000_000;
 
 /// Where bounded search alone stands behind it, signal correspondence has one of so many parts of what is left.
 const HALVES: u64 = 2;
@@ -494,7 +503,36 @@ impl Question<'_> {
         Ok((Conclusion::Decided(verdict), left))
     }
 
-    /// What register correspondence and the engines behind it say with few steps, and else signal correspondence.
+    /// How many steps are spent at most before equal signals are looked for.
+    fn steps_before_signals(self) -> u64 {
+        if self.circuit.max_var() > MANY_VARIABLES {
+            MOST_MERGED_STEPS
+        } else {
+            MERGED_STEPS
+        }
+    }
+
+    /// What is said before equal signals are looked for: of a circuit with few variables what register correspondence says of
+    /// runs without a step, and of another one what the engines behind it say too.
+    fn before_signals(
+        self,
+        rt: &HostRuntime,
+        candidates: Seq<Seq<Lit>>,
+        steps: u64,
+        counters: &mut Counters,
+    ) -> Result<(Verdict, u64), DecideError>
+        ensures backed { IfOk result (λ r. IsBacked self.entry.circuit.now self.entry.property r.0) }
+        ensures meant { IfOk result (λ r. IsMeantWith self.entry.circuit.now self.entry.property r.1 r.0) }
+        ensures left { IfOk result (λ r. r.1 ≤ steps) }
+    {
+        if self.circuit.max_var() > FEW_VARIABLES {
+            self.merged(rt, candidates, steps, counters)
+        } else {
+            self.corresponded(rt, 0, steps, counters)
+        }
+    }
+
+    /// What is said with few steps before equal signals are looked for, and else signal correspondence.
     fn by_equals(
         self,
         rt: &HostRuntime,
@@ -506,8 +544,8 @@ impl Question<'_> {
         ensures meant { IfOk result (λ r. IfSome r.0 (IsMeantIn self.entry.circuit.now self.entry.property r.1)) }
         ensures left { IfOk result (λ r. r.1 ≤ steps) }
     {
-        let few = steps.min(MERGED_STEPS);
-        let (verdict, left) = self.merged(rt, candidates, few, counters)?;
+        let few = steps.min(self.steps_before_signals());
+        let (verdict, left) = self.before_signals(rt, candidates, few, counters)?;
         let rest = steps.saturating_sub(few.saturating_sub(left));
         let part = (rest / SIGNALS_PARTS).min(SIGNALS_STEPS);
         match verdict {
