@@ -18,6 +18,7 @@ ghost use Rattle.rounds.specs.Counted.{IsTooLarge};
 ghost use Rattle.rounds.specs.declared.asking.Tried.TheVariants.{Exceeded};
 
 use crate::counted::Cause;
+use crate::sparing::spared;
 use base::{Budget, Lists, Refused, Seq};
 use certificate3::Claim;
 use certify3::{Certified, CertifyError, Effort, Extension, certify};
@@ -124,18 +125,19 @@ fn of_certified(certified: Result<Certified, CertifyError>) -> Result<Tried, Dec
 }
 
 /// What comes of clauses that are said to be an invariant of the circuit that counts: a certificate, where it is accepted.
-fn of_clauses(
+fn shown_by(
     alloc: Global,
     circuit: &Model,
     position: u32,
     rounds: u32,
-    clauses: &[Seq<Lit>],
+    invariant: Lists<Lit>,
+    effort: Effort,
     budget: &mut Budget,
 ) -> Result<Tried, DecideError>
     requires showable { IsShowable circuit.now (Justice position) rounds }
     ensures spends { Spends budget.old budget.new }
     ensures tried { IfOk result (IsTried circuit.now position rounds) }
-    ensures meant { IsInvariant (rounds_of circuit.now position rounds) clauses.now → IfOk result (IsMeantFor circuit.now position rounds budget.new) }
+    ensures meant { IsInvariant (rounds_of circuit.now position rounds) invariant → IfOk result (IsMeantFor circuit.now position rounds budget.new) }
     ensures refused { IfErr result (HasCause circuit.now (Justice position)) }
 {
     circuit.well_formed();
@@ -149,9 +151,69 @@ fn of_clauses(
         latches: &[],
         gates: &[],
     };
+    of_certified(certify(alloc, circuit, claim, extension, invariant, effort, budget))
+}
+
+/// The same of those that the order of the latches that count does not say, with that order, by shorter proofs.
+fn of_fewer(
+    alloc: Global,
+    circuit: &Model,
+    counter: &Model,
+    position: u32,
+    rounds: u32,
+    clauses: &[Seq<Lit>],
+    budget: &mut Budget,
+) -> Result<Tried, DecideError>
+    requires showable { IsShowable circuit.now (Justice position) rounds }
+    ensures spends { Spends budget.old budget.new }
+    ensures tried { IfOk result (IsTried circuit.now position rounds) }
+    ensures refused { IfErr result (HasCause circuit.now (Justice position)) }
+{
+    let fewer = spared(alloc, counter, rounds, clauses, budget)?;
+    let effort = Effort::Thorough;
+    shown_by(alloc, circuit, position, rounds, fewer, effort, budget)
+}
+
+/// The same of all clauses.
+fn of_all(
+    alloc: Global,
+    circuit: &Model,
+    position: u32,
+    rounds: u32,
+    clauses: &[Seq<Lit>],
+    budget: &mut Budget,
+) -> Result<Tried, DecideError>
+    requires showable { IsShowable circuit.now (Justice position) rounds }
+    ensures spends { Spends budget.old budget.new }
+    ensures tried { IfOk result (IsTried circuit.now position rounds) }
+    ensures meant { IsInvariant (rounds_of circuit.now position rounds) clauses.now → IfOk result (IsMeantFor circuit.now position rounds budget.new) }
+    ensures refused { IfErr result (HasCause circuit.now (Justice position)) }
+{
     let invariant = listed(alloc, clauses)?;
     let effort = Effort::Quick;
-    of_certified(certify(alloc, circuit, claim, extension, invariant, effort, budget))
+    shown_by(alloc, circuit, position, rounds, invariant, effort, budget)
+}
+
+/// What comes of clauses by fewer of them, and else of all.
+fn of_clauses(
+    alloc: Global,
+    circuit: &Model,
+    counter: &Model,
+    position: u32,
+    rounds: u32,
+    clauses: &[Seq<Lit>],
+    budget: &mut Budget,
+) -> Result<Tried, DecideError>
+    requires showable { IsShowable circuit.now (Justice position) rounds }
+    ensures spends { Spends budget.old budget.new }
+    ensures tried { IfOk result (IsTried circuit.now position rounds) }
+    ensures meant { IsInvariant (rounds_of circuit.now position rounds) clauses.now → IfOk result (IsMeantFor circuit.now position rounds budget.new) }
+    ensures refused { IfErr result (HasCause circuit.now (Justice position)) }
+{
+    match of_fewer(alloc, circuit, counter, position, rounds, clauses, budget)? {
+        Tried::Bounded(text) => Ok(Tried::Bounded(text)),
+        _ => of_all(alloc, circuit, position, rounds, clauses, budget),
+    }
 }
 
 /// Why nothing is known, where an engine says so.
@@ -190,6 +252,7 @@ fn tried_by<E: Engine>(
         Finding::Invariant(clauses) => of_clauses(
             alloc,
             circuit,
+            counter,
             position,
             rounds,
             clauses.as_slice(),

@@ -4,6 +4,8 @@
 //!   to the first number beyond which no run goes. Whatever the engine answers, that a property holds is answered only with a
 //!   certificate of version 3 that is accepted, and that a run holds more rounds only where its replay shows it (`IsBacked`).
 //!   If the engine is honest, what is not known means what it says (`IsMeant`).
+//! - `order_of_counts` are clauses of the circuits that count, which an engine may try first. By the same order clauses are left
+//!   out of a certificate.
 //! - `RoundsProgress` is told which number of rounds is asked about.
 #![tactic(auto)]
 
@@ -11,7 +13,9 @@ mod asking;
 mod counted;
 mod counting;
 mod progress;
+mod sparing;
 
 pub use counted::{Cause, Counted};
 pub use counting::decide_rounds;
 pub use progress::RoundsProgress;
+pub use sparing::order_of_counts;
