@@ -19,7 +19,7 @@ use engine_random::Random;
 use graph::{Lit, Model, Property};
 use ic3::Ic3;
 use k_induction::decide_by_induction;
-use rounds::{Counted, decide_rounds};
+use rounds::{Counted, decide_rounds, order_of_counts};
 use shown::Shown;
 use signals::decide_signals;
 use solver::Sat;
@@ -62,6 +62,9 @@ const HALVES: u64 = 2;
 
 /// The rounds of a justice property are counted then with one of so many parts of what is left.
 const ROUNDS_PARTS: u64 = 16;
+
+/// So many rounds have their order among the clauses that IC3 tries first.
+const ORDERED_ROUNDS: u32 = 255;
 
 /// How many steps of a budget of its own `is_shown_safe` may cost.
 const OWN_STEPS: u64 = 100_000_000;
@@ -277,7 +280,8 @@ impl Question<'_> {
         ensures left { IfOk result (λ r. r.1 ≤ steps) }
     {
         let (alloc, timing) = (rt.alloc(), self.timing);
-        let engine = Ic3::new(timing.solver(alloc));
+        let order = order_of_counts(alloc, self.circuit, position, ORDERED_ROUNDS)?;
+        let engine = Ic3::with_candidates(timing.solver(alloc), order);
         let mut engine = engine.with_progress(Reporter::new(rt, timing.shown));
         self.counted_by(rt, position, steps, &mut engine, counters)
     }
