@@ -6,7 +6,7 @@ ghost use Rattle.portfolio.specs.Conclusions.{AreMeantWith, IsConcluded, IsMeant
 ghost use Rattle.portfolio.specs.declared.conclusion.Conclusion.TheVariants as conclusion;
 ghost use Rattle.rounds.specs.Counted.{IsBacked as AreBacked};
 ghost use Rattle.verdict.specs.Verdicts.{IsBacked};
-ghost use Rattle.verdict.specs.declared.verdict.Verdict.TheVariants.{Unknown};
+ghost use Rattle.verdict.specs.declared.verdict.Verdict.TheVariants.{Unknown, Unsafe};
 
 use crate::conclusion::Conclusion;
 use arguments::EngineKind;
@@ -24,6 +24,7 @@ use shown::Shown;
 use signals::decide_signals;
 use solver::Sat;
 use std::alloc::Global;
+use stimulus::Stimulus;
 use strategies::{Beginning, Deadline, Merging, Reported, Reporter, Timed, Timing, bounded_by};
 use verdict::{DecideError, Verdict, decide, decide_by};
 
@@ -210,6 +211,23 @@ impl Question<'_> {
         }
     }
 
+    /// What bounded search through runs of at most so many steps says.
+    fn bounded_to(
+        self,
+        rt: &HostRuntime,
+        depth: u8,
+        steps: u64,
+        counters: &mut Counters,
+    ) -> Result<(Verdict, u64), DecideError>
+        ensures backed { IfOk result (λ r. IsBacked self.entry.circuit.now self.entry.property r.0) }
+        ensures meant { IfOk result (λ r. IsMeantWith self.entry.circuit.now self.entry.property r.1 r.0) }
+        ensures left { IfOk result (λ r. r.1 ≤ steps) }
+    {
+        let engine = bounded_by(rt, self.timing, depth);
+        let mut engine = ConeOfInfluence::new(engine);
+        self.decided_by(rt, &mut engine, steps, counters)
+    }
+
     /// What bounded search says.
     fn bounded(
         self,
@@ -221,9 +239,7 @@ impl Question<'_> {
         ensures meant { IfOk result (λ r. IsMeantWith self.entry.circuit.now self.entry.property r.1 r.0) }
         ensures left { IfOk result (λ r. r.1 ≤ steps) }
     {
-        let engine = bounded_by(rt, self.timing, self.timing.search.depth);
-        let mut engine = ConeOfInfluence::new(engine);
-        self.decided_by(rt, &mut engine, steps, counters)
+        self.bounded_to(rt, self.timing.search.depth, steps, counters)
     }
 
     /// What IC3 says, which tries these clauses first.
@@ -616,6 +632,72 @@ impl Question<'_> {
         }
     }
 
+    /// How many steps a run has at most that violates the property at fewer times than this one, where the property is a justice
+    /// property and the first bounded search did not look through all of them.
+    fn steps_of_shorter(self, stimulus: &Stimulus) -> Option<u8> {
+        match (self.property, stimulus) {
+            (Property::Justice(_), Stimulus::Violated { inputs, .. }) => {
+                let times = u8::try_from(inputs.len()).ok()?;
+                let depth = times.checked_sub(1)?;
+                if self.timing.search.depth < depth {
+                    Some(depth)
+                } else {
+                    None
+                }
+            }
+            _ => None,
+        }
+    }
+
+    /// A shortest run that violates the property, where bounded search finds it with at most as many steps as were spent so far, and
+    /// else this one.
+    fn shortest(
+        self,
+        rt: &HostRuntime,
+        stimulus: Stimulus,
+        steps: u64,
+        counters: &mut Counters,
+    ) -> Result<(Verdict, u64), DecideError>
+        requires backed { IsBacked self.circuit.now self.property (Unsafe stimulus) }
+        ensures backed { IfOk result (λ r. IsBacked self.entry.circuit.now self.entry.property r.0) }
+        ensures meant { IfOk result (λ r. IsMeantWith self.entry.circuit.now self.entry.property r.1 r.0) }
+        ensures left { IfOk result (λ r. r.1 ≤ steps) }
+    {
+        let Some(depth) = self.steps_of_shorter(&stimulus) else {
+            return Ok((Verdict::Unsafe(stimulus), steps));
+        };
+        let part = steps.min(self.timing.search.budget.saturating_sub(steps));
+        let (found, left) = self.bounded_to(rt, depth, part, counters)?;
+        let rest = steps.saturating_sub(part.saturating_sub(left));
+        match found {
+            Verdict::Unsafe(_) => Ok((found, rest)),
+            _ => Ok((Verdict::Unsafe(stimulus), rest)),
+        }
+    }
+
+    /// The same conclusion, with a shortest run that violates the property where one is found.
+    fn with_shortest(
+        self,
+        rt: &HostRuntime,
+        conclusion: Conclusion,
+        steps: u64,
+        counters: &mut Counters,
+    ) -> Result<(Conclusion, u64), DecideError>
+        requires concluded { IsConcluded self.circuit.now self.property conclusion }
+        requires meant { IsMeantIn self.circuit.now self.property steps conclusion }
+        ensures concluded { IfOk result (λ r. IsConcluded self.entry.circuit.now self.entry.property r.0) }
+        ensures meant { IfOk result (λ r. IsMeantIn self.entry.circuit.now self.entry.property r.1 r.0) }
+        ensures left { IfOk result (λ r. r.1 ≤ steps) }
+    {
+        match conclusion {
+            Conclusion::Decided(Verdict::Unsafe(stimulus)) => {
+                let (verdict, left) = self.shortest(rt, stimulus, steps, counters)?;
+                Ok((Conclusion::Decided(verdict), left))
+            }
+            other => Ok((other, steps)),
+        }
+    }
+
     /// What the counting of rounds comes to. Of another property than a justice property nothing is known so.
     fn rounds_alone(
         self,
@@ -648,7 +730,10 @@ impl Question<'_> {
     {
         let budget = self.timing.search.budget;
         let (verdict, left) = match self.timing.search.engine {
-            EngineKind::All => return self.staged(rt, candidates, counters),
+            EngineKind::All => {
+                let (conclusion, left) = self.staged(rt, candidates, counters)?;
+                return self.with_shortest(rt, conclusion, left, counters);
+            }
             EngineKind::Rounds => return self.rounds_alone(rt, counters),
             EngineKind::KInduction => return self.bounded_or_induced(rt, budget, counters),
             EngineKind::Corresponding => return self.corresponding(rt, budget, counters),
