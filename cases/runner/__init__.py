@@ -29,6 +29,8 @@ are those bytes, `\x` with two digits any other, and `{3 x}` is three times the 
     clauses               the clauses of the certificate that it makes
     certify               what `aigcheck` says of the certificate of b0 that `aigmc certify` makes of clauses; `no` where
                           they are no invariant; or its fault
+    cut-certify           each beginning of a certificate, as clauses, is refused by fault 6 at its length, but no bytes
+    to-witness            the witness circuit that `aigmc to-witness` makes of a certificate, or its fault
 
 A line of verdicts.tsv is a small circuit with constraints, resets of all kinds and many properties, and what exhaustive
 search (`cases/exhaustive`) says of one of them. All engines in turn have to answer so, with the shortest run of a bad

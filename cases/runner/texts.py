@@ -70,11 +70,25 @@ def checked(what, circuit, evidence):
     return done.stdout if done.returncode == (not done.stdout.startswith(b"yes ")) else None
 
 
+def witnessed(circuit, certificate):
+    """What `aigmc to-witness` makes of a circuit and a certificate, or its fault."""
+    done, made = called("aigmc", ["to-witness", "made.aag"], circuit, certificate)
+    return made if done.returncode == 0 else fault_of(done)
+
+
+def beginning(what, first, second, length):
+    """What is answered to the beginning of this length of the text that is cut."""
+    if what == "cut":
+        return converted("to-ascii", first[:length])
+    return simulated(first, second[:length]) if what == "cut-sim" else adopted(first, second[:length])
+
+
 def cut(what, first, second):
-    """How a beginning is answered that is not refused at its length, or `-` where each is."""
-    number, text = (6, first) if what == "cut" else (84, second)
-    for length in range(len(text)):
-        got = converted("to-ascii", text[:length]) if what == "cut" else simulated(first, text[:length])
+    """How a beginning is answered that is not refused at its length, or `-` where each is. No bytes are no
+    certificate, but the clauses of one."""
+    text, number = first if what == "cut" else second, 84 if what == "cut-sim" else 6
+    for length in range(what == "cut-certify", len(text)):
+        got = beginning(what, first, second, length)
         if got != b"fault %d at %d" % (number, length):
             return b"%r cut at %d" % (got, length)
     return b"-"
@@ -90,6 +104,8 @@ def answer_to(what, first, second):
         return checked(what, first, second)
     if what == "certify":
         return adopted(first, second)
+    if what == "to-witness":
+        return witnessed(first, second)
     if what in ("check", "times", "clauses"):
         return searched(what, first, second.decode().split())
     return cut(what, first, second)

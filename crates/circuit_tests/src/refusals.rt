@@ -1,11 +1,13 @@
-//! Refusals by number and place, their words, and words that name no property: what no line of a command has.
+//! Refusals by number and place, and their words: what no line of a command has.
 
+use aag::AagWriteError;
 use aig::AigWriteError;
+use aiger::LoadError;
+use certificate::{CertError, CertWriteError};
 use cnf::CnfError;
-use graph::{ReadError, is_name};
+use graph::ReadError;
 use live_safe::LiveError;
-use lrat::{Fault, LratError, StepError};
-use property_names::property_named;
+use lrat::{Fault, LratError, LratWriteError, StepError};
 use simulate::ReplayError;
 use std::alloc::Global;
 use std::fmt::Display;
@@ -16,6 +18,13 @@ fn writing_has_numbers() -> bool {
     let (unordered, device) = (AigWriteError::Unordered, AigWriteError::Device);
     let are_numbered = unordered.number() == 17 && device.number() == 21;
     are_numbered && unordered.place() == 0 && device.place() == 0
+}
+
+/// Whether those of a certificate that is written, and of a circuit that is loaded, have their numbers and places.
+fn sections_have_numbers() -> bool {
+    let (sections, load) = (CertWriteError::Sections { found: 2 }, LoadError::Device);
+    let are_numbered = sections.number() == 34 && load.number() == 21;
+    are_numbered && sections.place() == 2 && load.place() == 0
 }
 
 /// Whether those of steps and of shadow circuits have their numbers and places.
@@ -38,6 +47,7 @@ fn texts_have_numbers() -> bool {
 #[test]
 fn refusals_have_numbers(rt: HostRuntime) {
     assert!(rt; writing_has_numbers());
+    assert!(rt; sections_have_numbers());
     assert!(rt; limits_have_numbers());
     assert!(rt; texts_have_numbers());
 }
@@ -45,6 +55,32 @@ fn refusals_have_numbers(rt: HostRuntime) {
 /// Whether a refusal is reported in these words.
 fn is_told<E: Display>(alloc: Global, e: &E, words: &str) -> Result<bool, Fail> {
     Ok(format!(in alloc; "{e}")?.as_str() == words)
+}
+
+/// Whether those of a sink that failed are reported in their words.
+fn sinks_have_words(alloc: Global) -> Result<bool, Fail> {
+    let words = "the device failed";
+    Ok(
+        is_told(alloc, &AagWriteError::Device, words)?
+            && is_told(alloc, &AigWriteError::Device, words)?
+            && is_told(alloc, &LratWriteError::Device, words)?,
+    )
+}
+
+/// Whether those of what is written and of certificates are reported in their words.
+fn writing_has_words(alloc: Global) -> Result<bool, Fail> {
+    let unordered = AigWriteError::Unordered;
+    let section = CertError::Section { place: 19 };
+    let sections = CertWriteError::Sections { found: 2 };
+    Ok(
+        is_told(alloc, &unordered, "the circuit is not ordered")?
+            && is_told(alloc, &section, "byte 19: not the section that is due")?
+            && is_told(
+                alloc,
+                &sections,
+                "2 sections are not those of the invariant",
+            )?,
+    )
 }
 
 /// Whether those of circuits are reported in their words.
@@ -73,21 +109,43 @@ fn proofs_have_words(alloc: Global) -> Result<bool, Fail> {
 fn refusals_have_words(rt: HostRuntime) -> Result<(), Fail> {
     assert!(rt; circuits_have_words(rt.alloc())?);
     assert!(rt; proofs_have_words(rt.alloc())?);
+    assert!(rt; sinks_have_words(rt.alloc())?);
+    assert!(rt; writing_has_words(rt.alloc())?);
     Ok(())
 }
 
-/// Words that name no property.
-static NO_PROPERTIES: [&str; 2] = ["b0 ", ""];
+/// The number and the place of a refusal, where there is one.
+type Numbered = Option<(u8, u64)>;
 
-/// Bytes, and whether they are a name.
-static NAMES: [(&[u8], bool); 3] = [(b"a b", true), (b"", false), (b"a\nb", false)];
+/// Texts that the two readers see otherwise than by their second byte, with the refusals of the ASCII and of the
+/// binary one.
+static EITHER: [(&[u8], Numbered, Numbered); 4] = [
+    (b"", Some((6, 0)), Some((6, 0))),
+    (b"a", Some((6, 1)), Some((6, 1))),
+    (b"aag 0 0 0 0 0\n", None, Some((2, 1))),
+    (b"aig 0 0 0 0 0\n", Some((2, 1)), None),
+];
+
+/// The number and the place of a refusal.
+fn told(error: Option<ReadError>) -> Numbered {
+    let error = error?;
+    Some((error.number(), error.place()))
+}
+
+/// The refusal of a text by the ASCII reader.
+fn ascii_refusal(alloc: Global, text: &[u8]) -> Numbered {
+    told(aag::read(alloc, text).err())
+}
+
+/// The refusal by the binary reader.
+fn binary_refusal(alloc: Global, text: &[u8]) -> Numbered {
+    told(aig::read(alloc, text).err())
+}
 
 #[test]
-fn words_and_names(rt: HostRuntime) {
-    for word in &NO_PROPERTIES {
-        assert!(rt; property_named(word).is_none());
-    }
-    for (bytes, wanted) in &NAMES {
-        assert!(rt; is_name(bytes) == *wanted);
+fn a_text_of_the_other_layout_is_refused(rt: HostRuntime) {
+    for (text, ascii, binary) in &EITHER {
+        assert!(rt; ascii_refusal(rt.alloc(), text) == *ascii, "{text:?}");
+        assert!(rt; binary_refusal(rt.alloc(), text) == *binary, "{text:?}");
     }
 }
