@@ -1,10 +1,8 @@
-//! Circuits that no text spells: refusals of parts and of lists of symbols.
+//! Circuits that no text spells: refusals of parts.
 
-use crate::questions::{Question, asked};
 use base::{Refused, Seq};
-use graph::{AigerFile, Gate, Latch, Lit, Model, Parts, ReadError, Symbol, SymbolKind};
+use graph::{Gate, Latch, Lit, Model, Parts, ReadError};
 use std::alloc::Global;
-use std::test::Fail;
 
 /// Parts from plain numbers: a latch and a gate are three literals each.
 #[derive(Drop)]
@@ -53,18 +51,6 @@ fn parts_of(alloc: Global, plain: &Plain<'_>) -> Result<Parts, Refused> {
         gates,
     })
 }
-
-/// A circuit of one input and one latch that it toggles: the gates are given last first.
-static TOGGLE: Plain<'static> = Plain {
-    max_var: 5,
-    inputs: &[2],
-    latches: &[(4, 11, 4)],
-    bad: &[4, 5],
-    gates: &[(10, 7, 9), (8, 3, 5), (6, 2, 4)],
-};
-
-/// The same circuit as a text.
-static TOGGLE_TEXT: &[u8] = b"aag 5 1 1 0 3 2\n2\n4 11 4\n4\n5\n10 7 9\n8 3 5\n6 2 4\n";
 
 /// The number and place of a refusal, where there is one.
 type Numbered = Option<(u8, u64)>;
@@ -204,100 +190,5 @@ fn refusals_with_number_and_place(rt: HostRuntime) {
             answer == Ok(Some((*number, *place))),
             "{number} at {place}"
         );
-    }
-}
-
-/// Why a bad literal is not taken alone.
-#[derive(Clone, Copy)]
-struct Alone {
-    n: u32,
-}
-
-impl Question for Alone {
-    type Answer = Numbered;
-
-    fn answer(&self, alloc: Global, circuit: &Model) -> Result<Numbered, Fail> {
-        Ok(told(circuit.for_bad(alloc, self.n).err()))
-    }
-}
-
-#[test]
-fn no_such_bad_literal_alone(rt: HostRuntime) -> Result<(), Fail> {
-    assert!(rt; asked(rt.alloc(), TOGGLE_TEXT, &Alone { n: 2 })? == Some((30, 2)));
-    Ok(())
-}
-
-/// A symbol of the toggle's.
-fn symbol(alloc: Global, kind: SymbolKind, position: u32, name: &[u8]) -> Result<Symbol, Refused> {
-    Ok(Symbol {
-        kind,
-        position,
-        name: Seq::from_slice(alloc, name)?,
-    })
-}
-
-/// A name of the toggle's input, and one more symbol.
-fn symbols(
-    alloc: Global,
-    kind: SymbolKind,
-    position: u32,
-    name: &[u8],
-) -> Result<Seq<Symbol>, Refused> {
-    let mut symbols = Seq::new(alloc);
-    symbols.push(symbol(alloc, SymbolKind::Input, 0, b"enable")?)?;
-    symbols.push(symbol(alloc, kind, position, name)?)?;
-    Ok(symbols)
-}
-
-/// The toggle's file with these symbols and a comment.
-fn file_with(alloc: Global, symbols: Seq<Symbol>) -> Result<AigerFile, ReadError> {
-    let parts = parts_of(alloc, &TOGGLE)?;
-    let model = Model::from_parts(alloc, parts)?;
-    let comment = Seq::from_slice(alloc, b"free")?;
-    AigerFile::new(alloc, model, symbols, Some(comment))
-}
-
-/// How many symbols a file has, how long its comment is, and its greatest variable.
-type Sizes = (usize, Option<usize>, u32);
-
-fn sizes(file: &AigerFile) -> Sizes {
-    (
-        file.symbols().len(),
-        file.comment().map(|bytes| bytes.len()),
-        file.model().max_var(),
-    )
-}
-
-/// The sizes of the toggle's file with a name of its input, one more symbol, and a comment.
-fn sizes_with(
-    alloc: Global,
-    kind: SymbolKind,
-    position: u32,
-    name: &[u8],
-) -> Result<Sizes, ReadError> {
-    let symbols = symbols(alloc, kind, position, name)?;
-    let file = file_with(alloc, symbols)?;
-    Ok(sizes(&file))
-}
-
-#[test]
-fn a_file_of_a_circuit_and_names(rt: HostRuntime) {
-    let answer = sizes_with(rt.alloc(), SymbolKind::Bad, 1, b"b 1");
-    assert!(rt; answer == Ok((2, Some(4), 5)));
-}
-
-/// Which second symbol after an input's is refused: the kind, the position and the name.
-static SECOND: [(SymbolKind, u32, &[u8]); 4] = [
-    (SymbolKind::Input, 0, b"again"),
-    (SymbolKind::Input, 1, b"beyond"),
-    (SymbolKind::Output, 0, b"none"),
-    (SymbolKind::Bad, 0, b"two\nlines"),
-];
-
-#[test]
-fn symbols_that_name_nothing(rt: HostRuntime) {
-    for (kind, position, name) in &SECOND {
-        let answer = sizes_with(rt.alloc(), *kind, *position, name);
-        assert!(rt; told(answer.err()) == Some((14, 1)), "{name:?}");
     }
 }

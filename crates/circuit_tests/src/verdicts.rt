@@ -65,10 +65,9 @@ impl Engine for Insists {
     }
 }
 
-/// What is decided of a property by engines that insist, and how much of the budget is spent.
+/// What is decided of the first bad literal by engines that insist, and how much of the budget is spent.
 #[derive(Clone, Copy)]
 struct Asked {
-    property: Property,
     engines: &'static [Insists],
     steps: u64,
 }
@@ -90,7 +89,7 @@ impl Question for Asked {
         let verdict = decide(
             alloc,
             circuit,
-            self.property,
+            Property::Bad(0),
             engines.as_mut_slice(),
             &mut budget,
         );
@@ -105,11 +104,7 @@ fn decided(
     engines: &'static [Insists],
     steps: u64,
 ) -> Result<(Result<Verdict, DecideError>, u64), Fail> {
-    let question = Asked {
-        property: Property::Bad(0),
-        engines,
-        steps,
-    };
+    let question = Asked { engines, steps };
     asked(alloc, circuit, &question)
 }
 
@@ -170,7 +165,8 @@ fn runs_are_replayed(rt: HostRuntime) -> Result<(), Fail> {
 }
 
 /// Engines that report reasons, and the reason that is reported in the end.
-static REASONS: [(&[Insists], Reason); 5] = [
+static REASONS: [(&[Insists], Reason); 6] = [
+    (&[], Reason::NoEvidence),
     (
         &[
             Insists::Unknown(Reason::Depth(5)),
@@ -226,41 +222,6 @@ fn reason_told(alloc: Global, engines: &'static [Insists]) -> Result<Option<Reas
 fn reasons_are_weighed(rt: HostRuntime) -> Result<(), Fail> {
     for (engines, told) in &REASONS {
         assert!(rt; reason_told(rt.alloc(), engines)? == Some(*told));
-    }
-    Ok(())
-}
-
-/// Properties of a latch, and what is answered without engines: a refusal by its number and place, or
-/// 0 and what was spent where no evidence is reported.
-static UNASKED: [(Property, (u8, u64)); 3] = [
-    (Property::Bad(0), (0, 0)),
-    (Property::Bad(1), (30, 1)),
-    (Property::Justice(4), (30, 4)),
-];
-
-/// A refusal by its number and place, or 0 and what was spent where no evidence is reported.
-fn told(verdict: &Result<Verdict, DecideError>, spent: u64) -> (u8, u64) {
-    match verdict {
-        Ok(Verdict::Unknown(Reason::NoEvidence)) => (0, spent),
-        Ok(_) => (255, 0),
-        Err(e) => (e.number(), e.place()),
-    }
-}
-
-fn unasked(alloc: Global, property: Property) -> Result<(u8, u64), Fail> {
-    let question = Asked {
-        property,
-        engines: &[],
-        steps: 7,
-    };
-    let (verdict, spent) = asked(alloc, HOLD, &question)?;
-    Ok(told(&verdict, spent))
-}
-
-#[test]
-fn without_engines(rt: HostRuntime) -> Result<(), Fail> {
-    for (property, wanted) in &UNASKED {
-        assert!(rt; unasked(rt.alloc(), *property)? == *wanted);
     }
     Ok(())
 }
