@@ -1,5 +1,4 @@
-//! Worked circuits: bounded search by backtracking finds the shortest runs, or none. `cases/texts.tsv` has
-//! the same by the solver of `aigmc`.
+//! Worked circuits: what bounded search counts and folds. `cases/texts.tsv` has the runs that it finds in them.
 
 ghost use Rattle.std.specs.Prelude.{IfOk};
 ghost use Rattle.engine.specs.Findings.{IsForBad};
@@ -72,15 +71,6 @@ fn times_of(alloc: Global, text: &[u8], depth: u8, steps: u64) -> Result<Option<
     let circuit = circuit(alloc, text)?;
     let engine = Bmc::new(Plain::new(alloc), u32::from(depth));
     times(engine, alloc, &circuit, steps)
-}
-
-#[test]
-fn by_backtracking(rt: HostRuntime) -> Result<(), Fail> {
-    for (text, depth, wanted) in &WORKED {
-        let found = times_of(rt.alloc(), text, *depth, 10_000_000)?;
-        assert!(rt; found == Some(*wanted), "{text:?}");
-    }
-    Ok(())
 }
 
 /// Where nothing is open, all is folded to constants: a budget suffices that no search is within.

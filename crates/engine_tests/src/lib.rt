@@ -6,8 +6,6 @@
 #[cfg(test)]
 mod asked_again;
 #[cfg(test)]
-mod backtracking;
-#[cfg(test)]
 mod bounded;
 #[cfg(test)]
 mod equal_registers;

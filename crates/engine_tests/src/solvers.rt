@@ -126,12 +126,7 @@ fn load<S: Sat>(solver: &mut S, alloc: Global, formula: &Formula) -> Result<(), 
 }
 
 /// Begins anew with a list of clauses.
-pub fn load_list<S: Sat>(
-    solver: &mut S,
-    alloc: Global,
-    vars: u16,
-    list: &[i32],
-) -> Result<(), AskError>
+fn load_list<S: Sat>(solver: &mut S, alloc: Global, vars: u16, list: &[i32]) -> Result<(), AskError>
     ensures { OnOk result (S.vars solver.new ≡ vars) }
 {
     let formula = formula(alloc, vars, list)?;
@@ -139,7 +134,7 @@ pub fn load_list<S: Sat>(
 }
 
 /// The answer under assumptions, whose literals must be in range.
-pub fn ask<S: Sat>(
+fn ask<S: Sat>(
     solver: &mut S,
     alloc: Global,
     assume: &[i32],
@@ -331,69 +326,6 @@ fn clauses_may_come_between_the_calls(rt: HostRuntime) {
     assert!(rt; refuses_nothing(&cdcl));
     drop(cdcl);
     assert!(rt; grows(&mut Plain::new(rt.alloc()), rt.alloc()) == Ok(true));
-}
-
-/// How many steps are spent before the solver, begun anew with the clauses, answers that its budget is exhausted.
-fn spent<S: Sat>(
-    mut solver: S,
-    alloc: Global,
-    vars: u16,
-    list: &[i32],
-    steps: u64,
-) -> Result<Option<u64>, AskError> {
-    load_list(&mut solver, alloc, vars, list)?;
-    let mut budget = Budget::new(steps);
-    match ask(&mut solver, alloc, &[], &mut budget)? {
-        Answer::Spent => Ok(Some(budget.spent())),
-        _ => Ok(None),
-    }
-}
-
-#[test]
-fn an_empty_budget_is_spent_at_once(rt: HostRuntime) {
-    let cdcl = spent(Cdcl::new(rt.alloc()), rt.alloc(), 0, &[], 0);
-    assert!(rt; cdcl == Ok(Some(0)));
-    let units: &[i32] = &[1, 0, -1, 0];
-    let plain = spent(Plain::new(rt.alloc()), rt.alloc(), 1, units, 0);
-    assert!(rt; plain == Ok(Some(0)));
-    let plain = spent(Plain::new(rt.alloc()), rt.alloc(), 1, units, 2);
-    assert!(rt; plain == Ok(Some(2)));
-}
-
-/// What a refutation of the formula comes to within a budget of `steps`: the lines of an
-/// accepted proof, or 0 where a model satisfies the formula.
-fn lines(alloc: Global, formula: &Formula, steps: u64) -> Result<Option<usize>, Fail>
-    requires { IsFormula formula.now }
-{
-    match refute(alloc, formula, &mut Budget::new(steps))? {
-        Refuted::Proof(proof) if refutes(alloc, formula, &proof).is_ok() => {
-            Ok(Some(proof.lines().len()))
-        }
-        Refuted::Model(values) if satisfies(values.as_slice(), formula) => Ok(Some(0)),
-        _ => Ok(None),
-    }
-}
-
-/// The same of a list of clauses.
-fn lines_of(alloc: Global, vars: u16, list: &[i32], steps: u64) -> Result<Option<usize>, Fail> {
-    let formula = formula(alloc, vars, list)?;
-    lines(alloc, &formula, steps)
-}
-
-#[test]
-fn worked_refutations(rt: HostRuntime) -> Result<(), Fail> {
-    for (vars, list, _) in &UNSATISFIABLE {
-        assert!(rt; matches!(lines_of(rt.alloc(), *vars, list, 1_000_000)?, Some(1..)));
-    }
-    Ok(())
-}
-
-#[test]
-fn other_refutations(rt: HostRuntime) -> Result<(), Fail> {
-    let satisfiable: &[i32] = &[1, 2, 0, -1, 0];
-    assert!(rt; lines_of(rt.alloc(), 2, satisfiable, 1_000)? == Some(0));
-    assert!(rt; lines_of(rt.alloc(), 2, satisfiable, 0)?.is_none());
-    Ok(())
 }
 
 /// Each of the pigeons sits in one of fewer holes, and none share one.
