@@ -41,7 +41,7 @@ const SHADOWS: u64 = 8;
 const VARIABLES: u64 = 1_000_000;
 
 /// Of a circuit with so many variables at most, equal registers alone are looked for before equal signals are.
-const FEW_VARIABLES: u32 = 8_000;
+const FEW_VARIABLES: u32 = 4_000;
 
 /// A circuit has many variables where it has more than these.
 const MANY_VARIABLES: u32 = 30_000;
