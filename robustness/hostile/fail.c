@@ -1,16 +1,10 @@
 /* Preloaded into a program: its device calls are counted: files opened, reads, writes but those to standard error, and files renamed. The call
-   number FAIL fails by EIO, and with FAIL_ALL each one from there on; with FAIL_NOTHING it moves no byte, and with FAIL_KILL the program
+   number FAIL fails by EIO, or each of those that EACH names in turn (each.h), and with FAIL_ALL each one from there on; with FAIL_NOTHING it moves no byte, and with FAIL_KILL the program
    is killed there. With FAIL_SHORT each read and write moves one byte at most. At the program's end it writes to the file descriptor
    FAIL_TOLD which calls there were: o, r, w or n, in their order. */
-#define _GNU_SOURCE
-#include <errno.h>
-#include <fcntl.h>
-#include <signal.h>
+#include "each.h"
 #include <stdarg.h>
-#include <stdlib.h>
-#include <sys/syscall.h>
 #include <sys/uio.h>
-#include <unistd.h>
 
 static long wanted = -1, called;
 static int all, nothing, kill_there, short_ones;
@@ -24,6 +18,7 @@ static void settle(void)
     nothing = getenv("FAIL_NOTHING") != NULL;
     kill_there = getenv("FAIL_KILL") != NULL;
     short_ones = getenv("FAIL_SHORT") != NULL;
+    each_settle();
 }
 
 static int fails(char kind)
@@ -33,6 +28,8 @@ static int fails(char kind)
     if (called < (long)sizeof kinds)
         kinds[called] = kind;
     called += 1;
+    if (each_fails(called))
+        wanted = called;
     if (wanted == 0 || !(all ? called >= wanted : called == wanted))
         return 0;
     if (kill_there)
@@ -46,7 +43,7 @@ static size_t room(size_t count) { return short_ones && count > 1 ? 1 : count; }
 __attribute__((destructor)) static void tell(void)
 {
     const char *number = getenv("FAIL_TOLD");
-    if (number)
+    if (number && !each.is_copy)
         syscall(SYS_write, (int)strtol(number, NULL, 10), kinds, called < (long)sizeof kinds ? called : (long)sizeof kinds);
 }
 

@@ -1,10 +1,9 @@
-/* Preloaded into a program: the growth number REFUSE of the heap that it asks for is refused, and with REFUSE_ALL each one
-   from there on. At the program's end it writes to the file descriptor REFUSE_TOLD how often it asked. */
+/* Preloaded into a program: the growth number REFUSE of the heap that it asks for is refused, or each of those that EACH names in turn
+   (each.h), and with REFUSE_ALL each one from there on. At the program's end it writes to the file descriptor REFUSE_TOLD how often it asked. */
+#include "each.h"
 #include <malloc.h>
 #include <stddef.h>
 #include <stdio.h>
-#include <stdlib.h>
-#include <unistd.h>
 
 extern void *__libc_malloc(size_t);
 extern void *__libc_calloc(size_t, size_t);
@@ -19,15 +18,18 @@ static int is_refused(void)
         const char *number = getenv("REFUSE");
         wanted = number ? strtol(number, NULL, 10) : 0;
         all = getenv("REFUSE_ALL") != NULL;
+        each_settle();
     }
     asked += 1;
+    if (each_fails(asked))
+        wanted = asked;
     return wanted != 0 && (all ? asked >= wanted : asked == wanted);
 }
 
 __attribute__((destructor)) static void tell(void)
 {
     const char *number = getenv("REFUSE_TOLD");
-    if (number)
+    if (number && !each.is_copy)
         dprintf((int)strtol(number, NULL, 10), "%ld", asked);
 }
 
