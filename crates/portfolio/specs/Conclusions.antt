@@ -1,5 +1,5 @@
 -- What a conclusion says.
-use Rattle.std.specs.Prelude.{◌≡◌, ◌⊎◌, ℕ}
+use Rattle.std.specs.Prelude.{◌≡◌, ◌⊎◌, ℕ, Option, Some}
 use Rattle.arguments.specs.declared.request.EngineKind.{EngineKind}
 use Rattle.arguments.specs.declared.request.EngineKind.TheVariants.{Rounds}
 use Rattle.graph.specs.declared.circuit.Property.{Property}
@@ -9,7 +9,7 @@ use Rattle.graph.specs.Circuits.{IsUpheld}
 use Rattle.engine.specs.declared.finding.Reason.TheVariants.{NoEvidence}
 use Rattle.verdict.specs.Verdicts.{IsBacked, IsMeant, status_of}
 use Rattle.verdict.specs.declared.verdict.Verdict.{Verdict}
-use Rattle.verdict.specs.declared.verdict.Verdict.TheVariants.{Unknown}
+use Rattle.verdict.specs.declared.verdict.Verdict.TheVariants.{Safe, Unknown, Unsafe}
 use Rattle.rounds.specs.Counted.{IsBacked as AreBacked, IsMeant as AreMeant}
 use Rattle.rounds.specs.declared.counted.Counted.{Counted as CountedRounds}
 use Rattle.rounds.specs.declared.counted.Counted.TheVariants as counted
@@ -36,6 +36,12 @@ abbrev pub IsMeantIn : Parts → Property → ℕ → Conclusion → Type 0
 IsMeantIn m p left (Decided v) = IsMeantWith m p left v
 IsMeantIn m p left (Counted c) = (j : ℕ) × (p ≡ Justice j) × AreMeantWith m j left c
 IsMeantIn m p left (Shown text) = Unit {0}
+
+-- what a verdict decides is given as it is
+abbrev pub IsGiven : Verdict → Option Conclusion → Type 0
+IsGiven (Safe c) given = given ≡ Some (Decided (Safe c))
+IsGiven (Unsafe s) given = given ≡ Some (Decided (Unsafe s))
+IsGiven (Unknown r) given = Unit {0}
 
 -- nothing is known, since a property without rounds has none to count
 abbrev pub IsWithoutRounds : Property → Conclusion → Type 0

@@ -2,10 +2,10 @@
 
 ghost use Rattle.std.specs.Prelude.{◌≡◌, ◌≤◌, ◌<◌, ◌-◌, ◌⊎◌, All, IfOk, IfSome, length};
 ghost use Rattle.engine.specs.declared.finding.Reason.TheVariants.{NoEvidence};
-ghost use Rattle.portfolio.specs.Conclusions.{AreMeantWith, IsConcluded, IsMeantIn, IsMeantWith, IsTold, IsWithoutRounds};
+ghost use Rattle.portfolio.specs.Conclusions.{AreMeantWith, IsConcluded, IsGiven, IsMeantIn, IsMeantWith, IsTold, IsWithoutRounds, status_in};
 ghost use Rattle.portfolio.specs.declared.conclusion.Conclusion.TheVariants as conclusion;
 ghost use Rattle.rounds.specs.Counted.{IsBacked as AreBacked};
-ghost use Rattle.verdict.specs.Verdicts.{IsBacked};
+ghost use Rattle.verdict.specs.Verdicts.{IsBacked, status_of};
 ghost use Rattle.verdict.specs.declared.verdict.Verdict.TheVariants.{Unknown, Unsafe};
 
 use crate::conclusion::Conclusion;
@@ -441,6 +441,27 @@ impl Question<'_> {
         }
     }
 
+    /// What is decided so far, and where nothing is, what signal correspondence comes to with at most so many of the steps.
+    fn signals_unless(
+        self,
+        rt: &HostRuntime,
+        verdict: Verdict,
+        part: u64,
+        steps: u64,
+        counters: &mut Counters,
+    ) -> Result<(Option<Conclusion>, u64), DecideError>
+        requires backed { IsBacked self.circuit.now self.property verdict }
+        ensures given { IfOk result (λ r. IsGiven verdict r.0) }
+        ensures concluded { IfOk result (λ r. IfSome r.0 (IsConcluded self.entry.circuit.now self.entry.property)) }
+        ensures meant { IfOk result (λ r. IfSome r.0 (IsMeantIn self.entry.circuit.now self.entry.property r.1)) }
+        ensures left { IfOk result (λ r. r.1 ≤ steps) }
+    {
+        match verdict {
+            Verdict::Unknown(_) => self.signals_with(rt, part, steps, counters),
+            found => Ok((Some(Conclusion::Decided(found)), steps)),
+        }
+    }
+
     /// What register correspondence says of runs without a step, and else signal correspondence with half of what is left.
     fn both_corresponded(
         self,
@@ -453,10 +474,7 @@ impl Question<'_> {
         ensures left { IfOk result (λ r. r.1 ≤ steps) }
     {
         let (verdict, left) = self.corresponded(rt, 0, steps, counters)?;
-        match verdict {
-            Verdict::Unknown(_) => self.signals_with(rt, left / HALVES, left, counters),
-            found => Ok((Some(Conclusion::Decided(found)), left)),
-        }
+        self.signals_unless(rt, verdict, left / HALVES, left, counters)
     }
 
     /// What both correspondences say, and else bounded search behind equal registers.
@@ -568,10 +586,7 @@ impl Question<'_> {
         let (verdict, left) = self.before_signals(rt, candidates, few, counters)?;
         let rest = steps.saturating_sub(few.saturating_sub(left));
         let part = (rest / SIGNALS_PARTS).min(SIGNALS_STEPS);
-        match verdict {
-            Verdict::Unknown(_) => self.signals_with(rt, part, rest, counters),
-            found => Ok((Some(Conclusion::Decided(found)), rest)),
-        }
+        self.signals_unless(rt, verdict, part, rest, counters)
     }
 
     /// Whether equal signals may show the property.
@@ -659,6 +674,7 @@ impl Question<'_> {
         counters: &mut Counters,
     ) -> Result<(Verdict, u64), DecideError>
         requires backed { IsBacked self.circuit.now self.property (Unsafe stimulus) }
+        ensures violated { IfOk result (λ r. status_of r.0 ≡ 1) }
         ensures backed { IfOk result (λ r. IsBacked self.entry.circuit.now self.entry.property r.0) }
         ensures meant { IfOk result (λ r. IsMeantWith self.entry.circuit.now self.entry.property r.1 r.0) }
         ensures left { IfOk result (λ r. r.1 ≤ steps) }
@@ -685,6 +701,7 @@ impl Question<'_> {
     ) -> Result<(Conclusion, u64), DecideError>
         requires concluded { IsConcluded self.circuit.now self.property conclusion }
         requires meant { IsMeantIn self.circuit.now self.property steps conclusion }
+        ensures same { IfOk result (λ r. status_in r.0 ≡ status_in conclusion) }
         ensures concluded { IfOk result (λ r. IsConcluded self.entry.circuit.now self.entry.property r.0) }
         ensures meant { IfOk result (λ r. IsMeantIn self.entry.circuit.now self.entry.property r.1 r.0) }
         ensures left { IfOk result (λ r. r.1 ≤ steps) }
@@ -749,6 +766,9 @@ impl Question<'_> {
         requires few { left ≤ self.timing.search.budget }
         requires concluded { IsConcluded self.circuit.now self.property conclusion }
         requires meant { IsTold self.timing.search.engine self.circuit.now self.property left conclusion }
+        ensures same { result.conclusion ≡ conclusion }
+        ensures steps { result.steps ≡ self.entry.timing.search.budget - left }
+        ensures counters { result.counters ≡ counters }
         ensures concluded { IsConcluded self.entry.circuit.now self.entry.property result.conclusion }
         ensures meant { IsTold self.entry.timing.search.engine self.entry.circuit.now self.entry.property (self.entry.timing.search.budget - result.steps) result.conclusion }
         ensures few { result.steps ≤ self.entry.timing.search.budget }
