@@ -1,9 +1,10 @@
-//! Asking a solver whether signals are equal, or true wherever others are.
+//! Asking a solver whether signals are equal.
 
 ghost use Rattle.std.specs.Prelude.{◌≡◌, IfOk, OnOk, None, false};
 ghost use Rattle.base.specs.Budget.{Spends};
 ghost use Rattle.signal_rounds.specs.declared.asking.Round.TheVariants.{Spent};
 
+use crate::implied::{add_implication, ask_implication};
 use crate::parts::{Parts, Taken};
 use crate::search::Search;
 use base::{Budget, Refused, copied, push};
@@ -18,6 +19,15 @@ const NEAR_STEPS: u64 = 2_000;
 /// How many steps a question may cost behind that.
 const MOST_STEPS: u64 = 300_000;
 
+/// How many steps the question about the literal may cost that stands before those about equal signals.
+const SOON_STEPS: u64 = 20_000;
+
+/// A circuit is large where it has more variables than this.
+const LARGE: u32 = 4_000;
+
+/// Of so many signals of a large circuit three may be first in their classes.
+const SIGNALS: usize = 5;
+
 /// So many gates are made, or gathered for a question, for one step of the budget.
 const GATES_A_STEP: usize = 8;
 
@@ -28,7 +38,7 @@ pub(crate) enum Round {
     Stays,
     /// A class was split, or an implication violated.
     Split,
-    /// The classes don't exclude the literal, so no later ones do.
+    /// The classes don't exclude the literal, so no later ones do; or they are so many that it is not worth while to go on.
     Open,
     /// The budget is exhausted.
     Spent,
@@ -36,15 +46,15 @@ pub(crate) enum Round {
 
 /// What is asked: whether the signal at a place is equal to the first of its class.
 #[derive(Clone, Copy)]
-struct Question {
-    place: usize,
+pub(crate) struct Question {
+    pub place: usize,
     /// whether that is a step later
-    is_later: bool,
+    pub is_later: bool,
 }
 
 /// What is found of two signals.
 #[derive(Drop)]
-enum Reply {
+pub(crate) enum Reply {
     /// They are equal.
     Equal,
     /// They differ where the variables have these values.
@@ -54,7 +64,7 @@ enum Reply {
 }
 
 /// The literal's negation.
-fn negated(lit: Lit) -> Lit {
+pub(crate) fn negated(lit: Lit) -> Lit {
     Lit(lit.0 ^ 1)
 }
 
@@ -71,21 +81,6 @@ fn begin<S: Sat>(solver: &mut S, alloc: Global, parts: &Parts) -> Result<(), Sat
 {
     solver.reset(alloc, parts.variables())?;
     solver.add(alloc, &[parts.unit(Lit(1))])
-}
-
-/// Adds that one literal is true where another is.
-fn add_implication<S: Sat>(
-    solver: &mut S,
-    alloc: Global,
-    parts: &Parts,
-    high: Lit,
-    low: Lit,
-) -> Result<(), SatError>
-    requires vars { S.vars solver.old ≡ parts.now }
-    ensures vars { S.vars solver.new ≡ S.vars solver.old }
-{
-    let clause = [parts.unit(negated(high)), parts.unit(low)];
-    solver.add(alloc, &clause)
 }
 
 /// Adds that a gate is true where both its right sides are.
@@ -182,7 +177,7 @@ fn ask_part<S: PartSat>(
 }
 
 /// Whether the literals can be true together: by a few gates first.
-fn look<S: PartSat>(
+pub(crate) fn look<S: PartSat>(
     solver: &mut S,
     alloc: Global,
     parts: &mut Parts,
@@ -199,33 +194,6 @@ fn look<S: PartSat>(
         return Ok(answer);
     }
     ask_part(solver, alloc, parts, lits, true, budget)
-}
-
-/// Whether one literal is true where another is. Where that is so, the solver is told.
-fn ask_implication<S: PartSat>(
-    solver: &mut S,
-    alloc: Global,
-    parts: &mut Parts,
-    high: Lit,
-    low: Lit,
-    budget: &mut Budget,
-) -> Result<Reply, SatError>
-    requires vars { S.vars solver.old ≡ parts.old }
-    ensures vars { S.vars solver.new ≡ S.vars solver.old }
-    ensures parts { parts.new ≡ parts.old }
-    ensures spends { Spends budget.old budget.new }
-{
-    if high.0 == 0 || low.0 == 1 {
-        return Ok(Reply::Equal);
-    }
-    match look(solver, alloc, parts, [high, negated(low)], budget)? {
-        Answer::Core(_) => {
-            add_implication(solver, alloc, parts, high, low)?;
-            Ok(Reply::Equal)
-        }
-        Answer::Model(values) => Ok(Reply::Differ(values)),
-        Answer::Spent => Ok(Reply::Unknown),
-    }
 }
 
 /// Whether two literals are equal. Where that is so, the solver is told.
@@ -382,7 +350,7 @@ impl<'a> Search<'a> {
 
     /// Has the next questions also be about what is taken to hold and does not so in a situation. False where there is no such
     /// thing.
-    fn doubt<S: Sat>(
+    pub(crate) fn doubt<S: Sat>(
         &mut self,
         solver: &mut S,
         alloc: Global,
@@ -402,160 +370,6 @@ impl<'a> Search<'a> {
         Ok(self.use_implications(solver, alloc, parts, places)? || is_new)
     }
 
-    /// Has the next questions also be about these implications. False where they all are so already.
-    fn use_implications<S: Sat>(
-        &mut self,
-        solver: &mut S,
-        alloc: Global,
-        parts: &mut Parts,
-        places: &[usize],
-    ) -> Result<bool, SatError>
-        requires vars { S.vars solver.old ≡ parts.old }
-        ensures vars { S.vars solver.new ≡ S.vars solver.old }
-        ensures parts { parts.new ≡ parts.old }
-    {
-        let mut is_new = false;
-        'adding: for place in places {
-            if self.implications.take(*place)? {
-                is_new = true;
-                self.add_used(solver, alloc, parts, *place)?;
-            }
-        }
-        Ok(is_new)
-    }
-
-    /// Adds the implication at a place, where no run violates it, and has the next questions also be about it.
-    fn add_used<S: Sat>(
-        &self,
-        solver: &mut S,
-        alloc: Global,
-        parts: &mut Parts,
-        place: usize,
-    ) -> Result<(), SatError>
-        requires vars { S.vars solver.old ≡ parts.old }
-        ensures vars { S.vars solver.new ≡ S.vars solver.old }
-        ensures parts { parts.new ≡ parts.old }
-    {
-        let Some(implication) = self.implications.left(place) else {
-            return Ok(());
-        };
-        let high = parts.root(implication.high.now);
-        let low = parts.root(implication.low.now);
-        parts.ask_also_of(high, low)?;
-        add_implication(solver, alloc, parts, high, low)
-    }
-
-    /// Adds the implications by which others are shown.
-    fn add_all_used<S: Sat>(
-        &self,
-        solver: &mut S,
-        alloc: Global,
-        parts: &mut Parts,
-    ) -> Result<(), SatError>
-        requires vars { S.vars solver.old ≡ parts.old }
-        ensures vars { S.vars solver.new ≡ S.vars solver.old }
-        ensures parts { parts.new ≡ parts.old }
-    {
-        'adding: for place in self.implications.used() {
-            self.add_used(solver, alloc, parts, *place)?;
-        }
-        Ok(())
-    }
-
-    /// Drops implications by values that violate the one at a place. Where these are none of a situation in which those hold that
-    /// are taken to, the next questions are about that too. Where that is no reason, the one at the place is dropped.
-    fn drop_by<S: Sat>(
-        &mut self,
-        solver: &mut S,
-        alloc: Global,
-        parts: &mut Parts,
-        question: Question,
-        values: &[bool],
-        budget: &mut Budget,
-    ) -> Result<(), SatError>
-        requires vars { S.vars solver.old ≡ parts.old }
-        ensures vars { S.vars solver.new ≡ S.vars solver.old }
-        ensures parts { parts.new ≡ parts.old }
-        ensures spends { Spends budget.old budget.new }
-    {
-        let Question { place, is_later } = question;
-        let situation = self.situation_of(alloc, parts, values)?;
-        let first = copied(alloc, situation.as_slice())?;
-        self.chase(alloc, first, is_later, budget)?;
-        let situation = situation.as_slice();
-        if self.implications.left(place).is_some()
-            && !self.doubt(solver, alloc, parts, situation, is_later, budget)?
-        {
-            self.implications.discard(place);
-        }
-        Ok(())
-    }
-
-    /// Asks until the implication at a place is shown, or is dropped. False where the budget is exhausted.
-    fn ask_used<S: PartSat>(
-        &mut self,
-        solver: &mut S,
-        alloc: Global,
-        parts: &mut Parts,
-        question: Question,
-        budget: &mut Budget,
-    ) -> Result<bool, SatError>
-        requires vars { S.vars solver.old ≡ parts.old }
-        ensures vars { S.vars solver.new ≡ S.vars solver.old }
-        ensures parts { parts.new ≡ parts.old }
-        ensures spends { Spends budget.old budget.new }
-        ensures spent { IfOk result (λ b. b ≡ false → budget.new.left ≡ 0) }
-    {
-        let Question { place, is_later } = question;
-        'asking: while budget.tick() {
-            let Some(implication) = self.implications.left(place) else {
-                return Ok(true);
-            };
-            let high = parts.root(implication.high.at(is_later));
-            let low = parts.root(implication.low.at(is_later));
-            if high == low {
-                return Ok(true);
-            }
-            match ask_implication(solver, alloc, parts, high, low, budget)? {
-                Reply::Equal => return Ok(true),
-                Reply::Differ(values) => {
-                    self.drop_by(solver, alloc, parts, question, values.as_slice(), budget)?;
-                }
-                Reply::Unknown => self.implications.discard(place),
-            }
-        }
-        Ok(false)
-    }
-
-    /// Asks so of each implication by which others are shown. False where the budget is exhausted.
-    fn ask_all_used<S: PartSat>(
-        &mut self,
-        solver: &mut S,
-        alloc: Global,
-        parts: &mut Parts,
-        is_later: bool,
-        budget: &mut Budget,
-    ) -> Result<bool, SatError>
-        requires vars { S.vars solver.old ≡ parts.old }
-        ensures vars { S.vars solver.new ≡ S.vars solver.old }
-        ensures parts { parts.new ≡ parts.old }
-        ensures spends { Spends budget.old budget.new }
-        ensures spent { IfOk result (λ b. b ≡ false → budget.new.left ≡ 0) }
-    {
-        let mut count = 0_usize;
-        'asking: while budget.tick() {
-            let Some(place) = self.implications.used().get(count).copied() else {
-                return Ok(true);
-            };
-            let question = Question { place, is_later };
-            if !self.ask_used(solver, alloc, parts, question, budget)? {
-                return Ok(false);
-            }
-            count = count.saturating_add(1);
-        }
-        Ok(false)
-    }
-
     /// The value of an input of the pair, or where there are implications in the first run, if the last part does not have it.
     fn value_in(&self, parts: &Parts, values: &[bool], input: Lit) -> bool {
         let root = parts.root(input);
@@ -567,7 +381,7 @@ impl<'a> Search<'a> {
     }
 
     /// The values of the inputs of the pair, or those in the first run of what the last part does not have.
-    fn situation_of(
+    pub(crate) fn situation_of(
         &self,
         alloc: Global,
         parts: &Parts,
@@ -684,7 +498,7 @@ impl<'a> Search<'a> {
         if !self.ask_place(solver, alloc, parts, question, budget)? {
             return Ok(Round::Spent);
         }
-        if self.excludes(bad) {
+        if self.excludes(bad) && !self.is_scattered() {
             Ok(Round::Stays)
         } else {
             Ok(Round::Open)
@@ -719,32 +533,47 @@ impl<'a> Search<'a> {
         self.round_of_used(solver, alloc, parts, is_later, bad, budget)
     }
 
-    /// Asks of each implication by which others are shown. Answers whether one of them was violated, or a class was split.
-    fn round_of_used<S: PartSat>(
+    /// Makes the gates a step later.
+    fn make_gates(&self, parts: &mut Parts) -> Result<(), Refused>
+        ensures { parts.new ≡ parts.old }
+    {
+        'making: for place in 0..self.classes.len() {
+            self.make(
+                parts,
+                Question {
+                    place,
+                    is_later: true,
+                },
+            )?;
+        }
+        Ok(())
+    }
+
+    /// Asks with few steps whether the literal is false a step later. Where it is not, splits the classes by that. Answers whether they
+    /// still exclude it.
+    fn still_excludes<S: PartSat>(
         &mut self,
         solver: &mut S,
         alloc: Global,
         parts: &mut Parts,
-        is_later: bool,
         bad: Lit,
         budget: &mut Budget,
-    ) -> Result<Round, SatError>
+    ) -> Result<bool, SatError>
         requires vars { S.vars solver.old ≡ parts.old }
+        ensures vars { S.vars solver.new ≡ S.vars solver.old }
+        ensures parts { parts.new ≡ parts.old }
         ensures spends { Spends budget.old budget.new }
-        ensures spent { IfOk result (λ r. r ≡ Spent → budget.new.left ≡ 0) }
     {
-        let (count, lost) = (self.classes.count(), self.implications.lost());
-        if !self.ask_all_used(solver, alloc, parts, is_later, budget)? {
-            return Ok(Round::Spent);
+        self.make_gates(parts)?;
+        let later = parts.root(self.pair.signal(bad).later);
+        let mut piece = Budget::new(budget.left().min(SOON_STEPS));
+        let reply = ask_implication(solver, alloc, parts, later, Lit(0), &mut piece)?;
+        budget.spend(piece.spent());
+        if let Reply::Differ(values) = reply {
+            let situation = self.situation_of(alloc, parts, values.as_slice())?;
+            self.chase(alloc, situation, true, budget)?;
         }
-        if !self.excludes(bad) {
-            return Ok(Round::Open);
-        }
-        if self.classes.count() == count && self.implications.lost() == lost {
-            Ok(Round::Stays)
-        } else {
-            Ok(Round::Split)
-        }
+        Ok(self.excludes(bad))
     }
 
     /// Asks so of the first states that keep the constraints, or a step after the signals of each class were equal.
@@ -768,6 +597,9 @@ impl<'a> Search<'a> {
         self.begin_round(solver, alloc, parts, is_later, budget)?;
         if is_later {
             self.add_all_used(solver, alloc, parts)?;
+            if !self.still_excludes(solver, alloc, parts, bad, budget)? {
+                return Ok(Round::Open);
+            }
         }
         self.ask_places(solver, alloc, parts, is_later, bad, budget)
     }
@@ -804,6 +636,12 @@ impl<'a> Search<'a> {
     pub(crate) fn excludes(&self, bad: Lit) -> bool {
         let signal = self.classes.signal(self.pair.rank(bad) as usize);
         self.classes.lead(self.pair.rank(bad) as usize) == 0 && signal.now == bad
+    }
+
+    /// Whether most signals of a large circuit are equal to no other. Of two copies of a circuit about half are.
+    fn is_scattered(&self) -> bool {
+        let most = (self.classes.len() / SIGNALS).saturating_mul(3);
+        self.circuit.max_var() > LARGE && self.classes.count() > most
     }
 
     /// Whether the signal at a place is equal to the first of its class, as far as the signals before it and the gates say.

@@ -22,6 +22,9 @@ const IMPLIED_PARTS: u64 = 2;
 /// How many steps that may cost, times the circuit's variables.
 const IMPLIED_STEPS: u64 = 12_000_000_000;
 
+/// In a circuit with more variables they are not looked for: it takes so many steps to sample its signals.
+const MOST_VARIABLES: u32 = 10_000;
+
 /// What is found of a circuit's signals.
 #[derive(Drop)]
 pub enum Found {
@@ -171,7 +174,9 @@ fn found_in<S: PartSat, P: Progress>(
         return Ok(Found::Open);
     };
     match found_by(solver, alloc, &mut search, bad, progress, budget)? {
-        Found::Open => found_behind(alloc, circuit, pair, bad, solver, progress, budget),
+        Found::Open if circuit.max_var() <= MOST_VARIABLES => found_behind(
+            alloc, circuit, pair, bad, solver, progress, budget,
+        ),
         found => Ok(found),
     }
 }

@@ -8,6 +8,7 @@
 
 mod asking;
 mod finding;
+mod implied;
 mod parts;
 mod search;
 
