@@ -1,4 +1,5 @@
 pub mod Clauses
 pub mod Engines
+pub mod Fewer
 pub mod Tried
 pub mod TwoTimes

@@ -5,6 +5,7 @@ use Rattle.std.proofs.lemmas.Grind.{pow_more}
 use Rattle.base.specs.Budget.{Steps}
 use Rattle.graph.specs.declared.circuit.Lit.{Lit}
 use Rattle.graph.specs.declared.circuit.Latch.{Latch}
+use Rattle.graph.specs.declared.circuit.Gate.{Gate}
 use Rattle.graph.specs.declared.circuit.Property.TheVariants.{Bad, Justice}
 use Rattle.graph.specs.declared.parts.Parts.{Parts}
 use Rattle.graph.specs.Circuits.{IsUpheld, Valuation, value_of}
@@ -50,9 +51,9 @@ shown_more m j k initial inputs exact (inr lasso) = absurd (no_justice lasso.pos
 
 -- ---- certificates
 
-shown_by : (m : Parts) (j k : ℕ) (inv : List (List Lit)) (text : List ℕ) → AcceptedLaw → IsWellFormed m → IsCertificateOf m (record { property = Justice j; rounds = k }) [] [] inv text →
+pub shown_by : (m : Parts) (j k : ℕ) (ls : List Latch) (gs : List Gate) (inv : List (List Lit)) (text : List ℕ) → AcceptedLaw → IsWellFormed m → IsCertificateOf m (record { property = Justice j; rounds = k }) ls gs inv text →
     IsShownBy m j k text × IsUpheld m (Justice j)
-shown_by m j k inv text law well h = (record { evidence = h.evidence; is_text = h.is_text }, law m (Justice j) k h.evidence well h.is_text.accepted)
+shown_by m j k ls gs inv text law well h = (record { evidence = h.evidence; is_text = h.is_text }, law m (Justice j) k h.evidence well h.is_text.accepted)
 
 refused_tried : (m : Parts) (j k : ℕ) (e : CertifyError) → IfOk (tried_of e) (IsTried m j k)
 refused_tried m j k (certify.NoProperty n) = tt
@@ -64,7 +65,7 @@ refused_tried m j k (certify.OutOfMemory refused) = tt
 
 tried_so : (m : Parts) (j k : ℕ) (inv : List (List Lit)) (after : Steps) (r : Result Certified CertifyError) → AcceptedLaw → IsWellFormed m →
     IfOk r (IsCertified m (record { property = Justice j; rounds = k }) [] [] inv after) → IfOk (tried_on r) (IsTried m j k)
-tried_so m j k inv after (Ok (Certificate text)) law well h = shown_by m j k inv text law well h
+tried_so m j k inv after (Ok (Certificate text)) law well h = shown_by m j k [] [] inv text law well h
 tried_so m j k inv after (Ok (NotInvariant x)) law well h = tt
 tried_so m j k inv after (Ok Spent) law well h = tt
 tried_so m j k inv after (Ok Unaccepted) law well h = tt

@@ -8,6 +8,7 @@ ghost use Rattle.graph.specs.declared.circuit.Property.TheVariants.{Bad, Justice
 ghost use Rattle.stimulus.specs.declared.value.Stimulus.TheVariants.{Violated};
 ghost use Rattle.stimulus.specs.Shown.{ShowsBad};
 ghost use Rattle.cnf.specs.Invariants.{IsInvariant};
+ghost use Rattle.engine.specs.Findings.{IsForBad};
 ghost use Rattle.extension.specs.Accepted.{IsShowable};
 ghost use Rattle.extension.specs.Rounds.{rounds_of};
 ghost use Rattle.extension.specs.Rows.{IsCountable};
@@ -18,8 +19,9 @@ ghost use Rattle.rounds.specs.Counted.{IsTooLarge};
 ghost use Rattle.rounds.specs.declared.asking.Tried.TheVariants.{Exceeded};
 
 use crate::counted::Cause;
+use crate::shortening::{Counting, listed};
 use crate::sparing::spared;
-use base::{Budget, Lists, Refused, Seq};
+use base::{Budget, Lists, Seq};
 use certificate3::Claim;
 use certify3::{Certified, CertifyError, Effort, Extension, certify};
 use engine::{Engine, Finding, Reason};
@@ -65,17 +67,6 @@ fn counter_for(
         // the property is there
         Err(LiveError::NoProperty(_)) => unreachable!(),
     }
-}
-
-/// The clauses, in one list.
-fn listed(alloc: Global, clauses: &[Seq<Lit>]) -> Result<Lists<Lit>, Refused>
-    ensures { IfOk result (λ l. l ≡ clauses.now) }
-{
-    let mut listed = Lists::new(alloc);
-    for clause in clauses {
-        listed.push(clause.as_slice())?;
-    }
-    Ok(listed)
 }
 
 /// What comes of a run of the circuit that counts: it is replayed.
@@ -170,6 +161,7 @@ fn of_fewer(
     ensures refused { IfErr result (HasCause circuit.now (Justice position)) }
 {
     let fewer = spared(alloc, counter, rounds, clauses, budget)?;
+    let fewer = listed(alloc, fewer.as_slice())?;
     let effort = Effort::Thorough;
     shown_by(alloc, circuit, position, rounds, fewer, effort, budget)
 }
@@ -205,13 +197,23 @@ fn of_clauses(
     budget: &mut Budget,
 ) -> Result<Tried, DecideError>
     requires showable { IsShowable circuit.now (Justice position) rounds }
+    requires for_bad { IsForBad counter.now }
     ensures spends { Spends budget.old budget.new }
     ensures tried { IfOk result (IsTried circuit.now position rounds) }
     ensures meant { IsInvariant (rounds_of circuit.now position rounds) clauses.now → IfOk result (IsMeantFor circuit.now position rounds budget.new) }
     ensures refused { IfErr result (HasCause circuit.now (Justice position)) }
 {
     match of_fewer(alloc, circuit, counter, position, rounds, clauses, budget)? {
-        Tried::Bounded(text) => Ok(Tried::Bounded(text)),
+        Tried::Bounded(text) => {
+            let counting = Counting {
+                circuit,
+                counter,
+                position,
+                rounds,
+            };
+            let shortest = counting.shortest(alloc, text, clauses, budget)?;
+            Ok(Tried::Bounded(shortest))
+        }
         _ => of_all(alloc, circuit, position, rounds, clauses, budget),
     }
 }

@@ -6,6 +6,8 @@
 //!   If the engine is honest, what is not known means what it says (`IsMeant`).
 //! - `order_of_counts` are clauses of the circuits that count, which an engine may try first. By the same order clauses are left
 //!   out of a certificate.
+//! - Once there is a certificate, shorter ones are looked for with a part of the budget: by clauses with fewer literals, by those that
+//!   the others need, and by gates in place of literals that many share. The shortest one that is accepted is answered.
 //! - `RoundsProgress` is told which number of rounds is asked about.
 #![tactic(auto)]
 
@@ -13,7 +15,10 @@ mod asking;
 mod counted;
 mod counting;
 mod progress;
+mod sharing;
+mod shortening;
 mod sparing;
+mod strengthening;
 
 pub use counted::{Cause, Counted};
 pub use counting::decide_rounds;

@@ -6,7 +6,7 @@
 ghost use Rattle.std.specs.Prelude.{◌<◌, length};
 ghost use Rattle.base.specs.Budget.{Spends};
 
-use base::{Budget, Lists, Refused, Seq};
+use base::{Budget, Refused, Seq};
 use extension::count_rounds;
 use graph::{Latch, Lit, Model};
 use live_safe::LiveError;
@@ -129,23 +129,32 @@ pub fn order_of_counts(
 }
 
 /// The clauses that the order does not say.
-fn unsaid(alloc: Global, counts: Counts, clauses: &[Seq<Lit>]) -> Result<Lists<Lit>, Refused> {
+fn unsaid(alloc: Global, counts: Counts, clauses: &[Seq<Lit>]) -> Result<Seq<Seq<Lit>>, Refused> {
     let are_few = clauses.len() <= MOST_CLAUSES;
-    let mut kept = Lists::new(alloc);
+    let mut kept = Seq::new(alloc);
     for place in 0..clauses.len() {
         if !are_few || !counts.is_said(clauses, place) {
-            kept.push(clauses[place].as_slice())?;
+            kept.push(clauses[place].copy(alloc)?)?;
         }
     }
     Ok(kept)
 }
 
+/// How many steps it takes to compare so many clauses.
+fn steps_of(clauses: usize) -> u64 {
+    if clauses > MOST_CLAUSES {
+        return 0;
+    }
+    let compared = clauses as u64;
+    compared * compared / PAIRS
+}
+
 /// The latches that count from the first one that a clause has.
-fn named<'a>(latches: &'a [Latch], clauses: &Lists<Lit>) -> &'a [Latch] {
+fn named<'a>(latches: &'a [Latch], clauses: &[Seq<Lit>]) -> &'a [Latch] {
     let counts = Counts::of(latches);
     let mut least = counts.last;
-    for place in 0..clauses.len() {
-        least = counts.least(clauses.list(place), least);
+    for clause in clauses {
+        least = counts.least(clause.as_slice(), least);
     }
     let others = least.saturating_sub(counts.first) as usize;
     &latches[others.min(latches.len())..]
@@ -159,16 +168,15 @@ pub(crate) fn spared(
     rounds: u32,
     clauses: &[Seq<Lit>],
     budget: &mut Budget,
-) -> Result<Lists<Lit>, Refused>
+) -> Result<Seq<Seq<Lit>>, Refused>
     ensures spends { Spends budget.old budget.new }
 {
-    let compared = clauses.len().min(MOST_CLAUSES) as u64;
-    budget.spend(compared * compared / PAIRS);
+    budget.spend(steps_of(clauses.len()));
     let latches = counts_of(counter, rounds);
     let mut kept = unsaid(alloc, Counts::of(latches), clauses)?;
-    let order = order_of(alloc, named(latches, &kept))?;
+    let order = order_of(alloc, named(latches, kept.as_slice()))?;
     for clause in order.as_slice() {
-        kept.push(clause.as_slice())?;
+        kept.push(clause.copy(alloc)?)?;
     }
     Ok(kept)
 }
