@@ -67,6 +67,9 @@ const ROUNDS_PARTS: u64 = 16;
 /// So many rounds have their order among the clauses that IC3 tries first.
 const ORDERED_ROUNDS: u32 = 255;
 
+/// A shorter run that violates a justice property may cost so many times the steps that were spent before.
+const SHORTER_STEPS: u64 = 4;
+
 /// How many steps of a budget of its own `is_shown_safe` may cost.
 const OWN_STEPS: u64 = 100_000_000;
 
@@ -664,8 +667,8 @@ impl Question<'_> {
         }
     }
 
-    /// A shortest run that violates the property, where bounded search finds it with at most as many steps as were spent so far, and
-    /// else this one.
+    /// A shortest run that violates the property, where bounded search finds it with at most four times the steps that were spent so
+    /// far, and else this one.
     fn shortest(
         self,
         rt: &HostRuntime,
@@ -682,7 +685,8 @@ impl Question<'_> {
         let Some(depth) = self.steps_of_shorter(&stimulus) else {
             return Ok((Verdict::Unsafe(stimulus), steps));
         };
-        let part = steps.min(self.timing.search.budget.saturating_sub(steps));
+        let spent = self.timing.search.budget.saturating_sub(steps);
+        let part = steps.min(spent.saturating_mul(SHORTER_STEPS));
         let (found, left) = self.bounded_to(rt, depth, part, counters)?;
         let rest = steps.saturating_sub(part.saturating_sub(left));
         match found {
