@@ -6,7 +6,9 @@
 #![tactic(auto)]
 
 mod asking;
+mod behind;
 mod conclusion;
+mod engines;
 
 pub use asking::{Answered, Question, is_shown_safe};
 pub use conclusion::Conclusion;
