@@ -9,7 +9,7 @@ use Rattle.solver.specs.Full.{full}
 use Rattle.engine.specs.Bounds.{IsClear}
 use Rattle.engine.specs.declared.finding.Reason.{Reason}
 use Rattle.engine.specs.declared.finding.Reason.TheVariants as reason
-use Rattle.extension.specs.Rounds.{HoldsMore, rounds_of}
+use Rattle.extension.specs.Rounds.{HoldsFew, HoldsMore, rounds_of}
 use Rattle.certify3.specs.declared.certified.Certified.{Certified}
 use Rattle.certify3.specs.declared.certified.Certified.TheVariants.{Certificate, NotInvariant, Spent, Unaccepted as NotAccepted}
 use Rattle.certify3.specs.declared.certify_error.CertifyError.{CertifyError}
@@ -22,9 +22,10 @@ use Rattle.rounds.specs.declared.counted.Cause.{Cause}
 use Rattle.rounds.specs.declared.counted.Cause.TheVariants.{Budget, Depth, NoEvidence, Unaccepted, Unbounded, Variables}
 use Rattle.rounds.specs.Counted.{IsShownBy, IsTooLarge}
 
--- the text is accepted and the property upheld, or a run holds more rounds, or they cannot be counted, or nothing is known
+-- the text is accepted and the property upheld, and no run holds more rounds; or a run holds more, or they cannot be counted, or
+-- nothing is known
 abbrev pub IsTried : Parts → ℕ → ℕ → Tried → Type 0
-IsTried m j k (Bounded text) = IsShownBy m j k text × IsUpheld m (Justice j)
+IsTried m j k (Bounded text) = IsShownBy m j k text × IsUpheld m (Justice j) × HoldsFew m j k
 IsTried m j k Exceeded = HoldsMore m j k
 IsTried m j k TooLarge = IsTooLarge m j k
 IsTried m j k (Unknown cause) = Unit {0}

@@ -6,7 +6,7 @@ use Rattle.graph.specs.declared.parts.Parts.{Parts}
 use Rattle.graph.specs.Circuits.{IsUpheld}
 use Rattle.engine.specs.Bounds.{IsClear}
 use Rattle.extension.specs.Accepted.{Evidence}
-use Rattle.extension.specs.Rounds.{HoldsMore, rounds_of}
+use Rattle.extension.specs.Rounds.{HoldsFew, HoldsMore, rounds_of}
 use Rattle.certify3.specs.Outcomes.{IsTextOf}
 use Rattle.rounds.specs.declared.counted.Cause.{Cause}
 use Rattle.rounds.specs.declared.counted.Cause.TheVariants.{Budget, Depth, NoEvidence, Unaccepted, Unbounded, Variables}
@@ -26,9 +26,10 @@ IsTooLarge m j k = 4194303 < (rounds_of m j k).max_var
 abbrev pub AreHeld : Parts → ℕ → ℕ → Type 0
 AreHeld m j held = (held ≡ 0) ⊎ ((k : ℕ) × (held ≡ k + 1) × HoldsMore m j k)
 
--- the certificate is accepted and the property upheld; or nothing is known but that a run holds so many rounds
+-- the certificate is accepted and the property upheld, and no run that keeps the constraints holds more than k rounds; or nothing is
+-- known but that a run holds so many rounds
 abbrev pub IsBacked : Parts → ℕ → Counted → Type 0
-IsBacked m j (Bounded k text) = IsShownBy m j k text × IsUpheld m (Justice j)
+IsBacked m j (Bounded k text) = IsShownBy m j k text × IsUpheld m (Justice j) × HoldsFew m j k
 IsBacked m j (Unknown cause held) = AreHeld m j held
 
 -- why nothing is known: the budget is exhausted, or no run so short holds more than a number of rounds that was asked about,

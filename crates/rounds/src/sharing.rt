@@ -19,6 +19,9 @@ const FEWEST_CLAUSES: usize = 10;
 /// Of clauses with more literals than this no pairs are looked at.
 const MOST_LITERALS: usize = 128;
 
+/// Of clauses with more pairs of literals than this no pair is counted.
+const MOST_PAIRS: u64 = 2_000_000;
+
 /// So many pairs of literals are looked at in one step.
 const PAIRS: u64 = 16;
 
@@ -29,7 +32,7 @@ const LOWER: u64 = 0xffff_ffff;
 #[derive(Drop)]
 pub(crate) struct Shared {
     /// the clauses
-    pub clauses: Seq<Seq<Lit>>,
+    pub clauses: Vec<Seq<Lit>>,
     /// the gates
     pub gates: Vec<Gate>,
 }
@@ -42,6 +45,18 @@ fn pair_of(one: Lit, other: Lit) -> u64 {
 /// The literal that a half of such a number is.
 fn literal_of(half: u64) -> Lit {
     Lit(u32::try_from(half).unwrap_or(0))
+}
+
+/// How many pairs of literals of the clauses are looked at.
+fn count_of_pairs(clauses: &[Seq<Lit>]) -> u64 {
+    let mut count: u64 = 0;
+    for clause in clauses {
+        let literals = clause.len();
+        if literals <= MOST_LITERALS {
+            count = count.saturating_add((literals * literals.saturating_sub(1) / 2) as u64);
+        }
+    }
+    count
 }
 
 /// Adds the pairs of a literal with those behind it.
@@ -106,11 +121,8 @@ fn copied(alloc: Global, clauses: &[Seq<Lit>]) -> Result<Seq<Seq<Lit>>, Refused>
     Ok(copied)
 }
 
-/// The clause with this literal in place of the two, where it has both.
+/// The clause with this literal in place of the two.
 fn replaced(alloc: Global, clause: &[Lit], pair: [Lit; 2], by: Lit) -> Result<Seq<Lit>, Refused> {
-    if !has_both(clause, pair) {
-        return Seq::from_slice(alloc, clause);
-    }
     let mut literals = Vec::new(alloc);
     for lit in clause {
         if !pair.contains(lit) {
@@ -121,18 +133,19 @@ fn replaced(alloc: Global, clause: &[Lit], pair: [Lit; 2], by: Lit) -> Result<Se
     Ok(Seq::from_vec(literals))
 }
 
-/// Each clause with this literal in place of the two, where it has both.
-fn all_replaced(
+/// Puts this literal in place of the two in each clause that has both.
+fn replace_in_all(
     alloc: Global,
-    clauses: &[Seq<Lit>],
+    clauses: &mut Vec<Seq<Lit>>,
     pair: [Lit; 2],
     by: Lit,
-) -> Result<Seq<Seq<Lit>>, Refused> {
-    let mut found = Seq::new(alloc);
-    for clause in clauses {
-        found.push(replaced(alloc, clause.as_slice(), pair, by)?)?;
+) -> Result<(), Refused> {
+    for clause in clauses.iter_mut() {
+        if has_both(clause.as_slice(), pair) {
+            *clause = replaced(alloc, clause.as_slice(), pair, by)?;
+        }
     }
-    Ok(found)
+    Ok(())
 }
 
 /// The clauses, with the negation of a gate of the circuit in place of the negations of its two sides.
@@ -144,22 +157,16 @@ pub(crate) fn with_own_gates(
 ) -> Result<Seq<Seq<Lit>>, Refused>
     ensures { Spends budget.old budget.new }
 {
-    let mut found = copied(alloc, clauses)?;
+    let mut found = copied(alloc, clauses)?.into_vec();
     'replacing: for gate in circuit.gates() {
         if !budget.tick() {
-            return Ok(found);
+            return Ok(Seq::from_vec(found));
         }
         budget.spend(clauses.len() as u64 / PAIRS);
         let pair = [Lit(gate.rhs0.0 ^ 1), Lit(gate.rhs1.0 ^ 1)];
-        if found
-            .as_slice()
-            .iter()
-            .any(|clause| has_both(clause.as_slice(), pair))
-        {
-            found = all_replaced(alloc, found.as_slice(), pair, Lit(gate.lhs.0 ^ 1))?;
-        }
+        replace_in_all(alloc, &mut found, pair, Lit(gate.lhs.0 ^ 1))?;
     }
-    Ok(found)
+    Ok(Seq::from_vec(found))
 }
 
 impl Shared {
@@ -168,7 +175,7 @@ impl Shared {
         requires { variable ≤ 4194367 }
     {
         let by = Lit(2 * variable + 1);
-        self.clauses = all_replaced(alloc, self.clauses.as_slice(), pair, by)?;
+        replace_in_all(alloc, &mut self.clauses, pair, by)?;
         push(
             &mut self.gates,
             Gate {
@@ -190,17 +197,20 @@ pub(crate) fn with_gates(
     requires { first ≤ 4194304 }
     ensures { Spends budget.old budget.new }
 {
-    let gates = Vec::new(alloc);
-    let mut shared = Shared { clauses, gates };
+    let mut shared = Shared {
+        clauses: clauses.into_vec(),
+        gates: Vec::new(alloc),
+    };
     'sharing: for k in 0..MOST_GATES {
+        let count = count_of_pairs(shared.clauses.as_slice());
+        budget.spend(count / PAIRS);
+        if count > MOST_PAIRS || budget.left() == 0 {
+            return Ok(shared);
+        }
         let pairs = pairs_of(alloc, shared.clauses.as_slice())?;
-        budget.spend(pairs.len() as u64 / PAIRS);
         let Some(pair) = most_frequent(pairs.as_slice()) else {
             return Ok(shared);
         };
-        if budget.left() == 0 {
-            return Ok(shared);
-        }
         let literals = [literal_of(pair >> 32), literal_of(pair & LOWER)];
         shared.add_gate(alloc, first + k, literals)?;
     }

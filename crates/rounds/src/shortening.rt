@@ -1,6 +1,6 @@
 //! Shorter certificates of the same number of rounds.
 
-ghost use Rattle.std.specs.Prelude.{◌≡◌, ◌⊎◌, Some, IfOk, IfSome};
+ghost use Rattle.std.specs.Prelude.{◌≡◌, ◌≤◌, ◌⊎◌, Some, IfOk, IfSome, length};
 ghost use Rattle.base.specs.Budget.{Spends};
 ghost use Rattle.engine.specs.Findings.{IsForBad};
 ghost use Rattle.rounds.specs.Asked.{IsTried};
@@ -12,7 +12,7 @@ use crate::strengthening::{needed, strengthened};
 use base::{Budget, Lists, Refused, Seq, push};
 use certificate3::Claim;
 use certify3::{Certified, CertifyError, Effort, Extension, certify};
-use extension::accepted_law;
+use extension::{accepted_law, rounds_laws};
 use graph::{Gate, Lit, Model, Property};
 use std::alloc::Global;
 
@@ -85,7 +85,9 @@ fn backwards(alloc: Global, clauses: &[Seq<Lit>]) -> Result<Seq<Seq<Lit>>, Refus
 
 /// The shorter one of two texts.
 fn shorter_of(text: Seq<u8>, other: Option<Seq<u8>>) -> Seq<u8>
-    ensures { (result ≡ text) ⊎ (other ≡ Some result) }
+    ensures one { (result ≡ text) ⊎ (other ≡ Some result) }
+    ensures short { length result ≤ length text }
+    ensures shorter { IfSome other (λ t. length result ≤ length t) }
 {
     match other {
         Some(found) => {
@@ -113,6 +115,7 @@ impl Counting<'_> {
     {
         self.circuit.well_formed();
         accepted_law();
+        rounds_laws(self.circuit, self.position, self.rounds);
         let claim = Claim {
             property: Property::Justice(self.position),
             rounds: self.rounds,
@@ -148,6 +151,7 @@ impl Counting<'_> {
         requires tried { IsTried self.circuit.now self.position self.rounds (Bounded text) }
         ensures spends { Spends budget.old budget.new }
         ensures tried { IfOk result (λ t. IsTried self.entry.circuit.now self.entry.position self.entry.rounds (Bounded t)) }
+        ensures short { IfOk result (λ t. length t ≤ length text) }
     {
         let found = self.shown_with(alloc, clauses, gates, budget)?;
         Ok(shorter_of(text, found))
@@ -178,6 +182,7 @@ impl Counting<'_> {
         requires tried { IsTried self.circuit.now self.position self.rounds (Bounded text) }
         ensures spends { Spends budget.old budget.new }
         ensures tried { IfOk result (λ t. IsTried self.entry.circuit.now self.entry.position self.entry.rounds (Bounded t)) }
+        ensures short { IfOk result (λ t. length t ≤ length text) }
     {
         self.counter.well_formed();
         let longest = by_length(alloc, clauses, true)?;
@@ -199,6 +204,7 @@ impl Counting<'_> {
         requires tried { IsTried self.circuit.now self.position self.rounds (Bounded text) }
         ensures spends { Spends budget.old budget.new }
         ensures tried { IfOk result (λ t. IsTried self.entry.circuit.now self.entry.position self.entry.rounds (Bounded t)) }
+        ensures short { IfOk result (λ t. length t ≤ length text) }
     {
         let stronger = strengthened(alloc, self.counter, clauses, budget)?;
         let few = self.few(alloc, stronger.as_slice(), budget)?;
@@ -222,6 +228,7 @@ impl Counting<'_> {
         requires tried { IsTried self.circuit.now self.position self.rounds (Bounded text) }
         ensures spends { Spends budget.old budget.new }
         ensures tried { IfOk result (λ t. IsTried self.entry.circuit.now self.entry.position self.entry.rounds (Bounded t)) }
+        ensures short { IfOk result (λ t. length t ≤ length text) }
     {
         let few = self.few(alloc, clauses, budget)?;
         let turned = backwards(alloc, few.as_slice())?;
@@ -241,6 +248,7 @@ impl Counting<'_> {
         requires tried { IsTried self.circuit.now self.position self.rounds (Bounded text) }
         ensures spends { Spends budget.old budget.new }
         ensures tried { IfOk result (λ t. IsTried self.entry.circuit.now self.entry.position self.entry.rounds (Bounded t)) }
+        ensures short { IfOk result (λ t. length t ≤ length text) }
     {
         let mut part = Budget::new(budget.left().min(MOST_STEPS));
         let found = self.or_fewer(alloc, text, clauses, &mut part);
