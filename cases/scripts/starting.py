@@ -10,7 +10,7 @@ import signal
 import subprocess
 import sys
 
-from trial import TOP, Wrong, call, case, children, expect, is_there, make, make_script, wait_for
+from trial import TOP, call, case, children, expect, is_there, make, make_script, wait_for
 
 sys.path.insert(0, str(TOP / "share" / "lugyveron"))
 
@@ -264,6 +264,11 @@ def fails(scratch):
     expect(os.listdir(scratch / "temporary"), [], "what it leaves")
 
 
+def sleeping(process):
+    """The process below another one that sleeps."""
+    return next((number for number, name in children(process).items() if name == "sleep"), None)
+
+
 @case("build: SIGTERM and SIGINT")
 def signalled(scratch):
     here = Repository(scratch)
@@ -272,10 +277,10 @@ def signalled(scratch):
         running = here.begun()
         builder = wait_for(lambda: next(iter(children(running.pid)), None), "rt is not called")
         wait_for((scratch / "builds").exists, "rt does not begin")
-        below = wait_for(lambda: next(iter(children(builder)), None), "rt calls nothing")
+        below = wait_for(lambda: sleeping(builder), "rt calls nothing")
         running.send_signal(number)
         _, told = running.communicate(timeout=60)
-        if is_there(builder) or is_there(below):
-            raise Wrong("rt goes on")
+        # A process that was killed is there for a moment.
+        wait_for(lambda: not (is_there(builder) or is_there(below)), "rt goes on")
         expect((running.returncode, told.splitlines()[-1]), (-number, b"bin/build: stopped"), "what it does")
         expect(os.listdir(scratch / "temporary"), [], "what it leaves")
