@@ -7,7 +7,7 @@ use base::Failed;
 use thiserror::Error;
 
 /// Why the text of a file is not written whole.
-#[derive(Clone, Copy, Debug, PartialEq, Eq, Error)]
+#[derive(Clone, Copy, Debug, Error)]
 pub enum AagWriteError {
     /// the sink failed
     #[error("the device failed")]

@@ -9,7 +9,7 @@ use crate::read_fault::ReadFault;
 use scan::{Fault, counts, field, tag};
 
 /// What a header states: the greatest variable, and how many there are of each kind.
-#[derive(Clone, Copy, PartialEq, Eq)]
+#[derive(Clone, Copy)]
 pub struct Header {
     pub max_var: u32,
     pub inputs: u32,

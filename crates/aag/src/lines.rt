@@ -15,7 +15,7 @@ use std::alloc::Global;
 pub const GREATEST: u32 = MOST_VARIABLES;
 
 /// A literal that defines nothing.
-#[derive(Clone, Copy, PartialEq, Eq)]
+#[derive(Clone, Copy)]
 pub struct NotDefining;
 
 impl LayoutFault for NotDefining {
@@ -125,7 +125,7 @@ pub struct LiteralLine;
 
 /// How a line of a literal that is only used is read: the greatest variable, and what the reader
 /// calls the faults.
-#[derive(Clone, Copy, PartialEq, Eq)]
+#[derive(Clone, Copy)]
 pub struct UseLine<K> {
     pub max_var: u32,
     pub kinds: Kinds<K>,

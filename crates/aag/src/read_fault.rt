@@ -8,7 +8,7 @@ use scan::{Fault, Kinds, place};
 
 /// What is wrong in a text, before its place is known as a byte of the whole. `L` is what only the
 /// text's layout refuses.
-#[derive(Clone, Copy, PartialEq, Eq)]
+#[derive(Clone, Copy)]
 pub enum ReadFault<L> {
     /// Not the word that begins a text, or a byte that may not end a count.
     Header,

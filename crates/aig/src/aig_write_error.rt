@@ -9,7 +9,7 @@ use base::Failed;
 use thiserror::Error;
 
 /// Why the text of a file is not written whole.
-#[derive(Clone, Copy, Debug, PartialEq, Eq, Error)]
+#[derive(Clone, Copy, Debug, Error)]
 pub enum AigWriteError {
     /// inputs, latches and gates don't have the literals 2, 4, 6 and so on, or those of a gate don't
     /// descend

@@ -10,7 +10,7 @@ use graph::ReadError;
 use scan::Fault;
 
 /// No difference between a gate's literals.
-#[derive(Clone, Copy, PartialEq, Eq)]
+#[derive(Clone, Copy)]
 pub struct NoDelta;
 
 impl LayoutFault for NoDelta {

@@ -13,7 +13,7 @@ use base::Sink;
 use graph::AigerFile;
 
 /// A layout of a circuit's file (AIGER 1.9).
-#[derive(Clone, Copy, PartialEq, Eq)]
+#[derive(Clone, Copy)]
 pub enum Layout {
     /// a line for each item
     Ascii,

@@ -8,7 +8,7 @@ use graph::ReadError;
 use thiserror::Error;
 
 /// Why a source gives no circuit.
-#[derive(Clone, Copy, Debug, PartialEq, Eq, Error)]
+#[derive(Clone, Copy, Debug, Error)]
 pub enum LoadError {
     /// its bytes spell none, or memory is refused
     #[error("{0}")]

@@ -15,7 +15,7 @@ use thiserror::Error;
 use verdict::DecideError;
 
 /// Why a call for a command refused.
-#[derive(Clone, Copy, Debug, PartialEq, Eq, Error)]
+#[derive(Clone, Copy, Debug, Error)]
 pub enum CommandError {
     /// the circuit's file was not read
     #[error("{0}")]

@@ -10,7 +10,7 @@ use crate::given::Given;
 use std::io::Read;
 
 /// A device failed: nothing was moved, and its count of failures rose by one.
-#[derive(Clone, Copy, Debug, PartialEq, Eq)]
+#[derive(Clone, Copy, Debug)]
 pub struct Failed;
 
 /// Where bytes come from.

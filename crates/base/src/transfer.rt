@@ -11,7 +11,7 @@ use crate::source::{Failed, Source};
 use std::alloc::Global;
 
 /// Why a source was not read to its end.
-#[derive(Clone, Copy, Debug, PartialEq, Eq)]
+#[derive(Clone, Copy, Debug)]
 pub enum ReadAllError {
     /// A growth was refused.
     OutOfMemory(Refused),
@@ -56,7 +56,7 @@ pub fn read_all<S: Source>(
 }
 
 /// Why a source was not read to its end, where there is no limit.
-#[derive(Clone, Copy, Debug, PartialEq, Eq)]
+#[derive(Clone, Copy, Debug)]
 pub enum ReadToEndError {
     /// A growth was refused.
     OutOfMemory(Refused),

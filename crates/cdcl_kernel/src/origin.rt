@@ -1,7 +1,7 @@
 //! Where clauses come from.
 
 /// Where a clause comes from.
-#[derive(Clone, Copy, PartialEq, Eq)]
+#[derive(Clone, Copy)]
 pub enum Origin {
     /// the user added it
     Added,

@@ -4,7 +4,7 @@ use crate::values::Values;
 use cdcl_kernel::Kernel;
 
 /// What the values leave of a clause.
-#[derive(Clone, Copy, PartialEq, Eq)]
+#[derive(Clone, Copy)]
 pub enum ClauseStatus {
     /// no clause has the id
     Missing,

@@ -9,7 +9,7 @@ use base::Refused;
 use thiserror::Error;
 
 /// Why the text of a certificate is refused. A place is a byte of the text.
-#[derive(Clone, Copy, Debug, PartialEq, Eq, Error)]
+#[derive(Clone, Copy, Debug, Error)]
 pub enum CertError {
     /// no number stands here, or one that is out of its limits
     #[error("byte {place}: no number in its limits")]

@@ -7,7 +7,7 @@ use crate::cert_error::CertError;
 use scan::{Fault, Kinds, place};
 
 /// What is wrong in a text, before its place is known as a byte of the whole.
-#[derive(Clone, Copy, PartialEq, Eq)]
+#[derive(Clone, Copy)]
 pub enum CertFault {
     /// Not the first line of a certificate.
     Version,

@@ -8,7 +8,7 @@ use base::Failed;
 use thiserror::Error;
 
 /// Why a certificate is not written whole.
-#[derive(Clone, Copy, Debug, PartialEq, Eq, Error)]
+#[derive(Clone, Copy, Debug, Error)]
 pub enum CertWriteError {
     /// the invariant does not have as many cases, the lemmas not counted; nothing was put
     #[error("{found} sections are not those of the invariant")]

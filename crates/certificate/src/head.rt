@@ -16,7 +16,7 @@ use std::alloc::Global;
 pub const GREATEST: u32 = MOST_VARIABLES;
 
 /// The version of a text.
-#[derive(Clone, Copy, PartialEq, Eq)]
+#[derive(Clone, Copy)]
 pub enum Version {
     /// Without lemmas.
     One,

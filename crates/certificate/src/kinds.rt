@@ -12,7 +12,7 @@ use scan::{Fault, LineKind, byte, field};
 use std::alloc::Global;
 
 /// What the sections of a certificate are of.
-#[derive(Clone, Copy, PartialEq, Eq)]
+#[derive(Clone, Copy)]
 pub enum SectionKind {
     /// the lemmas, in version 2
     Lemmas,

@@ -14,7 +14,7 @@ use pieces::LineError;
 use thiserror::Error;
 
 /// Why the parts of a certificate's text are not read on.
-#[derive(Clone, Copy, Debug, PartialEq, Eq, Error)]
+#[derive(Clone, Copy, Debug, Error)]
 pub enum ReaderError {
     /// the text is refused, or memory is refused
     #[error("{0}")]

@@ -8,7 +8,7 @@ use graph::Property;
 use scan::{Fault, byte, field};
 
 /// The property, for justice with the number of rounds that no run goes beyond; else that is 0.
-#[derive(Clone, Copy, PartialEq, Eq)]
+#[derive(Clone, Copy)]
 pub struct Claim {
     pub property: Property,
     pub rounds: u32,

@@ -8,7 +8,7 @@ use scan::{Fault, LineKind, byte, tag};
 use std::alloc::Global;
 
 /// The version of a certificate, of those that there are.
-#[derive(Clone, Copy, PartialEq, Eq)]
+#[derive(Clone, Copy)]
 pub enum Format {
     /// version 1 or 2
     Earlier(Version),

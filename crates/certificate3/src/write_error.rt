@@ -7,7 +7,7 @@ use base::Failed;
 use thiserror::Error;
 
 /// Why a certificate is not written whole.
-#[derive(Clone, Copy, Debug, PartialEq, Eq, Error)]
+#[derive(Clone, Copy, Debug, Error)]
 pub enum WriteError {
     /// no text spells it: a number or a count over its limit, other lists of hints than clauses, or
     /// rounds of a safety property; nothing was put

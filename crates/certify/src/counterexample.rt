@@ -8,7 +8,7 @@ use graph::{Lit, Model};
 use std::alloc::Global;
 
 /// One of the cases of clauses that are to be an inductive invariant. The clauses count from 0.
-#[derive(Clone, Copy, PartialEq, Eq)]
+#[derive(Clone, Copy)]
 pub enum Case {
     /// the resets hold, and the clause is false
     Initial(u64),

@@ -11,7 +11,7 @@ use solver::Full;
 use thiserror::Error;
 
 /// Why nothing came of the clauses.
-#[derive(Clone, Copy, Debug, PartialEq, Eq, Error)]
+#[derive(Clone, Copy, Debug, Error)]
 pub enum CertifyError {
     /// the circuit has no property of this position
     #[error("there is no property {0}")]

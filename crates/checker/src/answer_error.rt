@@ -16,7 +16,7 @@ use replay::TextError;
 use stimulus::StimError;
 
 /// Why there is no yes.
-#[derive(Clone, Copy, PartialEq, Eq)]
+#[derive(Clone, Copy)]
 pub enum AnswerError {
     /// The answer is no, for the refusal with this number.
     No(u8),

@@ -14,7 +14,7 @@ use itoa::Buffer;
 use std::alloc::Global;
 
 /// What is asked of two texts.
-#[derive(Clone, Copy, PartialEq, Eq)]
+#[derive(Clone, Copy)]
 pub enum Question {
     /// Whether the second is a certificate that is accepted for the first.
     Safe,

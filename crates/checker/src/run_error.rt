@@ -9,7 +9,7 @@ use base::{Failed, Refused};
 use thiserror::Error;
 
 /// Why neither yes nor no is answered.
-#[derive(Clone, Copy, Debug, PartialEq, Eq, Error)]
+#[derive(Clone, Copy, Debug, Error)]
 pub enum RunError {
     /// out of memory
     #[error("{0}")]

@@ -315,7 +315,7 @@ fn check_property<S: Source>(
 }
 
 /// What was read and found.
-#[derive(Clone, Copy, PartialEq, Eq)]
+#[derive(Clone, Copy)]
 pub struct Outcome {
     /// the property that the certificate names
     pub property: Property,

@@ -12,7 +12,7 @@ use lrat::StepError;
 use thiserror::Error;
 
 /// Why a certificate is not accepted for a circuit.
-#[derive(Clone, Copy, Debug, PartialEq, Eq, Error)]
+#[derive(Clone, Copy, Debug, Error)]
 pub enum CheckError {
     /// the circuit has no such property
     #[error("there is no property {property}")]

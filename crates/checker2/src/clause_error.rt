@@ -8,7 +8,7 @@ use base::Refused;
 use thiserror::Error;
 
 /// Why the clauses of an invariant are refused.
-#[derive(Clone, Copy, Debug, PartialEq, Eq, Error)]
+#[derive(Clone, Copy, Debug, Error)]
 pub enum ClauseError {
     /// the clause, from 0, has a literal that is not a latch's
     #[error("clause {clause}: a literal is not a latch's")]

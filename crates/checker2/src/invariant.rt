@@ -13,7 +13,7 @@ use graph::{Lit, Model};
 use std::alloc::Global;
 
 /// What is wrong with a clause.
-#[derive(Clone, Copy, PartialEq, Eq)]
+#[derive(Clone, Copy)]
 pub enum ClauseFault {
     /// A literal is not a latch's.
     NotLatch,

@@ -7,7 +7,7 @@ use lrat::Fault;
 use thiserror::Error;
 
 /// Why a certificate is not accepted for a circuit: the first cause.
-#[derive(Clone, Copy, Debug, PartialEq, Eq, Error)]
+#[derive(Clone, Copy, Debug, Error)]
 pub enum CheckError {
     /// the circuit has no such property
     #[error("there is no such property")]

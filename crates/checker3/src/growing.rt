@@ -16,7 +16,7 @@ use std::alloc::Global;
 const MAX_VAR: usize = MOST_VARIABLES as usize;
 
 /// Why a circuit is not extended.
-#[derive(Clone, Copy, PartialEq, Eq)]
+#[derive(Clone, Copy)]
 pub enum GrowError {
     /// The latches and gates are refused.
     Refused(CheckError),

@@ -23,7 +23,7 @@ use live_safe::LiveError;
 use std::alloc::Global;
 
 /// What was read and found.
-#[derive(Clone, Copy, PartialEq, Eq)]
+#[derive(Clone, Copy)]
 pub struct Outcome {
     /// what the certificate claims
     pub claim: Claim,

@@ -9,7 +9,7 @@ use base::Refused;
 use thiserror::Error;
 
 /// Why there is no formula.
-#[derive(Clone, Copy, Debug, PartialEq, Eq, Error)]
+#[derive(Clone, Copy, Debug, Error)]
 pub enum CnfError {
     /// more steps than an unrolling may have
     #[error("more than 255 steps")]

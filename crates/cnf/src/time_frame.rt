@@ -8,7 +8,7 @@ use graph::{Lit, Model};
 
 /// The variables of one time: variable `v` of the circuit is `offset + v`, and the one above the
 /// circuit's greatest is true.
-#[derive(Clone, Copy, PartialEq, Eq)]
+#[derive(Clone, Copy)]
 pub struct TimeFrame {
     /// the circuit's greatest variable
     pub max_var: u32,

@@ -12,7 +12,7 @@ use graph::{Gate, Lit, Model, literal_value};
 use std::alloc::Global;
 
 /// What a marked gate wants marked.
-#[derive(Clone, Copy, PartialEq, Eq)]
+#[derive(Clone, Copy)]
 pub enum Reach {
     /// Both right sides.
     Cone,

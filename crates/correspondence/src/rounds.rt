@@ -53,7 +53,7 @@ pub(crate) enum Round {
 }
 
 /// What is found of a clause after a step.
-#[derive(Clone, Copy, PartialEq, Eq)]
+#[derive(Clone, Copy)]
 enum Reply {
     /// It holds.
     Holds,

@@ -11,7 +11,7 @@ use truth_tables::{FIRST, FOURTH, NONE, SECOND, THIRD, complement, composed};
 pub(crate) type Leaves = (u32, u32, u32, u32);
 
 /// At most four variables and the function of them that is a variable's value. Where there are fewer, the others are 0, which is false.
-#[derive(Clone, Copy, PartialEq, Eq)]
+#[derive(Clone, Copy)]
 pub struct Cut {
     /// the truth table of the function
     pub table: u16,

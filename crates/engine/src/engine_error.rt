@@ -9,7 +9,7 @@ use solver::{Full, SatError};
 use thiserror::Error;
 
 /// Why an engine gave up.
-#[derive(Clone, Copy, Debug, PartialEq, Eq, Error)]
+#[derive(Clone, Copy, Debug, Error)]
 pub enum EngineError {
     /// its solver has used up its ids
     #[error("{0}")]

@@ -3,7 +3,7 @@
 use std::fmt;
 
 /// A place in a text: its line and its column, which count from 1.
-#[derive(Clone, Copy, PartialEq, Eq)]
+#[derive(Clone, Copy)]
 pub struct Position {
     /// the line
     pub line: usize,

@@ -53,7 +53,7 @@ pub enum Property {
 }
 
 /// How a literal stands in a circuit's lists.
-#[derive(Clone, Copy, PartialEq, Eq)]
+#[derive(Clone, Copy)]
 pub(crate) enum Use {
     /// An input, a latch's literal or a gate's left side.
     Defines(Lit),

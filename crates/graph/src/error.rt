@@ -13,7 +13,7 @@ const TOO_LONG_AT: u64 = LONGEST_TEXT as u64;
 
 /// Why parts, or a text, make no circuit. Each refusal has a number and a place. In a text the
 /// place is a byte; where parts are built it is what the variant says.
-#[derive(Clone, Copy, Debug, PartialEq, Eq, Error)]
+#[derive(Clone, Copy, Debug, Error)]
 pub enum ReadError {
     TooLong,
     Header(u64),

@@ -35,7 +35,7 @@ struct Question {
 }
 
 /// What comes of a question.
-#[derive(Clone, Copy, PartialEq, Eq)]
+#[derive(Clone, Copy)]
 pub(crate) enum Noted {
     /// What its refutation rests on is noted.
     All,

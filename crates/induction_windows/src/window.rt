@@ -17,7 +17,7 @@ use std::alloc::Global;
 const CLAUSES_A_STEP: usize = 64;
 
 /// What a solver answers of a question.
-#[derive(Clone, Copy, PartialEq, Eq)]
+#[derive(Clone, Copy)]
 pub(crate) enum Reply {
     /// Nothing satisfies it.
     Refuted,
@@ -28,7 +28,7 @@ pub(crate) enum Reply {
 }
 
 /// What the search ends in.
-#[derive(Clone, Copy, PartialEq, Eq)]
+#[derive(Clone, Copy)]
 pub(crate) enum Window {
     /// A window of so many times is long enough.
     Of(u32),

@@ -6,7 +6,7 @@ ghost use Rattle.graph.specs.Circuits.{value_of};
 use graph::Lit;
 
 /// One of the cases of clauses that are to be inductive. The clauses count from 0.
-#[derive(Clone, Copy, PartialEq, Eq)]
+#[derive(Clone, Copy)]
 pub enum Case {
     /// resets, gates and constraints hold, and the clause is false
     First(u64),

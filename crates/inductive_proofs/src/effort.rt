@@ -1,7 +1,7 @@
 //! How much is done for a short certificate.
 
 /// How much is done for a short certificate.
-#[derive(Clone, Copy, PartialEq, Eq)]
+#[derive(Clone, Copy)]
 pub enum Effort {
     /// The proofs stand as they are found.
     Quick,

@@ -9,7 +9,7 @@ use certificate::CertError;
 use thiserror::Error;
 
 /// Why a text spells no clauses. A place is a byte of the text.
-#[derive(Clone, Copy, Debug, PartialEq, Eq, Error)]
+#[derive(Clone, Copy, Debug, Error)]
 pub enum InvariantError {
     /// no number stands here, or one that is out of its limits
     #[error("byte {place}: no number in its limits")]

@@ -7,7 +7,7 @@ use crate::invariant_error::InvariantError;
 use scan::{Fault, Kinds, place};
 
 /// What is wrong in a text, before its place is known as a byte of the whole.
-#[derive(Clone, Copy, PartialEq, Eq)]
+#[derive(Clone, Copy)]
 pub enum InvariantFault {
     /// No number, or one over its limit.
     Number,

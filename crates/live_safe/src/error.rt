@@ -7,7 +7,7 @@ use base::Refused;
 use thiserror::Error;
 
 /// Why there is no shadow circuit. Each refusal has a number and a place.
-#[derive(Clone, Copy, Debug, PartialEq, Eq, Error)]
+#[derive(Clone, Copy, Debug, Error)]
 pub enum LiveError {
     /// Its position.
     #[error("there is no justice property {0}")]

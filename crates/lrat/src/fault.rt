@@ -10,7 +10,7 @@ use std::fmt;
 use thiserror::Error;
 
 /// Why a line of a proof, or a whole proof, is refused.
-#[derive(Clone, Copy, Debug, PartialEq, Eq, Error)]
+#[derive(Clone, Copy, Debug, Error)]
 pub enum Fault {
     /// out of memory
     OutOfMemory(Refused),

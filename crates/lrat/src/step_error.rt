@@ -10,7 +10,7 @@ use thiserror::Error;
 
 /// A refusal with the line of the proof at which it came, from 0. The line is how many lines
 /// there are where none adds the empty clause, and 0 for out of memory.
-#[derive(Clone, Copy, Debug, PartialEq, Eq, Error)]
+#[derive(Clone, Copy, Debug, Error)]
 #[error("line {line}: {fault}")]
 pub struct StepError {
     pub fault: Fault,

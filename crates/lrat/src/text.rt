@@ -16,7 +16,7 @@ use scan::{Fault, Kinds, place};
 use std::alloc::Global;
 
 /// What is wrong in a text, before its place is known as a byte of the whole.
-#[derive(Clone, Copy, PartialEq, Eq)]
+#[derive(Clone, Copy)]
 enum LratFault {
     /// No number, or one that is 0 in place of an id or over its limit.
     Number,

@@ -7,7 +7,7 @@ use crate::pieces::PieceError;
 use scan::Fault;
 
 /// Why the lines of a text are not read on. Each kind of line has refusals `K` of its own.
-#[derive(Clone, Copy, PartialEq, Eq)]
+#[derive(Clone, Copy)]
 pub enum LineError<K> {
     /// The text is refused, or memory is refused.
     Refused {

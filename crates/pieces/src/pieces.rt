@@ -14,7 +14,7 @@ use std::marker::Model;
 const CHUNK: usize = 4096;
 
 /// Why no piece comes.
-#[derive(Clone, Copy, Debug, PartialEq, Eq)]
+#[derive(Clone, Copy, Debug)]
 pub enum PieceError {
     /// A growth was refused.
     OutOfMemory(Refused),

@@ -19,7 +19,7 @@ pub enum Asked<'a> {
 }
 
 /// Why a name is of no property.
-#[derive(Clone, Copy, PartialEq, Eq)]
+#[derive(Clone, Copy)]
 pub enum NameError {
     /// No property has it.
     Unknown,

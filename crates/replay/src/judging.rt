@@ -207,7 +207,7 @@ fn judge_body<S: Source>(
 }
 
 /// What was read and found.
-#[derive(Clone, Copy, PartialEq, Eq)]
+#[derive(Clone, Copy)]
 pub struct Outcome {
     /// the property that the stimulus names
     pub property: Property,

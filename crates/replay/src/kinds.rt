@@ -13,7 +13,7 @@ use std::alloc::Global;
 use stimulus::{IN_LINES, IN_STATUS, StimFault, Values, begins_otherwise, property};
 
 /// What the first line of a stimulus says.
-#[derive(Clone, Copy, PartialEq, Eq)]
+#[derive(Clone, Copy)]
 pub enum Status {
     /// The property holds.
     Holds,

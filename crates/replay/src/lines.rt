@@ -15,7 +15,7 @@ use base::{Seq, Source, copied, push};
 use std::alloc::Global;
 
 /// What the lengths of lines are.
-#[derive(Clone, Copy, PartialEq, Eq)]
+#[derive(Clone, Copy)]
 pub enum Lengths {
     /// There is a line, and each has the wanted length.
     Fit,

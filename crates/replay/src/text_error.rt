@@ -12,7 +12,7 @@ use stimulus::{StimError, StimFault, text_error};
 use thiserror::Error;
 
 /// Why the lines of a stimulus's text are not read on.
-#[derive(Clone, Copy, Debug, PartialEq, Eq, Error)]
+#[derive(Clone, Copy, Debug, Error)]
 pub enum TextError {
     /// the text is refused, or memory is refused
     #[error("{0}")]

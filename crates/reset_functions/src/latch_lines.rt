@@ -15,14 +15,14 @@ use std::alloc::Global;
 pub type PlainFault = Fault<ReadFault<()>>;
 
 /// How a latch's line is read: whether its literal is left out, and the greatest variable.
-#[derive(Clone, Copy, PartialEq, Eq)]
+#[derive(Clone, Copy)]
 pub struct LineForm {
     pub is_binary: bool,
     pub max_var: u32,
 }
 
 /// A latch's line: its literal, where that stands there, the next literal, and the reset, where one stands there.
-#[derive(Clone, Copy, PartialEq, Eq)]
+#[derive(Clone, Copy)]
 pub struct LatchText {
     pub own: Option<Lit>,
     pub next: Lit,

@@ -3,7 +3,7 @@
 use base::Seq;
 
 /// Why nothing is known.
-#[derive(Clone, Copy, PartialEq, Eq)]
+#[derive(Clone, Copy)]
 pub enum Cause {
     /// The budget is exhausted.
     Budget,

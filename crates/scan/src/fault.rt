@@ -8,7 +8,7 @@ use base::Refused;
 
 /// What a reading function answers where it has no value. Each reader has refusals `K` of its
 /// own, so that its type says which of them can come.
-#[derive(Clone, Copy, PartialEq, Eq)]
+#[derive(Clone, Copy)]
 pub enum Fault<K> {
     /// A growth was refused.
     Memory(Refused),
@@ -30,7 +30,7 @@ impl<K> From<Refused> for Fault<K> {
 }
 
 /// What a reader calls the faults of a number and of the bytes about it.
-#[derive(Clone, Copy, PartialEq, Eq)]
+#[derive(Clone, Copy)]
 pub struct Kinds<K> {
     /// The text ends where a byte is needed. Its place is the text's end.
     pub truncated: K,

@@ -8,7 +8,7 @@ use base::Refused;
 use thiserror::Error;
 
 /// Why a circuit is not made smaller.
-#[derive(Clone, Copy, Debug, PartialEq, Eq, Error)]
+#[derive(Clone, Copy, Debug, Error)]
 pub enum ShrinkError {
     /// out of memory
     #[error("{0}")]

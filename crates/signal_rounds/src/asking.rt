@@ -32,7 +32,7 @@ const SIGNALS: usize = 5;
 const GATES_A_STEP: usize = 8;
 
 /// What a round says of the classes and implications.
-#[derive(Clone, Copy, PartialEq, Eq)]
+#[derive(Clone, Copy)]
 pub(crate) enum Round {
     /// Signals that are equal stay equal, and what implies others still does.
     Stays,

@@ -7,7 +7,7 @@ use base::Refused;
 use thiserror::Error;
 
 /// Why a replay is refused.
-#[derive(Clone, Copy, Debug, PartialEq, Eq, Error)]
+#[derive(Clone, Copy, Debug, Error)]
 pub enum ReplayError {
     /// The first latch whose initial value is not that of its reset, by its position.
     #[error("latch {latch} is against its reset")]

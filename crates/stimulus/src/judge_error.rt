@@ -9,7 +9,7 @@ use std::fmt;
 use thiserror::Error;
 
 /// Why a stimulus does not show that its property is violated.
-#[derive(Clone, Copy, Debug, PartialEq, Eq, Error)]
+#[derive(Clone, Copy, Debug, Error)]
 pub enum JudgeError {
     /// it does not tell of a violation
     NotViolated,

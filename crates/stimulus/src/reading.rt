@@ -15,7 +15,7 @@ use scan::{Fault, ItemKind, Kinds, byte, field, items, place, tag};
 use std::alloc::Global;
 
 /// What is wrong in a text, before its place is known as a byte of the whole.
-#[derive(Clone, Copy, PartialEq, Eq)]
+#[derive(Clone, Copy)]
 pub enum StimFault {
     /// The first line is not 0, 1 or 2.
     Status,

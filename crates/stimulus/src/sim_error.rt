@@ -8,7 +8,7 @@ use simulate::ReplayError;
 use thiserror::Error;
 
 /// Why the table of a stimulus is not put whole.
-#[derive(Clone, Copy, Debug, PartialEq, Eq, Error)]
+#[derive(Clone, Copy, Debug, Error)]
 pub enum SimError {
     /// it does not tell of a violation
     #[error("the stimulus reports no violation")]

@@ -7,7 +7,7 @@ use base::Refused;
 use thiserror::Error;
 
 /// Why a text spells no stimulus. A place is a byte of the text.
-#[derive(Clone, Copy, Debug, PartialEq, Eq, Error)]
+#[derive(Clone, Copy, Debug, Error)]
 pub enum StimError {
     /// the first line is not 0, 1 or 2
     #[error("byte {place}: no status")]

@@ -7,7 +7,7 @@ use base::Failed;
 use thiserror::Error;
 
 /// Why the text of a stimulus is not written whole.
-#[derive(Clone, Copy, Debug, PartialEq, Eq, Error)]
+#[derive(Clone, Copy, Debug, Error)]
 pub enum StimWriteError {
     /// the sink failed
     #[error("the device failed")]

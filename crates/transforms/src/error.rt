@@ -9,7 +9,7 @@ use live_safe::LiveError;
 use thiserror::Error;
 
 /// Why a circuit was not made. Each refusal has a number and a place.
-#[derive(Clone, Copy, Debug, PartialEq, Eq, Error)]
+#[derive(Clone, Copy, Debug, Error)]
 pub enum TransformError {
     /// Its position.
     #[error("there is no property {0}")]

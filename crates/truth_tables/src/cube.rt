@@ -8,7 +8,7 @@ ghost use Rattle.truth_tables.specs.Cubes.{holds, is_in, HoldsInRow, IsInside, I
 use crate::table::{ALL, FIRST, FOURTH, SECOND, THIRD, complement, conjunction};
 
 /// What a cube wants of an input.
-#[derive(Clone, Copy, PartialEq, Eq)]
+#[derive(Clone, Copy)]
 pub enum Side {
     /// nothing
     Free,
@@ -44,7 +44,7 @@ impl Side {
 }
 
 /// A conjunction of some of four inputs, each as it is or denied.
-#[derive(Clone, Copy, PartialEq, Eq)]
+#[derive(Clone, Copy)]
 pub struct Cube {
     pub first: Side,
     pub second: Side,

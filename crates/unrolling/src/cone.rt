@@ -14,7 +14,7 @@ use graph::{Latch, Lit, Model};
 use std::alloc::Global;
 
 /// A variable of a gate, and the cut by which it is encoded.
-#[derive(Clone, Copy, PartialEq, Eq)]
+#[derive(Clone, Copy)]
 pub struct Cell {
     pub variable: u32,
     pub cut: Cut,

@@ -20,7 +20,7 @@ pub struct Function {
 }
 
 /// What a function of literals comes to.
-#[derive(Clone, Copy, PartialEq, Eq)]
+#[derive(Clone, Copy)]
 pub enum Simplified {
     /// the literal has the function's value
     Literal(i32),

@@ -10,7 +10,7 @@ use solver::Full;
 use thiserror::Error;
 
 /// Why nothing is answered of a property.
-#[derive(Clone, Copy, Debug, PartialEq, Eq, Error)]
+#[derive(Clone, Copy, Debug, Error)]
 pub enum DecideError {
     /// the circuit has no property of this position
     #[error("there is no property {0}")]

@@ -10,7 +10,7 @@ use stimulus::JudgeError;
 use thiserror::Error;
 
 /// Why no strict stimulus is made of a loose text. A place is a byte of the text.
-#[derive(Clone, Copy, Debug, PartialEq, Eq, Error)]
+#[derive(Clone, Copy, Debug, Error)]
 pub enum WitnessError {
     /// the status reports no violation
     #[error("byte {place}: the status reports no violation")]

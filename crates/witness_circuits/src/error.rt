@@ -8,7 +8,7 @@ use graph::ReadError;
 use thiserror::Error;
 
 /// Why a witness circuit was not made. Each refusal has a number and a place.
-#[derive(Clone, Copy, Debug, PartialEq, Eq, Error)]
+#[derive(Clone, Copy, Debug, Error)]
 pub enum MakeError {
     /// The circuit has no bad literal of this position, and no output that is taken as one.
     #[error("there is no property {0}")]

@@ -7,7 +7,7 @@ use base::Refused;
 use thiserror::Error;
 
 /// Why a circuit is taken as no witness circuit of another one. Each refusal has a number and a place.
-#[derive(Clone, Copy, Debug, PartialEq, Eq, Error)]
+#[derive(Clone, Copy, Debug, Error)]
 pub enum PairError {
     /// The witness has so many bad literals, and not one.
     #[error("the witness has {0} bad literals, and not one")]
