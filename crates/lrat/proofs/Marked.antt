@@ -103,6 +103,7 @@ pub marked_push : (n : ℕ) (marks : List Mark) (t : List ℤ) (l : ℤ) → Are
 marked_push n marks t l are lit not_held none = record {
   small = are.small;
   marked = λ k is. rw length-set (are.marked k is);
+  sized = rw length-set are.sized;
   are_literals = All-push (IsLiteral n) t l are.are_literals lit;
   apart = all_pairs_push (λ a b. (a ≢ b) × (a ≢ neg_ℤ b)) t l are.apart (λ k d lt. (
     λ e. not_held (subst (Contains t) e (Contains-get_or t k d lt)),
@@ -178,6 +179,7 @@ pub marked_take : (n : ℕ) (marks new : List Mark) (t : List ℤ) (k : ℕ) →
 marked_take n marks new t k are un = record {
   small = are.small;
   marked = λ l lit. rw un.places (are.marked l lit);
+  sized = rw un.places are.sized;
   are_literals = All-take (IsLiteral n) k t are.are_literals;
   apart = λ i j d lt lt2.
       let jk : j < k = omega (arith, length-take k t) in

@@ -1,5 +1,5 @@
 -- One mark for each variable tells which literals are held.
-use Rattle.std.specs.Prelude.{◌≡◌, ℕ, ◌^◌, ◌<◌, List, length, get_or, Contains, All, AllPairs, ◌≢◌, ℤ, pos, negsuc, neg_ℤ, unsigned_abs}
+use Rattle.std.specs.Prelude.{◌≡◌, ℕ, ◌^◌, ◌<◌, ◌≤◌, ◌+◌, List, length, get_or, Contains, All, AllPairs, ◌≢◌, ℤ, pos, negsuc, neg_ℤ, unsigned_abs}
 use Rattle.lrat.specs.Literals.{IsLiteral}
 use Rattle.lrat.specs.declared.mark.Mark.{Mark}
 use Rattle.lrat.specs.declared.mark.Mark.TheVariants.{Neither, Positive, Negative}
@@ -23,6 +23,7 @@ AreApart t = AllPairs (λ a b. (a ≢ b) × (a ≢ neg_ℤ b)) t
 pub record AreMarked (n : ℕ) (marks : List Mark) (t : List ℤ) : Type 0 where
   pub small : n < 2 ^ 31
   pub marked : (l : ℤ) → IsLiteral n l → unsigned_abs l < length marks
+  pub sized : length marks ≤ n + 1
   pub are_literals : All (IsLiteral n) t
   pub apart : AreApart t
   pub say : (v : ℕ) → Says t v (get_or marks v Neither)

@@ -111,21 +111,19 @@ fn check<C: Lookup, H: Hint>(
 }
 
 /// Supposes the clause's literals false, in order. None may be repeated or opposed.
+#[inline(always)]
 fn suppose(trail: &mut Trail, clause: &[i32]) -> Result<(), Fault>
     requires empty { trail.old.literals ≡ [] }
     requires not_zero { All (λ l. l ≢ pos 0) clause.now }
     ensures vars { trail.new.vars ≡ trail.old.vars }
     ensures answer { MatchResult result (λ _. IsProper trail.old.vars clause.now × (trail.new.literals ≡ map neg_ℤ clause.now)) (λ e. IsImproper trail.old.vars clause.now e) }
 {
-    let vars = trail.vars();
     for literal in clause {
-        if literal.unsigned_abs() > vars {
-            return Err(Fault::VariableRange);
+        match trail.value_of(*literal) {
+            None => return Err(Fault::VariableRange),
+            Some(true) => return Err(Fault::RepeatedLiteral),
+            Some(false) => trail.deny(*literal)?,
         }
-        if trail.has_value(*literal) {
-            return Err(Fault::RepeatedLiteral);
-        }
-        trail.deny(*literal)?;
     }
     Ok(())
 }
@@ -157,6 +155,7 @@ fn follow<C: Lookup, H: Hint>(trail: &mut Trail, clauses: &C, hints: &[H]) -> Re
 }
 
 /// Looks whether the clause of the last hint is false.
+#[inline(always)]
 fn conclude<C: Lookup>(trail: &Trail, clauses: &C, hint: u32) -> Result<(), Fault>
     requires { trail.now.vars ≡ C.vars clauses.now }
     ensures { MatchResult result (λ _. Conflicts (C.find clauses.now) trail.now.literals hint) (λ e. StopsLast (C.find clauses.now) trail.now.literals hint e) }

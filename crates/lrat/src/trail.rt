@@ -1,6 +1,6 @@
 //! The literals that are held true, in the order in which they came.
 
-ghost use Rattle.std.specs.Prelude.{◌≡◌, neg_ℤ, ◌≤◌, ◌<◌, ◌^◌, [], ◌∷◌, ◌++◌, OnOk, OnErr, IfOk, IsTrue, ◌↔◌, ◌⊎◌, Contains, All, length, take};
+ghost use Rattle.std.specs.Prelude.{◌≡◌, ◌≢◌, pos, neg_ℤ, unsigned_abs, ◌≤◌, ◌<◌, ◌^◌, [], ◌∷◌, ◌++◌, OnOk, OnErr, IfOk, MatchOption, IsTrue, ◌↔◌, ◌⊎◌, Contains, All, length, take};
 ghost use Rattle.lrat.specs.Literals.{IsLiteral};
 ghost use Rattle.lrat.specs.Marks.{AreApart};
 
@@ -90,6 +90,20 @@ impl Trail {
         ensures { IsTrue result ↔ (Contains self.now.literals literal ⊎ Contains self.now.literals (neg_ℤ literal)) }
     {
         self.marks[literal.unsigned_abs() as usize] != Mark::Neither
+    }
+
+    /// Whether the literal's variable has a value, or none where the trail is not over this variable.
+    /// It asks both by one look, without a branch on the literal's sign.
+    pub fn value_of(&self, literal: i32) -> Option<bool>
+        requires { literal ≢ pos 0 }
+        ensures { MatchOption result (self.now.vars < unsigned_abs literal) (λ has. (unsigned_abs literal ≤ self.now.vars) × (IsTrue has ↔ (Contains self.now.literals literal ⊎ Contains self.now.literals (neg_ℤ literal)))) }
+    {
+        let variable = literal.unsigned_abs() as usize;
+        if variable < self.marks.len() {
+            Some(self.marks[variable] != Mark::Neither)
+        } else {
+            None
+        }
     }
 
     /// Holds the literal true from now on. Without memory nothing changes.

@@ -4,7 +4,7 @@ use Rattle.lrat.proofs.derivation.suppose.Given as goal
 
 abbrev pub invariant-loop-literal : goal.invariant-loop-literal
 invariant-loop-literal l = record {
-  vars : l.trail.vars ≡ l.vars;
-  proper : IsProper l.vars (take l.literal-index l.clause);
+  vars : l.trail.vars ≡ l.fn.trail.vars;
+  proper : IsProper l.fn.trail.vars (take l.literal-index l.clause);
   supposed : l.trail.literals ≡ map neg_ℤ (take l.literal-index l.clause);
 }
