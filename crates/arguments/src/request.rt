@@ -369,6 +369,12 @@ fn asked_of<'a>(name: &str, words: &ArgMatches<'a>) -> Option<Request<'a>> {
     }
 }
 
+/// What the words of a command ask for, and whether a fault is to say more than its line.
+fn asked_with<'a>(name: &str, words: &ArgMatches<'a>) -> Option<Asked<'a>> {
+    let verbose = words.get_flag("verbose");
+    asked_of(name, words).map(|request| Asked { request, verbose })
+}
+
 /// What a command line's words ask for, of which the first is the program's name. There is nothing
 /// where they name no command.
 pub fn parse<'a>(alloc: Global, words: &'a [String]) -> Result<Option<Asked<'a>>, UsageError> {
@@ -376,6 +382,5 @@ pub fn parse<'a>(alloc: Global, words: &'a [String]) -> Result<Option<Asked<'a>>
     let Some((name, words)) = matches.subcommand() else {
         return Ok(None);
     };
-    let verbose = words.get_flag("verbose");
-    Ok(asked_of(name, words).map(|request| Asked { request, verbose }))
+    Ok(asked_with(name, words))
 }

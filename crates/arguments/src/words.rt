@@ -82,34 +82,12 @@ pub const PROPERTY: Argument = Argument {
     ..FILE
 };
 
-/// The argument with its letter, where it has one.
-fn with_short<'a>(arg: Arg<'a>, short: Option<char>) -> Arg<'a> {
-    match short {
-        Some(letter) => arg.short(letter),
-        None => arg,
-    }
-}
-
-/// The argument with its name behind `--`, where it is given by that.
-fn with_long<'a>(arg: Arg<'a>, name: &'a str, is_long: bool) -> Arg<'a> {
-    if is_long { arg.long(name) } else { arg }
-}
-
-/// The argument with what `--help` calls its value, where that is not its name.
-fn with_value_name<'a>(arg: Arg<'a>, name: &'a str) -> Arg<'a> {
-    if name.is_empty() {
-        arg
+/// The text as a list, which is empty where the text is.
+fn listed<'a>(text: &'a &'a str) -> &'a [&'a str] {
+    if text.is_empty() {
+        &[]
     } else {
-        arg.value_name(name)
-    }
-}
-
-/// The argument with its value where it is left out, where it has one.
-fn with_default<'a>(arg: Arg<'a>, value: &'a str) -> Arg<'a> {
-    if value.is_empty() {
-        arg
-    } else {
-        arg.default_value(value)
+        std::slice::from_ref(text)
     }
 }
 
@@ -135,22 +113,27 @@ impl Takes {
     }
 }
 
-/// An argument with what it takes.
-fn taking<'a>(alloc: Global, name: &'a str, help: &'a str, takes: Takes) -> Arg<'a> {
-    Arg::new(alloc, name)
-        .help(help)
-        .value_parser(takes.parser())
-        .action(takes.action())
-}
-
 impl Argument {
+    /// The clap argument of this name, with its letter and its name behind `--`, where it has them.
+    fn named<'a>(&'a self, alloc: Global) -> Arg<'a> {
+        let arg = Arg::new(alloc, self.name);
+        match (self.short, self.long) {
+            (None, false) => arg,
+            (None, true) => arg.long(self.name),
+            (Some(letter), false) => arg.short(letter),
+            (Some(letter), true) => arg.short(letter).long(self.name),
+        }
+    }
+
     /// The clap argument of a row.
-    pub fn arg<'a>(self, alloc: Global) -> Arg<'a> {
-        let arg = taking(alloc, self.name, self.help, self.takes).required(self.required);
-        let arg = with_short(arg, self.short);
-        let arg = with_long(arg, self.name, self.long);
-        let arg = with_value_name(arg, self.value);
-        with_default(arg, self.default)
+    pub fn arg<'a>(&'a self, alloc: Global) -> Arg<'a> {
+        self.named(alloc)
+            .help(self.help)
+            .value_parser(self.takes.parser())
+            .action(self.takes.action())
+            .required(self.required)
+            .value_names(listed(&self.value))
+            .default_values(listed(&self.default))
     }
 }
 
