@@ -2,6 +2,7 @@
 use Rattle.std.proofs.Common.{◌≡◌, ℕ, List, None, inl, inr, refl, sym, ◌∙◌, ap, subst}
 use Rattle.scan.proofs.Toolbox.{spells_one}
 use Rattle.graph.specs.declared.circuit.Property.{Property}
+use Rattle.graph.specs.declared.circuit.Property.TheVariants.{Justice}
 use Rattle.graph.specs.declared.parts.Parts.{Parts}
 use Rattle.graph.specs.File.{File}
 use Rattle.graph.specs.WellFormed.{IsWellFormed}
@@ -9,14 +10,15 @@ use Rattle.graph.specs.Circuits.{HasProperty, IsUpheld}
 use Rattle.aiger.specs.Layouts.{SpellsFile, SpellsModel}
 use Rattle.aiger.specs.Loading.{IsFileOf, SpellsNoFile}
 use Rattle.aiger.proofs.LayoutLaws.{begins_with, one_model, well_formed}
-use Rattle.extension.specs.Accepted.{AcceptedLaw as AcceptedThirdLaw}
+use Rattle.extension.specs.Accepted.{AcceptedLaw as AcceptedThirdLaw, AcceptedRoundsLaw, IsAcceptedCertificate as IsAcceptedThird}
+use Rattle.extension.specs.Rounds.{HoldsFew}
 use Rattle.certificate3.specs.Formats.{Certified, SpellsCertified, earlier, third}
 use Rattle.certificate3.proofs.FormatLaws.{certified_reads}
 use Rattle.checker3.specs.Laws.{RefusedLaw}
 use Rattle.checker.specs.declared.answer_error.AnswerError.{AnswerError}
 use Rattle.checker.specs.AnyVersion.{IsFoundOf, named_property}
 use Rattle.checker.specs.AnswerErrors.{IsAnswerError}
-use Rattle.checker.specs.Verdicts.{Accepts, IsUpheldText, IsNotAccepted, IsRefusal, IsRefusalFor}
+use Rattle.checker.specs.Verdicts.{Accepts, BoundsRounds, IsUpheldText, IsNotAccepted, IsRefusal, IsRefusalFor}
 use Rattle.checker2.proofs.Accepted.{accepted_law, cause_refuses}
 use Rattle.checker.proofs.Said.{stops_more}
 
@@ -97,6 +99,16 @@ accepted_safe law xs ys p it =
       exists = subst (HasProperty a.file.model) a.property (certified_exists a.file.model a.certificate a.accepted);
       upheld = subst (IsUpheld a.file.model) a.property (certified_upheld law a.file.model a.certificate (well_formed xs a.file a.first) a.accepted);
     }
+
+-- and of justice with a number of rounds no run holds more
+pub accepted_bounds : AcceptedRoundsLaw → (xs ys : List ℕ) (p : Property) → Accepts xs ys p → BoundsRounds xs ys
+accepted_bounds law xs ys p it m c j spells second names =
+    let a = accepted_of xs ys p it in
+    let same : m ≡ a.file.model = one_model xs m a.file.model spells (begins_with xs a.file a.first) in
+    let one : a.certificate ≡ third c = one_certified ys a.certificate (third c) a.second second in
+    let accepted : IsFoundOf a.file.model (third c) None = subst (λ d. IsFoundOf a.file.model d None) one a.accepted in
+    let of : IsAcceptedThird a.file.model (Justice j) c.claim.rounds c.evidence = subst (λ q. IsAcceptedThird a.file.model q c.claim.rounds c.evidence) names accepted in
+    subst (λ n. HoldsFew n j c.claim.rounds) (sym same) (law a.file.model j c.claim.rounds c.evidence (well_formed xs a.file a.first) of)
 
 -- there is no reason to refuse it
 not_accepted : RefusedLaw → (f : File) (c : Certified) (n : ℕ) → IsNotAccepted f c n → IsFoundOf f.model c None → ⊥

@@ -3,6 +3,7 @@ use Rattle.std.specs.Prelude.{◌≡◌, ◌≢◌, ℕ, ◌⊎◌, List, Option
 use Rattle.base.specs.Devices.{PutsBeginning}
 use Rattle.base.specs.Witness.{witness}
 use Rattle.graph.specs.declared.circuit.Property.{Property}
+use Rattle.graph.specs.declared.circuit.Property.TheVariants.{Justice}
 use Rattle.graph.specs.declared.parts.Parts.{Parts}
 use Rattle.graph.specs.File.{File}
 use Rattle.graph.specs.Circuits.{HasProperty, IsUpheld}
@@ -14,6 +15,7 @@ use Rattle.certificate.specs.declared.cert_error.CertError.TheVariants.{OutOfMem
 use Rattle.certificate.specs.Numbers.{number_of as certificate_number}
 use Rattle.certificate.specs.Texts.{SpellsCertificate}
 use Rattle.extension.specs.Accepted.{IsAcceptedCertificate as IsAcceptedThird}
+use Rattle.extension.specs.Rounds.{HoldsFew}
 use Rattle.certificate3.specs.Formats.{Certified, SpellsCertified, earlier, third}
 use Rattle.certificate3.specs.Texts.{Certificate as ThirdCertificate, SpellsCertificate as SpellsThird}
 use Rattle.checker3.specs.declared.check_error.CheckError.{CheckError as ThirdError}
@@ -58,6 +60,11 @@ pub record IsUpheldText (xs : List ℕ) (p : Property) : Type 0 where
   pub only : (m : Parts) → SpellsModel xs m → m ≡ circuit
   pub exists : HasProperty circuit p
   pub upheld : IsUpheld circuit p
+
+-- a certificate of justice of version 3 that the second text spells bounds the rounds in the circuit that the first begins with: no
+-- run that keeps the constraints holds more than the number that it names
+abbrev pub BoundsRounds : List ℕ → List ℕ → Type 0
+BoundsRounds xs ys = (m : Parts) (c : ThirdCertificate) (j : ℕ) → SpellsModel xs m → SpellsThird ys c → c.claim.property ≡ Justice j → HoldsFew m j c.claim.rounds
 
 -- the one certificate that the text spells
 pub record IsCertificateOf (ys : List ℕ) (c : Certified) : Type 0 where

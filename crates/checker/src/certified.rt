@@ -8,7 +8,7 @@ ghost use Rattle.aiger.specs.Loading.{IsFileOf};
 ghost use Rattle.graph.specs.declared.circuit.Property.{Property as AProperty};
 ghost use Rattle.graph.specs.File.{File};
 ghost use Rattle.checker.specs.Lines.{yes_line, no_line};
-ghost use Rattle.checker.specs.Verdicts.{Accepts, BeginsLine, BeginsLineFor, IsRefusal, IsRefusalFor, IsUpheldText};
+ghost use Rattle.checker.specs.Verdicts.{Accepts, BoundsRounds, BeginsLine, BeginsLineFor, IsRefusal, IsRefusalFor, IsUpheldText};
 ghost use Rattle.checker.specs.AnswerErrors.{IsAnswerError, FailsOne};
 ghost use Rattle.checker.specs.declared.line.Question.TheVariants.{Safe};
 ghost use Rattle.checker.specs.declared.answer_error.AnswerError.TheVariants.{Device as Failure};
@@ -22,7 +22,7 @@ use crate::run_error::RunError;
 use aiger::load;
 use base::{Sink, Source};
 use checker3::refused_law;
-use extension::accepted_law;
+use extension::{accepted_law, accepted_rounds_law};
 use graph::{AigerFile, Property};
 use std::alloc::Global;
 
@@ -88,6 +88,8 @@ pub fn run_safe<M: Source, C: Source, W: Sink>(
     requires out { W.failed out.old < 2 ^ 64 - 1 }
     // Yes: the certificate is accepted, the property is upheld, and the line says so.
     ensures yes { Reads (M.leaves circuit.old) (M.leaves circuit.new) (λ xs _. Reads (C.leaves certificate.old) (C.leaves certificate.new) (λ ys _. IfOk result (λ yes. IsTrue yes → (p : AProperty) × Accepts xs ys p × IsUpheldText xs p × Appends (W.contents out.old) (W.contents out.new) (yes_line Safe p)))) }
+    // A yes to a certificate of justice that names a number of rounds bounds them by it.
+    ensures rounds { Reads (M.leaves circuit.old) (M.leaves circuit.new) (λ xs _. Reads (C.leaves certificate.old) (C.leaves certificate.new) (λ ys _. IfOk result (λ yes. IsTrue yes → BoundsRounds xs ys))) }
     // A yes is about all the bytes: both sources told their end.
     ensures ended { IfOk result (λ yes. IsTrue yes → IsAtEnd (M.leaves circuit.new) × IsAtEnd (C.leaves certificate.new)) }
     // No: there is a reason, and the line has its number.
@@ -104,6 +106,7 @@ pub fn run_safe<M: Source, C: Source, W: Sink>(
     ensures beginning { Reads (M.leaves circuit.old) (M.leaves circuit.new) (λ xs _. Reads (C.leaves certificate.old) (C.leaves certificate.new) (λ ys _. OnErr result (W.failed out.new ≡ W.failed out.old + 1 → BeginsLine xs ys (W.contents out.old) (W.contents out.new)))) }
 {
     accepted_law();
+    accepted_rounds_law();
     refused_law();
     let answer = safe_property(alloc, circuit, certificate);
     tell(alloc, Question::Safe, answer, out)
@@ -122,6 +125,8 @@ pub fn run_safe_for<M: Source, C: Source, W: Sink>(
     requires out { W.failed out.old < 2 ^ 64 - 1 }
     // Yes: the certificate is accepted, the property is upheld, and the line says so.
     ensures yes { Reads (M.leaves circuit.old) (M.leaves circuit.new) (λ xs _. Reads (C.leaves certificate.old) (C.leaves certificate.new) (λ ys _. IfOk result (λ yes. IsTrue yes → Accepts xs ys property × IsUpheldText xs property × Appends (W.contents out.old) (W.contents out.new) (yes_line Safe property)))) }
+    // A yes to a certificate of justice that names a number of rounds bounds them by it.
+    ensures rounds { Reads (M.leaves circuit.old) (M.leaves circuit.new) (λ xs _. Reads (C.leaves certificate.old) (C.leaves certificate.new) (λ ys _. IfOk result (λ yes. IsTrue yes → BoundsRounds xs ys))) }
     // A yes is about all the bytes: both sources told their end.
     ensures ended { IfOk result (λ yes. IsTrue yes → IsAtEnd (M.leaves circuit.new) × IsAtEnd (C.leaves certificate.new)) }
     // No: there is a reason, and the line has its number.
@@ -138,6 +143,7 @@ pub fn run_safe_for<M: Source, C: Source, W: Sink>(
     ensures beginning { Reads (M.leaves circuit.old) (M.leaves circuit.new) (λ xs _. Reads (C.leaves certificate.old) (C.leaves certificate.new) (λ ys _. OnErr result (W.failed out.new ≡ W.failed out.old + 1 → BeginsLineFor property xs ys (W.contents out.old) (W.contents out.new)))) }
 {
     accepted_law();
+    accepted_rounds_law();
     refused_law();
     let answer = about(property, safe_property(alloc, circuit, certificate));
     tell(alloc, Question::Safe, answer, out)

@@ -9,7 +9,7 @@ ghost use Rattle.checker.specs.Lines.{yes_line, no_line};
 ghost use Rattle.checker.specs.Readers.{BeginsLineOf, BeginsRunLineOf, Gives, IsDone, IsRefusalOf, IsRunRefusalOf};
 ghost use Rattle.checker.specs.Replayed.{Confirms};
 ghost use Rattle.checker.specs.AnswerErrors.{FailsOne};
-ghost use Rattle.checker.specs.Verdicts.{Accepts, IsUpheldText};
+ghost use Rattle.checker.specs.Verdicts.{Accepts, BoundsRounds, IsUpheldText};
 ghost use Rattle.checker.specs.declared.line.Question.TheVariants.{Run, Safe};
 ghost use Rattle.checker.specs.declared.run_error.RunError.TheVariants.{Device};
 
@@ -35,6 +35,8 @@ pub fn safe_of_readers<M: Read, C: Read, W: Sink>(
     requires out { W.failed out.old < 2 ^ 64 - 1 }
     // Yes: of just the bytes that the two gave in this call, and the line says so.
     ensures yes { IfOk result (λ yes. IsTrue yes → (xs : List ℕ) × (ys : List ℕ) × (p : AProperty) × (circuit.new.given ≡ circuit.old.given ++ xs) × (certificate.new.given ≡ certificate.old.given ++ ys) × IfSome wanted (λ q. q ≡ p) × Accepts xs ys p × IsUpheldText xs p × Appends (W.contents out.old) (W.contents out.new) (yes_line Safe p)) }
+    // A yes to a certificate of justice that names a number of rounds bounds them by it.
+    ensures rounds { IfOk result (λ yes. IsTrue yes → (xs : List ℕ) × (ys : List ℕ) × (circuit.new.given ≡ circuit.old.given ++ xs) × (certificate.new.given ≡ certificate.old.given ++ ys) × BoundsRounds xs ys) }
     // No: there is a reason, in what the two gave and whatever may come after it, and the line has its number.
     ensures no { Gives circuit.old circuit.new M.remaining (λ xs. Gives certificate.old certificate.new C.remaining (λ ys. IfOk result (λ yes. yes ≡ false → (n : ℕ) × IsRefusalOf wanted xs ys n × Appends (W.contents out.old) (W.contents out.new) (no_line n)))) }
     // Whatever is accepted gets a yes, unless memory runs out or a device fails.

@@ -13,8 +13,8 @@ use Rattle.graph.specs.WellFormed.{IsWellFormed}
 use Rattle.graph.proofs.Alone.{watched_one}
 use Rattle.stimulus.specs.declared.value.Stimulus.TheVariants.{Violated}
 use Rattle.stimulus.specs.Shown.{Begins, Shows, last_of}
-use Rattle.extension.specs.Accepted.{AcceptedLaw, Evidence, IsAcceptedCertificate}
-use Rattle.extension.specs.Rounds.{ExactLaw, FewLaw, HoldsFew, HoldsMore, RoundsFormed, ended_literal, rounds_of}
+use Rattle.extension.specs.Accepted.{AcceptedLaw, AcceptedRoundsLaw}
+use Rattle.extension.specs.Rounds.{ExactLaw, HoldsFew, HoldsMore, ended_literal, rounds_of}
 use Rattle.certify3.specs.Outcomes.{IsCertificateOf, IsCertified}
 use Rattle.certify3.specs.declared.certified.Certified.{Certified}
 use Rattle.certify3.specs.declared.certified.Certified.TheVariants.{Certificate, NotInvariant, Spent, Unaccepted}
@@ -51,33 +51,15 @@ shown_more m j k initial inputs exact (inr lasso) = absurd (no_justice lasso.pos
 
 -- ---- certificates
 
-one_bad : (a : Lit) → 0 < length (a ∷ [])
-one_bad a = omega arith
-
--- what is accepted of the property and the number is accepted of the circuit that counts so many rounds, and its bad literal
-accepted_counter : (m : Parts) (j k : ℕ) (e : Evidence) → IsAcceptedCertificate m (Justice j) k e → IsAcceptedCertificate (rounds_of m j k) (Bad 0) 0 e
-accepted_counter m j k e h = record {
-  showable = record {
-    exists = one_bad (ended_literal m j k);
-    few = omega arith;
-    within = h.showable.within;
-  };
-  accepted = h.accepted;
-}
-
--- so no run holds more rounds
-few_shown : (m : Parts) (j k : ℕ) (e : Evidence) → AcceptedLaw → RoundsFormed m j k → FewLaw m j k → IsAcceptedCertificate m (Justice j) k e → HoldsFew m j k
-few_shown m j k e law formed few h = few.0 (law (rounds_of m j k) (Bad 0) 0 e (formed.formed h.showable.within) (accepted_counter m j k e h))
-
-pub shown_by : (m : Parts) (j k : ℕ) (ls : List Latch) (gs : List Gate) (inv : List (List Lit)) (text : List ℕ) → AcceptedLaw → RoundsFormed m j k → FewLaw m j k → IsWellFormed m →
+pub shown_by : (m : Parts) (j k : ℕ) (ls : List Latch) (gs : List Gate) (inv : List (List Lit)) (text : List ℕ) → AcceptedLaw → AcceptedRoundsLaw → IsWellFormed m →
     IsCertificateOf m (record { property = Justice j; rounds = k }) ls gs inv text → IsShownBy m j k text × IsUpheld m (Justice j) × HoldsFew m j k
-shown_by m j k ls gs inv text law formed few well h = (
+shown_by m j k ls gs inv text law few well h = (
   record {
     evidence = h.evidence;
     is_text = h.is_text;
   },
   law m (Justice j) k h.evidence well h.is_text.accepted,
-  few_shown m j k h.evidence law formed few h.is_text.accepted,
+  few m j k h.evidence well h.is_text.accepted,
 )
 
 refused_tried : (m : Parts) (j k : ℕ) (e : CertifyError) → IfOk (tried_of e) (IsTried m j k)
@@ -88,19 +70,18 @@ refused_tried m j k (certify.Repeated i) = tt
 refused_tried m j k (certify.IdsTaken used_up) = tt
 refused_tried m j k (certify.OutOfMemory refused) = tt
 
-tried_so : (m : Parts) (j k : ℕ) (inv : List (List Lit)) (after : Steps) (r : Result Certified CertifyError) → AcceptedLaw → RoundsFormed m j k → FewLaw m j k → IsWellFormed m →
+tried_so : (m : Parts) (j k : ℕ) (inv : List (List Lit)) (after : Steps) (r : Result Certified CertifyError) → AcceptedLaw → AcceptedRoundsLaw → IsWellFormed m →
     IfOk r (IsCertified m (record { property = Justice j; rounds = k }) [] [] inv after) → IfOk (tried_on r) (IsTried m j k)
-tried_so m j k inv after (Ok (Certificate text)) law formed few well h = shown_by m j k [] [] inv text law formed few well h
-tried_so m j k inv after (Ok (NotInvariant x)) law formed few well h = tt
-tried_so m j k inv after (Ok Spent) law formed few well h = tt
-tried_so m j k inv after (Ok Unaccepted) law formed few well h = tt
-tried_so m j k inv after (Err e) law formed few well h = refused_tried m j k e
+tried_so m j k inv after (Ok (Certificate text)) law few well h = shown_by m j k [] [] inv text law few well h
+tried_so m j k inv after (Ok (NotInvariant x)) law few well h = tt
+tried_so m j k inv after (Ok Spent) law few well h = tt
+tried_so m j k inv after (Ok Unaccepted) law few well h = tt
+tried_so m j k inv after (Err e) law few well h = refused_tried m j k e
 
-pub tried_by_clauses : (m : Parts) (j k : ℕ) (inv : List (List Lit)) (after : Steps) (r : Result Certified CertifyError) (t : Result Tried DecideError) → t ≡ tried_on r → AcceptedLaw → RoundsFormed m j k → FewLaw m j k →
-    IsWellFormed m →
+pub tried_by_clauses : (m : Parts) (j k : ℕ) (inv : List (List Lit)) (after : Steps) (r : Result Certified CertifyError) (t : Result Tried DecideError) → t ≡ tried_on r → AcceptedLaw → AcceptedRoundsLaw → IsWellFormed m →
     IfOk r (IsCertified m (record { property = Justice j; rounds = k }) [] [] inv after) → IfOk t (IsTried m j k)
-tried_by_clauses m j k inv after r t is law formed few well h =
-    subst (λ (q : Result Tried DecideError). IfOk q (IsTried m j k)) (sym is) (tried_so m j k inv after r law formed few well h)
+tried_by_clauses m j k inv after r t is law few well h =
+    subst (λ (q : Result Tried DecideError). IfOk q (IsTried m j k)) (sym is) (tried_so m j k inv after r law few well h)
 
 -- ---- one number after the other
 

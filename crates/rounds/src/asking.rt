@@ -25,7 +25,7 @@ use base::{Budget, Lists, Seq};
 use certificate3::Claim;
 use certify3::{Certified, CertifyError, Effort, Extension, certify};
 use engine::{Engine, Finding, Reason};
-use extension::{accepted_law, count_rounds, rounds_laws};
+use extension::{accepted_law, accepted_rounds_law, count_rounds, rounds_laws};
 use graph::{Lit, Model, Property};
 use live_safe::LiveError;
 use std::alloc::Global;
@@ -133,6 +133,7 @@ fn shown_by(
 {
     circuit.well_formed();
     accepted_law();
+    accepted_rounds_law();
     rounds_laws(circuit, position, rounds);
     let claim = Claim {
         property: Property::Justice(position),

@@ -12,7 +12,7 @@ use crate::strengthening::{needed, strengthened};
 use base::{Budget, Lists, Refused, Seq, push};
 use certificate3::Claim;
 use certify3::{Certified, CertifyError, Effort, Extension, certify};
-use extension::{accepted_law, rounds_laws};
+use extension::{accepted_law, accepted_rounds_law};
 use graph::{Gate, Lit, Model, Property};
 use std::alloc::Global;
 
@@ -115,7 +115,7 @@ impl Counting<'_> {
     {
         self.circuit.well_formed();
         accepted_law();
-        rounds_laws(self.circuit, self.position, self.rounds);
+        accepted_rounds_law();
         let claim = Claim {
             property: Property::Justice(self.position),
             rounds: self.rounds,

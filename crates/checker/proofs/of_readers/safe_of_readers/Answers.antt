@@ -17,6 +17,7 @@ returns-in-None g c = record {
       let (p, it, upheld, line) = more in
       (xs, ys, p, first, second, subst (λ w. IfSome w (λ q. q ≡ p)) (sym c.in-None.is) tt, it, upheld, line))
       (both_given c.args.circuit.now.given c.run_safe.new.circuit.given c.args.certificate.now.given c.run_safe.new.certificate.given _ _ _ _ _ _ _ _ _ c.run_safe.result c.run_safe.ensures.ended c.run_safe.ensures.yes);
+  rounds = both_given c.args.circuit.now.given c.run_safe.new.circuit.given c.args.certificate.now.given c.run_safe.new.certificate.given _ _ _ _ _ _ _ _ _ c.run_safe.result c.run_safe.ensures.ended c.run_safe.ensures.rounds;
   no =
       wanted_so _ _ c.in-None.is _ _ _ _ _ _ _ _ _ _ _ _
       (λ w xs ys. IfOk c.run_safe.result (λ said. said ≡ false → (n : ℕ) × IsRefusalOf w xs ys n × Appends (g.W.Sink.contents c.args.out.now) (g.W.Sink.contents c.run_safe.new.out) (no_line n)))
@@ -44,6 +45,7 @@ returns-in-Some g c = record {
       let (it, upheld, line) = more in
       (xs, ys, c.in-Some.property, first, second, subst (λ w. IfSome w (λ q. q ≡ c.in-Some.property)) (sym c.in-Some.is) refl, it, upheld, line))
       (both_given c.args.circuit.now.given c.run_safe_for.new.circuit.given c.args.certificate.now.given c.run_safe_for.new.certificate.given _ _ _ _ _ _ _ _ _ c.run_safe_for.result c.run_safe_for.ensures.ended c.run_safe_for.ensures.yes);
+  rounds = both_given c.args.circuit.now.given c.run_safe_for.new.circuit.given c.args.certificate.now.given c.run_safe_for.new.certificate.given _ _ _ _ _ _ _ _ _ c.run_safe_for.result c.run_safe_for.ensures.ended c.run_safe_for.ensures.rounds;
   no =
       wanted_so _ _ c.in-Some.is _ _ _ _ _ _ _ _ _ _ _ _
       (λ w xs ys. IfOk c.run_safe_for.result (λ said. said ≡ false → (n : ℕ) × IsRefusalOf w xs ys n × Appends (g.W.Sink.contents c.args.out.now) (g.W.Sink.contents c.run_safe_for.new.out) (no_line n)))

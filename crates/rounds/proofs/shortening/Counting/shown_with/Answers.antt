@@ -11,5 +11,5 @@ returns-in-Ok-Certificate-clause-tried c =
     let j = c.args.self.position in
     let k = c.args.self.rounds in
     let inv = c.in_ok-invariant.invariant in
-    shown_by m j k [] c.args.gates.now inv c.in-Ok-Certificate.text c.accepted_law.ensures c.rounds_laws.ensures.formed c.rounds_laws.ensures.few c.well_formed-2.ensures
+    shown_by m j k [] c.args.gates.now inv c.in-Ok-Certificate.text c.accepted_law.ensures c.accepted_rounds_law.ensures c.well_formed-2.ensures
     (subst (λ (r : Certified). IsCertified m (record { property = Justice j; rounds = k }) [] c.args.gates.now inv c.certify.new.budget r) c.in-Ok-Certificate.field-0-is c.in-Ok-Certificate.ensures.certified)
