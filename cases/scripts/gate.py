@@ -1,4 +1,5 @@
-"""Cases of tools/gate, in a small repository: the table of what crates cost, and the longest chain of them."""
+"""Cases of tools/gate, in a small repository: the table of what crates cost, and the longest chain of them. And what
+bench/plain_rust writes."""
 
 import shutil
 
@@ -71,3 +72,10 @@ def without(scratch):
 def timeless(scratch):
     told = f"tools/gate: {make(scratch / 'log', 'rt: ok')} has no line `spent CRATE TASK SECONDS`\n"
     expect(gate(scratch, scratch / "log"), (3, "", told), "what it does")
+
+
+@case("plain_rust: the program is among what is written")
+def plain(scratch):
+    done = call(TOP / "bench" / "plain_rust", scratch / "plain", cwd=scratch)
+    expect((done.status, b"main" in done.told), (0, False), "its status, and whether it says that main is left out")
+    expect((scratch / "plain" / "main" / "src" / "main.rs").is_file(), True, "whether main is there")
