@@ -135,32 +135,28 @@ fn clauses_of_circuits(rt: HostRuntime) -> Result<(), Fail> {
     Ok(())
 }
 
-/// The greatest variable and the number of clauses, or why there are none.
+/// The greatest variable and the number of clauses, or the number of why there are none.
 #[derive(Clone, Copy)]
 struct Sizes {
     encoding: Encoding,
 }
 
 impl Question for Sizes {
-    type Answer = Result<(u32, usize), CnfError>;
+    type Answer = Result<(u32, usize), u8>;
 
-    fn answer(
-        &self,
-        alloc: Global,
-        circuit: &Model,
-    ) -> Result<Result<(u32, usize), CnfError>, Fail> {
+    fn answer(&self, alloc: Global, circuit: &Model) -> Result<Result<(u32, usize), u8>, Fail> {
         match encoded(alloc, circuit, self.encoding) {
             Ok(formula) => Ok(Ok((formula.vars, formula.clauses.len()))),
-            Err(e) => Ok(Err(e)),
+            Err(e) => Ok(Err(e.number())),
         }
     }
 }
 
 /// The longest encodings of the latch that holds, and those that are too long.
-static LONG: [(Encoding, Result<(u32, usize), CnfError>); 3] = [
+static LONG: [(Encoding, Result<(u32, usize), u8>); 3] = [
     (Encoding::Unrolling(255), Ok((512, 767))),
-    (Encoding::Unrolling(256), Err(CnfError::Limit)),
-    (Encoding::Extension(256), Err(CnfError::Limit)),
+    (Encoding::Unrolling(256), Err(4)),
+    (Encoding::Extension(256), Err(4)),
 ];
 
 #[test]
