@@ -109,6 +109,7 @@ impl LineBuffer {
     /// refuses what `next_line` refuses, and then nothing is said of the line that it holds. One
     /// pass; memory is asked for only where a list is longer than those before.
     #[tactic(auto, unfolding(crate::specs::Reading::line_at))]
+    #[inline(always)]
     pub fn read<'t, K: Copy>(
         &mut self,
         alloc: Global,
