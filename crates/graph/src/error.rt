@@ -13,7 +13,7 @@ const TOO_LONG_AT: u64 = LONGEST_TEXT as u64;
 
 /// Why parts, or a text, make no circuit. Each refusal has a number and a place. In a text the
 /// place is a byte; where parts are built it is what the variant says.
-#[derive(Clone, Copy, Debug, Error)]
+#[derive(Clone, Copy, Error)]
 pub enum ReadError {
     TooLong,
     Header(u64),
@@ -59,6 +59,13 @@ impl fmt::Display for ReadError {
             ReadError::OutOfMemory(refused) => write!(f, "{refused}"),
             _ => write!(f, "{}{}{}", self.before(), self.place(), self.after()),
         }
+    }
+}
+
+/// As it is displayed: the proof of a derived one takes a tenth of the crate's.
+impl fmt::Debug for ReadError {
+    fn fmt<W: fmt::Write>(&self, f: &mut fmt::Formatter<W>) -> fmt::Result {
+        fmt::Display::fmt(self, f)
     }
 }
 
