@@ -16,9 +16,10 @@ ghost use Rattle.solver.specs.Full.{full};
 use crate::analysis::Analysis;
 use crate::assignment::Assignment;
 use crate::guide::Guide;
+use crate::learning::attach;
 use base::{Refused, push};
 use cdcl_kernel::Kernel;
-use cdcl_log::LoggedKernel;
+use cdcl_log::{LoggedKernel, last_id};
 use solver::SatError;
 
 /// The core where a clause is false at level 0, which has no assumption.
@@ -71,7 +72,32 @@ pub fn core_of_failed_assumption(
     } else {
         analyse_final(kernel.known(), assignment, analysis, trail_index, reason)?;
     }
+    learn_binary(kernel, guide, assume)?;
     checked_core(kernel, guide, assume)
+}
+
+/// Learns the clause in progress where it has two literals and denies two assumptions about a part, unless one clause says it
+/// already: so it is asked whether two signals differ, and in other parts this clause alone says that they don't.
+fn learn_binary(
+    kernel: &mut LoggedKernel,
+    guide: &mut Guide,
+    assume: &[i32],
+) -> Result<(), SatError>
+    ensures keeps { Keeps kernel.old kernel.new }
+    ensures limit { IfErr result (λ e. e ≡ Limit full → IsFull kernel.new) }
+{
+    let analysis = &guide.analysis;
+    let is_about_two = guide.decisions.parts.is_part && assume.len() == 2;
+    if !is_about_two || analysis.clause.len() != 2 || analysis.hints.len() < 2 {
+        return Ok(());
+    }
+    let (clause, hints) = (analysis.clause.as_slice(), analysis.hints.as_slice());
+    let is_kept = kernel.learn(guide.alloc, clause, hints)?;
+    guide.statistics.count_learned(is_kept);
+    if is_kept {
+        attach(guide, last_id(kernel.known()))?;
+    }
+    Ok(())
 }
 
 /// The core that the clause in progress denies, where its hints show it.

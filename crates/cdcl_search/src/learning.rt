@@ -73,7 +73,7 @@ fn move_highest_level_to(levels: &Levels, clause: &mut [i32], index: usize) -> u
 }
 
 /// Watches the first two literals of the clause in progress.
-fn attach(guide: &mut Guide, id: u32) -> Result<(), Refused> {
+pub fn attach(guide: &mut Guide, id: u32) -> Result<(), Refused> {
     let len = guide.analysis.clause.len();
     guide.watches.reach(id as usize);
     if let [first, second, ..] = guide.analysis.clause.as_slice() {

@@ -1,8 +1,8 @@
 //! Forgetting learned clauses.
 //!
 //! Each clause costs time in propagation, and most learned ones are of use for a short while. So after some
-//! conflicts the worse half of those with more than two literals goes, but for the reasons of literals on the
-//! trail. The worse ones are those whose literals were of more levels when they were learned (the glue, or
+//! conflicts that taught clauses of more than two literals the worse half of these goes, but for the reasons of
+//! literals on the trail. The worse ones are those whose literals were of more levels when they were learned (the glue, or
 //! literal block distance, Audemard and Simon 2009); of two alike the longer, and then the older one.
 //!
 //! Where there are many clauses, a conflict propagates through many of them, and a few thousand learned ones
@@ -53,7 +53,7 @@ impl Reductions {
         }
     }
 
-    /// Counts a conflict, and tells whether a reduction is due, where there are at least so many conflicts
+    /// Counts a conflict that taught more than two literals, and tells whether a reduction is due, where there are at least so many conflicts
     /// from one to the next.
     pub fn is_due(&mut self, least: u64) -> bool {
         self.since = self.since.saturating_add(1);

@@ -117,7 +117,7 @@ fn handle_conflict(
     learn(kernel, guide, conflict, level)?;
     let clauses = kernel.known().clauses();
     let least = least_between(clauses, guide.decisions.parts.is_part, assume);
-    if guide.learned.reductions.is_due(least) {
+    if guide.analysis.clause.len() > 2 && guide.learned.reductions.is_due(least) {
         count(&mut guide.statistics.reductions);
         reduce(kernel, guide)?;
     }
