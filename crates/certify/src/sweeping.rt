@@ -1,30 +1,28 @@
 //! What a refuter learns of signals.
 
-ghost use Rattle.std.specs.Prelude.{◌≡◌, ◌+◌};
+ghost use Rattle.std.specs.Prelude.{◌≡◌, ◌+◌, All, IfSome};
 ghost use Rattle.base.specs.Budget.{Spends};
+ghost use Rattle.lrat.specs.Literals.{IsLiteral};
 
 use base::{Budget, Seq};
 use cdcl::Refuter;
 use graph::{Lit, Model};
 use solver::SatError;
 use std::alloc::Global;
-use sweep::{STEPS, Sweep};
+use sweep::{Question, STEPS, Sweep};
 
-/// Whether a few steps show that the signals of a pair do not differ in this direction.
+/// Whether a few steps show that the signals of a question do not differ in its direction.
 fn is_shown(
     alloc: Global,
-    sweep: &mut Sweep,
-    pair: usize,
-    is_turned: bool,
+    question: Option<Question>,
     refuter: &mut Refuter,
     budget: &mut Budget,
 ) -> Result<bool, SatError>
-    requires { refuter.old.formula.vars ≡ sweep.old }
-    ensures sweep { sweep.new ≡ sweep.old }
+    requires { IfSome question (λ q. All (IsLiteral refuter.old.formula.vars) q.units.items) }
     ensures same { refuter.new ≡ refuter.old }
     ensures spends { Spends budget.old budget.new }
 {
-    let Some(question) = sweep.question(alloc, pair, is_turned)? else {
+    let Some(question) = question else {
         return Ok(false);
     };
     let mut piece = Budget::new(budget.left().min(STEPS));
@@ -32,6 +30,30 @@ fn is_shown(
     let is_shown = refuter.learn(alloc, &question.part, units, &mut piece)?;
     budget.spend(piece.spent());
     Ok(is_shown)
+}
+
+/// Asks whether the signal at an index can differ from an earlier one, and notes that it cannot where that is shown in both
+/// directions.
+fn sweep_signal(
+    alloc: Global,
+    sweep: &mut Sweep,
+    index: usize,
+    refuter: &mut Refuter,
+    budget: &mut Budget,
+) -> Result<(), SatError>
+    requires { refuter.old.formula.vars ≡ sweep.old }
+    ensures sweep { sweep.new ≡ sweep.old }
+    ensures same { refuter.new ≡ refuter.old }
+    ensures spends { Spends budget.old budget.new }
+{
+    let question = sweep.question(alloc, index)?;
+    if is_shown(alloc, question, refuter, budget)? {
+        let turned = sweep.turned(alloc)?;
+        if is_shown(alloc, turned, refuter, budget)? {
+            sweep.merge();
+        }
+    }
+    Ok(())
 }
 
 /// Whether two clauses say that two literals are equal.
@@ -52,7 +74,7 @@ fn has_equality(invariant: &[Seq<Lit>]) -> bool {
     ))
 }
 
-/// Asks of pairs of signals whether they can differ, for what the refuter learns of it: the lemmas of which short proofs are
+/// Asks of signals whether they can differ, for what the refuter learns of it: the lemmas of which short proofs are
 /// made. Where no latches are equal it asks nothing: of latches that are constant, constant signals follow at once.
 pub(crate) fn sweep_pairs(
     alloc: Global,
@@ -69,13 +91,11 @@ pub(crate) fn sweep_pairs(
         return Ok(());
     }
     let mut sweep = Sweep::new(alloc, circuit, invariant)?;
-    'sweeping: for pair in 0..sweep.len() {
+    'sweeping: for index in 0..sweep.len() {
         if budget.left() == 0 {
             return Ok(());
         }
-        if is_shown(alloc, &mut sweep, pair, false, refuter, budget)? {
-            is_shown(alloc, &mut sweep, pair, true, refuter, budget)?;
-        }
+        sweep_signal(alloc, &mut sweep, index, refuter, budget)?;
     }
     Ok(())
 }

@@ -1,30 +1,28 @@
 //! What a solver learns of signals.
 
-ghost use Rattle.std.specs.Prelude.{◌≡◌, ◌+◌};
+ghost use Rattle.std.specs.Prelude.{◌≡◌, ◌+◌, All, IfSome};
 ghost use Rattle.base.specs.Budget.{Spends};
+ghost use Rattle.lrat.specs.Literals.{IsLiteral};
 
 use base::{Budget, Seq};
 use graph::{Lit, Model};
 use solver::{Answer, PartSat, SatError};
 use std::alloc::Global;
-use sweep::{STEPS, Sweep};
+use sweep::{Question, STEPS, Sweep};
 
-/// Whether a few steps show that the signals of a pair do not differ in this direction.
+/// Whether a few steps show that the signals of a question do not differ in its direction.
 fn is_shown<S: PartSat>(
     solver: &mut S,
     alloc: Global,
-    sweep: &mut Sweep,
-    pair: usize,
-    is_turned: bool,
+    question: Option<Question>,
     budget: &mut Budget,
 ) -> Result<bool, SatError>
-    requires vars { S.vars solver.old ≡ sweep.old }
-    ensures same { sweep.new ≡ sweep.old }
+    requires units { IfSome question (λ q. All (IsLiteral (S.vars solver.old)) q.units.items) }
     ensures vars { S.vars solver.new ≡ S.vars solver.old }
     ensures clauses { S.clauses solver.new ≡ S.clauses solver.old }
     ensures spends { Spends budget.old budget.new }
 {
-    let Some(question) = sweep.question(alloc, pair, is_turned)? else {
+    let Some(question) = question else {
         return Ok(false);
     };
     let mut piece = Budget::new(budget.left().min(STEPS));
@@ -34,7 +32,32 @@ fn is_shown<S: PartSat>(
     Ok(matches!(answer, Answer::Core(_)))
 }
 
-/// Asks of pairs of signals whether they can differ, for what the solver learns of it. The clauses say which latches are equal.
+/// Asks whether the signal at an index can differ from an earlier one, and notes that it cannot where that is shown in both directions.
+fn sweep_signal<S: PartSat>(
+    solver: &mut S,
+    alloc: Global,
+    sweep: &mut Sweep,
+    index: usize,
+    budget: &mut Budget,
+) -> Result<(), SatError>
+    requires vars { S.vars solver.old ≡ sweep.old }
+    ensures same { sweep.new ≡ sweep.old }
+    ensures vars { S.vars solver.new ≡ S.vars solver.old }
+    ensures clauses { S.clauses solver.new ≡ S.clauses solver.old }
+    ensures spends { Spends budget.old budget.new }
+{
+    let question = sweep.question(alloc, index)?;
+    if is_shown(solver, alloc, question, budget)? {
+        let turned = sweep.turned(alloc)?;
+        if is_shown(solver, alloc, turned, budget)? {
+            sweep.merge();
+        }
+    }
+    Ok(())
+}
+
+/// Asks of the circuit's signals whether they can differ, for what the solver learns of it. The clauses say which latches are
+/// equal.
 pub(crate) fn sweep_pairs<S: PartSat>(
     solver: &mut S,
     alloc: Global,
@@ -48,13 +71,11 @@ pub(crate) fn sweep_pairs<S: PartSat>(
     ensures spends { Spends budget.old budget.new }
 {
     let mut sweep = Sweep::new(alloc, circuit, clauses)?;
-    'sweeping: for pair in 0..sweep.len() {
+    'sweeping: for index in 0..sweep.len() {
         if budget.left() == 0 {
             return Ok(());
         }
-        if is_shown(solver, alloc, &mut sweep, pair, false, budget)? {
-            is_shown(solver, alloc, &mut sweep, pair, true, budget)?;
-        }
+        sweep_signal(solver, alloc, &mut sweep, index, budget)?;
     }
     Ok(())
 }

@@ -1,37 +1,61 @@
 //! What a refuter learns of signals.
 
-ghost use Rattle.std.specs.Prelude.{◌≡◌, ◌+◌, ◌≤◌};
+ghost use Rattle.std.specs.Prelude.{◌≡◌, ◌+◌, ◌≤◌, All};
 ghost use Rattle.base.specs.Budget.{Spends};
+ghost use Rattle.lrat.specs.Literals.{IsLiteral};
 
 use base::{Budget, Lists, Seq};
 use cdcl::Refuter;
 use graph::{Lit, Model};
 use solver::SatError;
 use std::alloc::Global;
-use sweep::{STEPS, Sweep};
+use sweep::{Question, STEPS, Sweep};
 
-/// Whether a few steps show that the signals of a pair do not differ in this direction.
+/// Whether a few steps show that the signals of a question do not differ in its direction.
 fn is_shown(
     alloc: Global,
-    sweep: &mut Sweep,
-    pair: usize,
-    is_turned: bool,
+    question: &Question,
     refuter: &mut Refuter,
     budget: &mut Budget,
 ) -> Result<bool, SatError>
-    requires { sweep.old ≤ refuter.old.formula.vars }
-    ensures sweep { sweep.new ≡ sweep.old }
+    requires { All (IsLiteral refuter.old.formula.vars) question.now.units.items }
     ensures same { refuter.new ≡ refuter.old }
     ensures spends { Spends budget.old budget.new }
 {
-    let Some(question) = sweep.question(alloc, pair, is_turned)? else {
-        return Ok(false);
-    };
     let mut piece = Budget::new(budget.left().min(STEPS));
     let units = question.units.as_slice();
     let is_shown = refuter.learn(alloc, &question.part, units, &mut piece)?;
     budget.spend(piece.spent());
     Ok(is_shown)
+}
+
+/// Asks whether the signal at an index can differ from an earlier one, and notes that it cannot where that is shown in both
+/// directions.
+fn sweep_signal(
+    alloc: Global,
+    sweep: &mut Sweep,
+    index: usize,
+    refuter: &mut Refuter,
+    budget: &mut Budget,
+) -> Result<(), SatError>
+    requires { sweep.old ≤ refuter.old.formula.vars }
+    ensures sweep { sweep.new ≡ sweep.old }
+    ensures same { refuter.new ≡ refuter.old }
+    ensures spends { Spends budget.old budget.new }
+{
+    let Some(question) = sweep.question(alloc, index)? else {
+        return Ok(());
+    };
+    if !is_shown(alloc, &question, refuter, budget)? {
+        return Ok(());
+    }
+    let Some(turned) = sweep.turned(alloc)? else {
+        return Ok(());
+    };
+    if is_shown(alloc, &turned, refuter, budget)? {
+        sweep.merge();
+    }
+    Ok(())
 }
 
 /// Whether two clauses say that two literals are equal.
@@ -63,7 +87,7 @@ fn copied(alloc: Global, invariant: &Lists<Lit>) -> Result<Seq<Seq<Lit>>, SatErr
     Ok(clauses)
 }
 
-/// Asks of pairs of signals at the first time whether they can differ, for what the refuter learns of it: the lemmas of
+/// Asks of signals at the first time whether they can differ, for what the refuter learns of it: the lemmas of
 /// which short proofs are made. Where no literals are equal it asks nothing: of latches that are constant, constant signals
 /// follow at once.
 pub fn sweep_pairs(
@@ -82,13 +106,11 @@ pub fn sweep_pairs(
     }
     let clauses = copied(alloc, invariant)?;
     let mut sweep = Sweep::new(alloc, circuit, clauses.as_slice())?;
-    'sweeping: for pair in 0..sweep.len() {
+    'sweeping: for index in 0..sweep.len() {
         if budget.left() == 0 {
             return Ok(());
         }
-        if is_shown(alloc, &mut sweep, pair, false, refuter, budget)? {
-            is_shown(alloc, &mut sweep, pair, true, refuter, budget)?;
-        }
+        sweep_signal(alloc, &mut sweep, index, refuter, budget)?;
     }
     Ok(())
 }

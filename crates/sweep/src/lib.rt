@@ -1,17 +1,19 @@
 //! SAT sweeping (Kuehlmann and Krohm 1997; Mishchenko, Chatterjee, Jiang, Brayton 2005): signals of a circuit that may be equal,
 //! and the questions by which a solver learns it.
 //!
-//! - `Sweep` has pairs of signals with equal or opposite values in random states in which latches are equal that clauses say
-//!   are so, each gate behind those that it reads. It asks of each pair, in both directions, whether the signals can differ, by a
-//!   few gates near them.
+//! - `Sweep` has the signals of a circuit in which latches are equal that clauses say are so, each gate behind those that it
+//!   reads. Each is paired with an earlier one: a gate with one that reads signals that were shown equal (structural hashing),
+//!   else a signal with one that has equal or opposite values in random states. It asks of each pair, in both directions,
+//!   whether the signals can differ, by their own two gates or by some hundred near them.
 //! - `Near` is the part of a circuit that a question is about, and `ask` asks about it before all of the circuit.
 //!
-//! Nothing of this is trusted, and no answer is kept: who asks a solver these questions has it learn clauses, which make later
-//! questions easy. A pair costs some hundred gates, and all pairs a pass over the circuit for each 256 states.
+//! Nothing of this is trusted: who asks a solver these questions has it learn clauses, which make later questions easy. All
+//! pairs cost a pass over the circuit for each 256 states.
 #![tactic(auto)]
 
 mod asking;
 mod equal_latches;
+mod equal_signals;
 mod near;
 mod pairs;
 mod signals;

@@ -1,5 +1,7 @@
 //! The gates near some variables.
 
+use crate::equal_signals::EqualSignals;
+use crate::pairs::Pair;
 use crate::unit::unit;
 use base::{Refused, filled, push};
 use cones::GateTable;
@@ -15,6 +17,16 @@ pub struct Near {
     marks: Vec<bool>,
     /// the literal of what is true
     truth: u32,
+}
+
+/// What a question about two signals looks at.
+#[derive(Drop)]
+struct Reading {
+    /// the variables, of which the first two are asked about
+    variables: Vec<u32>,
+    gates: Vec<AndGate>,
+    /// how many of the gates say what a variable is made of
+    count: usize,
 }
 
 /// The gate as a part has it.
@@ -103,6 +115,74 @@ impl Near {
         let gates = self.gates(alloc, &mut list, most)?;
         self.unmark(list.as_slice());
         Ok(Part { gates, literals })
+    }
+
+    /// The gates of the circuit by their variables.
+    pub(crate) fn table(&self) -> &GateTable {
+        &self.table
+    }
+
+    /// Reads the variable at an index: of two signals that are known to be equal the first, else what it is made of, where fewer
+    /// gates were looked at. That comes into the part by a gate that is false whatever it is.
+    fn read(
+        &mut self,
+        equal: &EqualSignals,
+        reading: &mut Reading,
+        index: usize,
+        most: usize,
+    ) -> Result<(), Refused> {
+        let Some(variable) = reading.variables.get(index).copied() else {
+            return Ok(());
+        };
+        let first = equal.first(Lit(variable.wrapping_mul(2)));
+        if index >= 2 && first.variable() != variable {
+            let gate = Gate {
+                lhs: Lit(0),
+                rhs0: first,
+                rhs1: Lit(first.0 ^ 1),
+            };
+            push(&mut reading.gates, and_gate(self.truth, gate))?;
+            return self.mark(&mut reading.variables, first.variable());
+        }
+        if reading.count >= most {
+            return Ok(());
+        }
+        if let Some(gate) = self.table.gate_of(variable) {
+            reading.count += 1;
+            push(&mut reading.gates, and_gate(self.truth, gate))?;
+            self.mark(&mut reading.variables, gate.rhs0.variable())?;
+            self.mark(&mut reading.variables, gate.rhs1.variable())?;
+        }
+        Ok(())
+    }
+
+    /// The gates near a pair of signals, where of those that are known to be equal the first is read. It costs this part.
+    pub(crate) fn part_of_pair(
+        &mut self,
+        alloc: Global,
+        equal: &EqualSignals,
+        pair: Pair,
+    ) -> Result<Part, Refused> {
+        let mut reading = Reading {
+            variables: Vec::new(alloc),
+            gates: Vec::new(alloc),
+            count: 0,
+        };
+        self.mark(&mut reading.variables, pair.one.variable())?;
+        self.mark(&mut reading.variables, pair.other.variable())?;
+        'reading: for index in 0..self.marks.len() {
+            if index >= reading.variables.len() {
+                break;
+            }
+            self.read(equal, &mut reading, index, pair.gates)?;
+        }
+        self.unmark(reading.variables.as_slice());
+        let mut literals = Vec::new(alloc);
+        push(&mut literals, unit(self.truth, Lit(1)))?;
+        Ok(Part {
+            gates: reading.gates,
+            literals,
+        })
     }
 
     /// The part that these units and the constraints of the circuit are made of.

@@ -53,7 +53,7 @@ fn lits_of(alloc: Global, circuit: &Model) -> Result<Vec<Lit>, Refused> {
 }
 
 /// What a latch is said to be equal to.
-fn equal_to(equal: &[Option<Lit>], position: usize) -> Option<Lit> {
+pub(crate) fn equal_to(equal: &[Option<Lit>], position: usize) -> Option<Lit> {
     match equal.get(position) {
         Some(same) => *same,
         None => None,
