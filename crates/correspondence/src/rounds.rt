@@ -36,6 +36,12 @@ const GREATEST: usize = MOST_VARIABLES as usize;
 /// How many steps a question may cost before signals are swept.
 const SOON: u64 = 300_000;
 
+/// How many where half of the latches may be equal to others, as where two circuits are compared.
+const SOONER: u64 = 30_000;
+
+/// How many where signals were swept in an earlier round.
+const AGAIN: u64 = 3_000;
+
 /// What a question about the bad literal is about.
 const NO_MEMBER: Member = Member { place: 0, class: 0 };
 
@@ -110,6 +116,26 @@ fn load<S: Sat>(
     let base = shared_base(alloc, circuit, clauses)?;
     solver.reset(alloc, circuit.max_var() + 1)?;
     add_clauses(solver, alloc, base.clauses.as_slice())
+}
+
+/// How many of the clauses have two literals.
+fn count_of_pairs(clauses: &[Seq<Lit>]) -> usize {
+    let mut count = 0_usize;
+    for clause in clauses {
+        if clause.len() == 2 {
+            count = count.saturating_add(1);
+        }
+    }
+    count
+}
+
+/// How many steps a question may cost before signals are swept, where these clauses say which latches are equal.
+fn soon_of(circuit: &Model, clauses: &[Seq<Lit>]) -> u64 {
+    if count_of_pairs(clauses) >= circuit.latches().len() / 2 {
+        SOONER
+    } else {
+        SOON
+    }
 }
 
 /// The value of a literal's variable.
@@ -187,6 +213,7 @@ impl<'a> Search<'a> {
         ensures spends { Spends budget.old budget.new }
     {
         self.is_swept = true;
+        self.soon = AGAIN;
         sweep_pairs(
             solver,
             alloc,
@@ -215,7 +242,7 @@ impl<'a> Search<'a> {
     {
         let (part, units) = (&question.part, question.units.as_slice());
         if !self.is_swept {
-            let mut piece = Budget::new(budget.left().min(SOON));
+            let mut piece = Budget::new(budget.left().min(self.soon));
             let answer = ask(solver, alloc, part, units, &mut piece)?;
             budget.spend(piece.spent());
             match answer {
@@ -414,6 +441,9 @@ impl<'a> Search<'a> {
         progress.round_begun(self.rounds, equalities.clauses.len(), budget);
         load(solver, alloc, circuit, equalities.clauses.as_slice())?;
         self.is_swept = false;
+        self.soon = self
+            .soon
+            .min(soon_of(circuit, equalities.clauses.as_slice()));
         self.ask_all(solver, circuit, bad, is_open, equalities, budget)
     }
 }

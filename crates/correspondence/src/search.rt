@@ -36,6 +36,8 @@ pub(crate) struct Search<'a> {
     generator: Lcg128Xsl64,
     /// whether signals are swept in this round
     pub is_swept: bool,
+    /// how many steps a question may cost before they are
+    pub soon: u64,
     /// how many rounds there were
     pub rounds: u64,
 }
@@ -127,6 +129,7 @@ impl<'a> Search<'a> {
             classes: Classes::new(alloc, circuit.latches())?,
             generator: Lcg128Xsl64::seed_from_u64(0),
             is_swept: false,
+            soon: u64::MAX,
             rounds: 0,
         })
     }
