@@ -20,7 +20,7 @@ const FEW_VARIABLES: u32 = 4_000;
 const MANY_VARIABLES: u32 = 30_000;
 
 /// Register correspondence and the engines behind it have so many steps at most before equal signals are looked for.
-const MERGED_STEPS: u64 = 10_000_000;
+const MERGED_STEPS: u64 = 5_000_000;
 
 /// They have so many at most where the circuit has many variables.
 const MOST_MERGED_STEPS: u64 = 40_000_000;
