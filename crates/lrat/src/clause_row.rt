@@ -159,11 +159,12 @@ fn clause_at<'a>(lists: &'a Lists<i32>, runs: &[Run<'_>], index: usize) -> Found
     for run in runs {
         if left >= run.lists {
             let behind = left - run.lists;
-            let place = behind / 3;
-            if place < run.gates.len() {
+            let count = 3 * run.gates.len();
+            if behind < count {
+                let place = behind / 3;
                 return run.gates[place].moved_clause(run.shift, behind - 3 * place);
             }
-            left -= 3 * run.gates.len();
+            left -= count;
         }
     }
     FoundClause::Slice(lists.list(left))

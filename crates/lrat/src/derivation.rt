@@ -1,13 +1,13 @@
 //! One line of a proof.
 
 ghost use Rattle.base.specs.Witness.{witness};
-ghost use Rattle.std.specs.Prelude.{◌≡◌, ◌≢◌, ◌<◌, ◌^◌, ℕ, pos, neg_ℤ, Bool, [], map, All, MatchResult, IfOk, IfErr};
-ghost use Rattle.lrat.specs.Literals.{IsProper, IsSatisfied, Satisfies};
+ghost use Rattle.std.specs.Prelude.{◌≡◌, ◌≢◌, ◌<◌, ◌^◌, ℕ, pos, Bool, [], map, All, MatchResult, IfOk, IfErr};
+ghost use Rattle.lrat.specs.Literals.{IsSatisfied, Satisfies};
 ghost use Rattle.lrat.specs.Lines.{Leads, Conflicts, IsAcceptedLine};
 ghost use Rattle.lrat.specs.Refusals.{IsRefusedLine};
 ghost use Rattle.lrat.specs.Store.{find_in};
 ghost use Rattle.lrat.specs.declared.fault.Fault.TheVariants.{OutOfMemory};
-ghost use Rattle.lrat.specs.Faults.{IsImproper, StopsWithin, StopsLast};
+ghost use Rattle.lrat.specs.Faults.{StopsWithin, StopsLast};
 
 use crate::clauses::Clauses;
 use crate::fault::Fault;
@@ -102,7 +102,7 @@ fn check<C: Lookup, H: Hint>(
     ensures accepted { IfOk result (λ _. IsAcceptedLine (C.vars clauses.now) (C.find clauses.now) clause.now (map H.named hints.now)) }
     ensures refused { IfErr result (λ e. IsRefusedLine (C.vars clauses.now) (C.find clauses.now) clause.now (map H.named hints.now) e) }
 {
-    suppose(trail, clause)?;
+    trail.suppose(clause)?;
     let Some((last, first)) = hints.split_last() else {
         return Err(Fault::NoHints);
     };
@@ -110,27 +110,24 @@ fn check<C: Lookup, H: Hint>(
     conclude(trail, clauses, last.id())
 }
 
-/// Supposes the clause's literals false, in order. None may be repeated or opposed.
+/// Sets the one literal that the clause of each hint leaves. Many lines have one hint in all, and none here: then
+/// nothing is called.
 #[inline(always)]
-fn suppose(trail: &mut Trail, clause: &[i32]) -> Result<(), Fault>
-    requires empty { trail.old.literals ≡ [] }
-    requires not_zero { All (λ l. l ≢ pos 0) clause.now }
+fn follow<C: Lookup, H: Hint>(trail: &mut Trail, clauses: &C, hints: &[H]) -> Result<(), Fault>
+    requires same_vars { trail.old.vars ≡ C.vars clauses.now }
+    requires allowed { All H.allows hints.now }
     ensures vars { trail.new.vars ≡ trail.old.vars }
-    ensures answer { MatchResult result (λ _. IsProper trail.old.vars clause.now × (trail.new.literals ≡ map neg_ℤ clause.now)) (λ e. IsImproper trail.old.vars clause.now e) }
+    ensures answer { MatchResult result (λ _. Leads (C.find clauses.now) trail.old.literals (map H.named hints.now) trail.new.literals) (λ e. StopsWithin (C.find clauses.now) trail.old.literals (map H.named hints.now) e) }
 {
-    for literal in clause {
-        match trail.value_of(*literal) {
-            None => return Err(Fault::VariableRange),
-            Some(true) => return Err(Fault::RepeatedLiteral),
-            Some(false) => trail.deny(*literal)?,
-        }
+    if hints.is_empty() {
+        return Ok(());
     }
-    Ok(())
+    walk(trail, clauses, hints)
 }
 
-/// Sets the one literal that the clause of each hint leaves.
+/// The same, hint by hint.
 #[inline(never)]
-fn follow<C: Lookup, H: Hint>(trail: &mut Trail, clauses: &C, hints: &[H]) -> Result<(), Fault>
+fn walk<C: Lookup, H: Hint>(trail: &mut Trail, clauses: &C, hints: &[H]) -> Result<(), Fault>
     requires same_vars { trail.old.vars ≡ C.vars clauses.now }
     requires allowed { All H.allows hints.now }
     ensures vars { trail.new.vars ≡ trail.old.vars }

@@ -105,6 +105,7 @@ impl<K: Copy> ItemKind for Ids<K> {
 
 /// A line's id, and what follows the space behind it.
 #[tactic(auto, unfolding(scan::specs::Words::field_at))]
+#[inline(always)]
 pub fn line_id<K: Copy>(text: &[u8], kinds: Kinds<K>) -> Result<(u32, &[u8]), Fault<K>>
     ensures { Gives (λ x. (x.0, x.1.now)) result (field_at 4294967295 (nat_lt 0) 32 text.now) }
 {

@@ -1,11 +1,14 @@
 //! The literals that are held true, in the order in which they came.
 
-ghost use Rattle.std.specs.Prelude.{◌≡◌, ◌≢◌, pos, neg_ℤ, unsigned_abs, ◌≤◌, ◌<◌, ◌^◌, [], ◌∷◌, ◌++◌, OnOk, OnErr, IfOk, MatchOption, IsTrue, ◌↔◌, ◌⊎◌, Contains, All, length, take};
-ghost use Rattle.lrat.specs.Literals.{IsLiteral};
-ghost use Rattle.lrat.specs.Marks.{AreApart};
+ghost use Rattle.std.specs.Prelude.{◌≡◌, ◌≢◌, pos, neg_ℤ, unsigned_abs, ◌+◌, ◌≤◌, ◌<◌, ◌^◌, [], ◌∷◌, ◌++◌, OnOk, OnErr, IfOk, MatchResult, IsTrue, ◌↔◌, ◌⊎◌, Contains, All, length, map, take};
+ghost use Rattle.std.specs.Vec.{vec_capacity, vec_len};
+ghost use Rattle.lrat.specs.Faults.{IsImproper};
+ghost use Rattle.lrat.specs.Literals.{IsLiteral, IsProper};
+ghost use Rattle.lrat.specs.Marks.{AreApart, AreMarked};
 
+use crate::fault::Fault;
 use crate::mark::{Mark, mark_against, mark_for, unmark};
-use base::{Refused, filled, push};
+use base::{Refused, extend, filled, push};
 use std::alloc::Global;
 use std::marker::Model;
 
@@ -92,20 +95,6 @@ impl Trail {
         self.marks[literal.unsigned_abs() as usize] != Mark::Neither
     }
 
-    /// Whether the literal's variable has a value, or none where the trail is not over this variable.
-    /// It asks both by one look, without a branch on the literal's sign.
-    pub fn value_of(&self, literal: i32) -> Option<bool>
-        requires { literal ≢ pos 0 }
-        ensures { MatchOption result (self.now.vars < unsigned_abs literal) (λ has. (unsigned_abs literal ≤ self.now.vars) × (IsTrue has ↔ (Contains self.now.literals literal ⊎ Contains self.now.literals (neg_ℤ literal)))) }
-    {
-        let variable = literal.unsigned_abs() as usize;
-        if variable < self.marks.len() {
-            Some(self.marks[variable] != Mark::Neither)
-        } else {
-            None
-        }
-    }
-
     /// Holds the literal true from now on. Without memory nothing changes.
     pub fn set(&mut self, literal: i32) -> Result<(), Refused>
         requires in_range { IsLiteral self.old.vars literal }
@@ -131,6 +120,19 @@ impl Trail {
     {
         let _vars = self.vars();
         self.set(-literal)
+    }
+
+    /// Supposes the clause's literals false, in order, where nothing is held. None may be repeated or opposed. Room is
+    /// looked for once, and one look tells a literal's range and value.
+    #[inline(always)]
+    pub fn suppose(&mut self, clause: &[i32]) -> Result<(), Fault>
+        requires empty { self.old.literals ≡ [] }
+        requires not_zero { All (λ l. l ≢ pos 0) clause.now }
+        ensures vars { self.new.vars ≡ self.old.vars }
+        ensures answer { MatchResult result (λ _. IsProper self.old.vars clause.now × (self.new.literals ≡ map neg_ℤ clause.now)) (λ e. IsImproper self.old.vars clause.now e) }
+    {
+        make_room(&mut self.literals, clause)?;
+        deny_each(self.vars, &mut self.marks, &mut self.literals, clause)
     }
 
     /// The literals held true, in order.
@@ -165,4 +167,59 @@ impl Trail {
     {
         self.truncate(0);
     }
+}
+
+/// Makes room for as many literals as the clause has. Without memory the list stays.
+#[inline(always)]
+fn make_room(literals: &mut Vec<i32>, clause: &[i32]) -> Result<(), Refused>
+    ensures items { literals.new.items ≡ literals.old.items }
+    ensures room { OnOk result (vec_len literals.new + length clause.now ≤ vec_capacity literals.new) }
+{
+    if literals.capacity() - literals.len() < clause.len() {
+        return grow(literals, clause);
+    }
+    Ok(())
+}
+
+/// The same where there is none: the clause's literals are added, and taken away again.
+#[cold]
+#[inline(never)]
+fn grow(literals: &mut Vec<i32>, clause: &[i32]) -> Result<(), Refused>
+    ensures items { literals.new.items ≡ literals.old.items }
+    ensures room { OnOk result (vec_len literals.new + length clause.now ≤ vec_capacity literals.new) }
+{
+    let len = literals.len();
+    extend(literals, clause)?;
+    literals.truncate(len);
+    Ok(())
+}
+
+/// Adds the negations of the clause's literals, in order, and marks them. None may be repeated or opposed. The greatest
+/// variable is named for the contract alone.
+#[inline(always)]
+fn deny_each(
+    _vars: u32,
+    marks: &mut Vec<Mark>,
+    literals: &mut Vec<i32>,
+    clause: &[i32],
+) -> Result<(), Fault>
+    requires marked { AreMarked _vars marks.old.items literals.old.items }
+    requires empty { literals.old.items ≡ [] }
+    requires room { vec_len literals.old + length clause.now ≤ vec_capacity literals.old }
+    requires not_zero { All (λ l. l ≢ pos 0) clause.now }
+    ensures marked { AreMarked _vars marks.new.items literals.new.items }
+    ensures answer { MatchResult result (λ _. IsProper _vars clause.now × (literals.new.items ≡ map neg_ℤ clause.now)) (λ e. IsImproper _vars clause.now e) }
+{
+    for literal in clause {
+        let variable = literal.unsigned_abs() as usize;
+        if variable >= marks.len() {
+            return Err(Fault::VariableRange);
+        }
+        if marks[variable] != Mark::Neither {
+            return Err(Fault::RepeatedLiteral);
+        }
+        marks[variable] = mark_against(*literal);
+        literals.push_reserved(-*literal);
+    }
+    Ok(())
 }

@@ -35,6 +35,14 @@ impl<T> Vec<T> {
         Ok(())
     }
 
+    /// Adds an item where there is room for it, which the caller has proved.
+    #[inline]
+    pub fn push_reserved(&mut self, item: T) {
+        // SAFETY: there is room for one more.
+        unsafe { std::hint::assert_unchecked(self.0.len() < self.0.capacity()) };
+        self.0.push(item);
+    }
+
     #[inline]
     pub fn reserve(&mut self, more: usize) -> Result<(), AllocError> {
         self.0.try_reserve(more).map_err(|_| AllocError)

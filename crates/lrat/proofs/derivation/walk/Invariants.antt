@@ -1,6 +1,6 @@
 use Rattle.std.proofs.Common.{◌≡◌, take, map}
 use Rattle.lrat.specs.Lines.{Leads}
-use Rattle.lrat.proofs.derivation.follow.Given as goal
+use Rattle.lrat.proofs.derivation.walk.Given as goal
 
 abbrev pub invariant-loop-hint : goal.invariant-loop-hint
 invariant-loop-hint g l = record {

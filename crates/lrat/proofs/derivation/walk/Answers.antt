@@ -5,7 +5,7 @@ use Rattle.lrat.specs.Lines.{LeavesOnly}
 use Rattle.lrat.specs.declared.fault.Fault.TheVariants.{UnknownId, SeveralLeft, TrueAlready, EarlyConflict, OutOfMemory}
 use Rattle.lrat.proofs.Fit.{read32, not_true, match_gives}
 use Rattle.lrat.proofs.Hints.{found_as, named_stops, named_leads}
-use Rattle.lrat.proofs.derivation.follow.Goals as goal
+use Rattle.lrat.proofs.derivation.walk.Goals as goal
 
 pub returns-in_default-clause-answer : goal.returns-in_default-clause-answer
 returns-in_default-clause-answer g c =
