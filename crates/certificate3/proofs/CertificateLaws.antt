@@ -17,7 +17,7 @@ use Rattle.certificate.specs.Texts.{number_line, clause_line, section_text}
 use Rattle.certificate.proofs.EachLaws.{each_to, each_from}
 use Rattle.certificate.proofs.HeadLaws.{IsClauseLine, clause_reads}
 use Rattle.certificate.proofs.SectionLaws.{IsSection, section_reads}
-use Rattle.extension.specs.Accepted.{Evidence}
+use Rattle.cnf.specs.Evidences.{Evidence}
 use Rattle.certificate3.specs.declared.claim.Claim.{Claim}
 use Rattle.certificate3.specs.Reading.{shown_at, later_at, proofs_at, clauses_at, evidence_of, evidence_at, certificate_at}
 use Rattle.certificate3.specs.Texts.{Certificate, Shown, Later, Proofs, hints_line, latch_line, gate_line, claim_text, shown_text, evidence_text, AreLatchWords, AreGateWords, AreHints, AreLiterals, IsEvidence, SpellsCertificate}

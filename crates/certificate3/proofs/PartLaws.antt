@@ -8,7 +8,7 @@ use Rattle.graph.specs.declared.circuit.Latch.{Latch}
 use Rattle.graph.specs.declared.circuit.Gate.{Gate}
 use Rattle.lrat.specs.declared.line.Line.{Line}
 use Rattle.certificate.specs.Reading.{greatest, clause_at, section_at}
-use Rattle.extension.specs.Accepted.{Evidence}
+use Rattle.cnf.specs.Evidences.{Evidence}
 use Rattle.certificate3.specs.declared.claim.Claim.{Claim}
 use Rattle.certificate3.specs.declared.sizes.Sizes.{Sizes}
 use Rattle.certificate3.specs.Reading.{certificate_at, claim_at, clauses_at, evidence_at, evidence_of, first_line_at, gate_at, hints_at, latch_at, later_at, proofs_at, shown_at, sizes_at}

@@ -8,7 +8,7 @@ use Rattle.lrat.proofs.PutLaws.{puts_then}
 use Rattle.lrat.specs.Texts.{Puts}
 use Rattle.certificate.specs.Texts.{clause_line, number_line, section_text}
 use Rattle.certificate.proofs.PutLaws.{stops, puts_as}
-use Rattle.extension.specs.Accepted.{Evidence}
+use Rattle.cnf.specs.Evidences.{Evidence}
 use Rattle.certificate3.specs.Texts.{Certificate, certificate_text, claim_text, evidence_text, gate_line, hints_line, latch_line, shown_text}
 use Rattle.certificate3.specs.Writing.{circuit_text, id_text, invariant_text, proofs_text, three_line, two_line}
 

@@ -10,7 +10,7 @@ use Rattle.graph.specs.declared.circuit.Latch.{Latch}
 use Rattle.graph.specs.declared.circuit.Gate.{Gate}
 use Rattle.graph.specs.declared.circuit.Property.TheVariants.{Bad, Justice, Output}
 use Rattle.certificate.specs.Reading.{greatest, clause_at, section_at}
-use Rattle.extension.specs.Accepted.{Evidence}
+use Rattle.cnf.specs.Evidences.{Evidence}
 use Rattle.certificate3.specs.declared.claim.Claim.{Claim}
 use Rattle.certificate3.specs.declared.sizes.Sizes.{Sizes}
 use Rattle.certificate3.specs.Texts.{Certificate, Later, Proofs, Shown}

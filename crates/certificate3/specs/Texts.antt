@@ -9,7 +9,7 @@ use Rattle.graph.specs.Circuits.{position_of, property_text}
 use Rattle.lrat.specs.declared.line.Line.{Line}
 use Rattle.lrat.specs.Limits.{IsLine}
 use Rattle.certificate.specs.Texts.{number_line, clause_line, section_text}
-use Rattle.extension.specs.Accepted.{Evidence}
+use Rattle.cnf.specs.Evidences.{Evidence}
 use Rattle.certificate3.specs.declared.claim.Claim.{Claim}
 
 -- a certificate: what it claims, and what shows it

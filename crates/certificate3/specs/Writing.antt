@@ -4,7 +4,7 @@ use Rattle.graph.specs.declared.circuit.Lit.{Lit}
 use Rattle.graph.specs.declared.circuit.Latch.{Latch}
 use Rattle.graph.specs.declared.circuit.Gate.{Gate}
 use Rattle.certificate.specs.Texts.{number_line, clause_line, section_text}
-use Rattle.extension.specs.Accepted.{Evidence}
+use Rattle.cnf.specs.Evidences.{Evidence}
 use Rattle.certificate3.specs.declared.claim.Claim.{Claim}
 use Rattle.certificate3.specs.declared.evidence.Evidence.{Evidence as AnEvidence}
 use Rattle.certificate3.specs.Texts.{Certificate, shown_text, latch_line, gate_line}

@@ -6,7 +6,7 @@ use Rattle.graph.specs.declared.circuit.Lit.{Lit}
 use Rattle.graph.specs.declared.circuit.Latch.{Latch}
 use Rattle.graph.specs.declared.circuit.Gate.{Gate}
 use Rattle.graph.specs.declared.parts.Parts.{Parts}
-use Rattle.extension.specs.Accepted.{Evidence}
+use Rattle.cnf.specs.Evidences.{Evidence}
 use Rattle.certificate3.specs.declared.claim.Claim.{Claim}
 use Rattle.certify3.specs.Causes.{HasCause, IsFault, IsLate, IsOutsideAt, IsUnspent}
 use Rattle.certify3.specs.Outcomes.{IsCertified, IsOfClauses, IsOfEvidence, of_prove_error}

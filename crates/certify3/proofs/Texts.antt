@@ -1,7 +1,8 @@
 -- The text that was written is the one that was judged.
 use Rattle.std.proofs.Common.{◌≡◌, ℕ, List, sym, subst}
 use Rattle.graph.specs.declared.parts.Parts.{Parts}
-use Rattle.extension.specs.Accepted.{Evidence, IsAcceptedCertificate}
+use Rattle.cnf.specs.Evidences.{Evidence}
+use Rattle.extension.specs.Accepted.{IsAcceptedCertificate}
 use Rattle.certificate3.specs.Laws.{OneLaw}
 use Rattle.certificate3.specs.Texts.{Certificate, SpellsCertificate}
 use Rattle.certificate3.specs.declared.claim.Claim.{Claim}

@@ -5,7 +5,8 @@ use Rattle.graph.specs.declared.circuit.Lit.{Lit}
 use Rattle.graph.specs.declared.circuit.Latch.{Latch}
 use Rattle.graph.specs.declared.circuit.Gate.{Gate}
 use Rattle.graph.specs.declared.parts.Parts.{Parts}
-use Rattle.extension.specs.Accepted.{Evidence, IsAcceptedCertificate, bad_of, circuit_of}
+use Rattle.cnf.specs.Evidences.{Evidence}
+use Rattle.extension.specs.Accepted.{IsAcceptedCertificate, bad_of, circuit_of}
 use Rattle.extension.specs.Extended.{extended}
 use Rattle.certificate3.specs.Texts.{Certificate, SpellsCertificate}
 use Rattle.certificate3.specs.declared.claim.Claim.{Claim}

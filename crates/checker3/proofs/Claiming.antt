@@ -10,7 +10,8 @@ use Rattle.graph.specs.WellFormed.{IsWellFormed, used}
 use Rattle.stimulus.proofs.Watching.{bad_watched, output_watched}
 use Rattle.cnf.specs.Formulas.{IsInRange}
 use Rattle.cnf.proofs.Safety.{watched_used}
-use Rattle.extension.specs.Accepted.{Evidence, IsShowable, bad_of, circuit_of}
+use Rattle.cnf.specs.Evidences.{Evidence}
+use Rattle.extension.specs.Accepted.{IsShowable, bad_of, circuit_of}
 use Rattle.extension.specs.Rounds.{rounds_of}
 use Rattle.certificate3.specs.declared.claim.Claim.{Claim}
 use Rattle.checker3.specs.declared.check_error.CheckError.{CheckError}

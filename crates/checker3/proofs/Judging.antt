@@ -9,7 +9,8 @@ use Rattle.graph.specs.declared.parts.Parts.{Parts}
 use Rattle.graph.specs.WellFormed.{IsWellFormed}
 use Rattle.certificate.specs.declared.reader_error.ReaderError.{ReaderError}
 use Rattle.certificate.specs.Streams.{FindsWith}
-use Rattle.extension.specs.Accepted.{Evidence, IsShowable, bad_of, circuit_of, grown_by}
+use Rattle.cnf.specs.Evidences.{Evidence}
+use Rattle.extension.specs.Accepted.{IsShowable, bad_of, circuit_of, grown_by}
 use Rattle.extension.specs.Extended.{extended}
 use Rattle.certificate3.specs.declared.claim.Claim.{Claim}
 use Rattle.certificate3.specs.Reading.{clauses_at, evidence_of}

@@ -21,7 +21,8 @@ use Rattle.lrat.proofs.Complete.{refused_not}
 use Rattle.lrat.proofs.Exact.{along_next_is, along_unique}
 use Rattle.lrat.proofs.Halting.{halts_not}
 use Rattle.cnf.specs.Formulas.{bad_formula}
-use Rattle.extension.specs.Accepted.{Derives, Evidence, IsAcceptedCertificate, IsAcceptedFor, IsShowable, bad_of, begin_formula, circuit_of, grown_by, pair_formula}
+use Rattle.cnf.specs.Evidences.{Evidence}
+use Rattle.extension.specs.Accepted.{Derives, IsAcceptedCertificate, IsAcceptedFor, IsShowable, bad_of, begin_formula, circuit_of, grown_by, pair_formula}
 use Rattle.extension.specs.Extended.{IsExtension, extended}
 use Rattle.extension.specs.Inductive.{IsOverAll, clause_from}
 use Rattle.certificate3.specs.Texts.{Certificate, Later, Proofs, Shown, SpellsCertificate}

@@ -20,7 +20,8 @@ use Rattle.lrat.specs.Proofs.{HaltsAt, IsAcceptedProof, StaysOpen, first_stage}
 use Rattle.lrat.specs.Refusals.{IsRefusedLine}
 use Rattle.lrat.specs.Stages.{Stage, GoAlong}
 use Rattle.cnf.specs.Formulas.{bad_formula}
-use Rattle.extension.specs.Accepted.{Derives, Evidence, IsAcceptedCertificate, IsAcceptedFor, IsShowable, bad_of, begin_formula, circuit_of, grown_by, pair_formula}
+use Rattle.cnf.specs.Evidences.{Evidence}
+use Rattle.extension.specs.Accepted.{Derives, IsAcceptedCertificate, IsAcceptedFor, IsShowable, bad_of, begin_formula, circuit_of, grown_by, pair_formula}
 use Rattle.extension.specs.Extended.{IsExtension, extended}
 use Rattle.extension.specs.Inductive.{IsOverAll, clause_from}
 use Rattle.certificate3.specs.Texts.{Certificate, Later, Proofs, Shown}

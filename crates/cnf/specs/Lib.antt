@@ -5,3 +5,4 @@ pub mod Invariants
 pub mod Unrolled
 pub mod Tables
 pub mod Numbers
+pub mod Evidences

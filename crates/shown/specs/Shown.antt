@@ -9,7 +9,8 @@ use Rattle.graph.specs.declared.circuit.Property.{Property}
 use Rattle.graph.specs.declared.parts.Parts.{Parts}
 use Rattle.graph.specs.Circuits.{IsUpheld}
 use Rattle.solver.specs.Full.{full}
-use Rattle.extension.specs.Accepted.{Evidence, bad_of, circuit_of}
+use Rattle.cnf.specs.Evidences.{Evidence}
+use Rattle.extension.specs.Accepted.{bad_of, circuit_of}
 use Rattle.extension.specs.Extended.{extended}
 use Rattle.extension.specs.Inductive.{IsInductiveOver}
 use Rattle.certificate3.specs.declared.claim.Claim.{Claim}
