@@ -37,7 +37,7 @@
 //! certificate to `P.cert`, a stimulus to `P.stim`.
 //!
 //! `aigmc equal A B` looks for a run in which two circuits differ: it does what `check` does of the bad literal of their miter
-//! (`transforms::miter_of`). With `--out DIR` that is `miter.aig` in the folder DIR, and the evidence `b0.cert` or `b0.stim`. With
+//! (`miters::miter_of`). With `--out DIR` that is `miter.aig` in the folder DIR, and the evidence `b0.cert` or `b0.stim`. With
 //! `--map OUT` the latches that the certificate's clauses say are equal (`latch_map::latch_map`) go to OUT before anything is
 //! printed. Where there is no certificate, standard error says that nothing is known of them.
 //!

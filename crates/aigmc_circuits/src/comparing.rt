@@ -6,9 +6,9 @@ use aigmc_files::{
 };
 use graph::{AigerFile, Model, Property};
 use inputs::is_standard;
+use miters::miter_of;
 use properties::{Evidence, evidence_name};
 use std::alloc::Global;
-use transforms::miter_of;
 
 /// Two circuits by the names of their files, the folder for the miter and the evidence, where one is named, and the file to
 /// make of the map, likewise.

@@ -4,9 +4,9 @@ ghost use Rattle.std.specs.Prelude.{◌≡◌, ◌<◌, ◌≤◌, ◌+◌, ◌*
 ghost use Rattle.graph.specs.declared.parts.Parts.{Parts};
 ghost use Rattle.correspondence.specs.Equal.{high_of, low_of, IsEquality};
 
-use crate::classes::Classes;
 use base::{Refused, Seq, push};
 use graph::{Latch, Lit, Model};
+use latch_classes::Classes;
 use std::alloc::Global;
 
 /// What a clause is about: the latch at a position, and its class.

@@ -7,11 +7,11 @@ ghost use Rattle.correspondence.specs.Found.{IsCorrespondence};
 ghost use Rattle.correspondence.specs.Rounds.{IsEnd, IsGivenUp, IsLast};
 
 use crate::equal_latches::Correspondence;
-use crate::rounds::Round;
-use crate::search::Search;
+use crate::rounds::{Induction, Round};
 use base::Budget;
 use engine::Progress;
 use graph::Model;
+use latch_classes::Search;
 use random_runs::opened;
 use solver::{PartSat, SatError};
 use std::alloc::Global;
@@ -25,7 +25,7 @@ fn induce<S: PartSat, P: Progress>(
     solver: &mut S,
     alloc: Global,
     circuit: &Model,
-    search: &mut Search,
+    induction: &mut Induction,
     is_open: bool,
     progress: &mut P,
     budget: &mut Budget,
@@ -35,8 +35,8 @@ fn induce<S: PartSat, P: Progress>(
     ensures round { IfOk result (IsEnd circuit.now is_open budget.new) }
 {
     'inducing: while budget.tick() {
-        match search.round(solver, alloc, circuit, is_open, progress, budget)? {
-            Round::Split => search.shake(alloc, budget)?,
+        match induction.round(solver, alloc, circuit, is_open, progress, budget)? {
+            Round::Split => induction.search.shake(alloc, budget)?,
             ended => return Ok(ended),
         }
     }
@@ -48,7 +48,7 @@ fn induce_open<S: PartSat, P: Progress>(
     solver: &mut S,
     alloc: Global,
     circuit: &Model,
-    search: &mut Search,
+    induction: &mut Induction,
     progress: &mut P,
     budget: &mut Budget,
 ) -> Result<Round, SatError>
@@ -57,7 +57,9 @@ fn induce_open<S: PartSat, P: Progress>(
     ensures last { IfOk result (IsLast circuit.now budget.old budget.new) }
 {
     let mut piece = Budget::new(budget.left() / OPEN_PARTS);
-    let ended = induce(solver, alloc, circuit, search, true, progress, &mut piece)?;
+    let ended = induce(
+        solver, alloc, circuit, induction, true, progress, &mut piece,
+    )?;
     budget.spend(piece.spent());
     Ok(ended)
 }
@@ -67,7 +69,7 @@ fn ended<S: PartSat, P: Progress>(
     solver: &mut S,
     alloc: Global,
     circuit: &Model,
-    search: &mut Search,
+    induction: &mut Induction,
     progress: &mut P,
     budget: &mut Budget,
 ) -> Result<Round, SatError>
@@ -75,18 +77,18 @@ fn ended<S: PartSat, P: Progress>(
     ensures spends { Spends budget.old budget.new }
     ensures last { IfOk result (IsLast circuit.now budget.old budget.new) }
 {
-    match induce(solver, alloc, circuit, search, false, progress, budget)? {
-        Round::Open => induce_open(solver, alloc, circuit, search, progress, budget),
+    match induce(solver, alloc, circuit, induction, false, progress, budget)? {
+        Round::Open => induce_open(solver, alloc, circuit, induction, progress, budget),
         ended => Ok(ended),
     }
 }
 
-/// What `correspond` finds, by a search that has all latches that are reset in one class.
+/// What `correspond` finds, by rounds that begin with all latches that are reset in one class.
 fn correspond_by<S: PartSat, P: Progress>(
     solver: &mut S,
     alloc: Global,
     circuit: &Model,
-    search: &mut Search,
+    induction: &mut Induction,
     progress: &mut P,
     budget: &mut Budget,
 ) -> Result<Option<Correspondence>, SatError>
@@ -95,9 +97,9 @@ fn correspond_by<S: PartSat, P: Progress>(
     ensures found { IfOk result (λ r. IfSome r (IsCorrespondence circuit.now)) }
     ensures none { IfOk result (λ r. r ≡ None → IsGivenUp circuit.now budget.old budget.new) }
 {
-    search.simulate(alloc, budget)?;
-    search.shake(alloc, budget)?;
-    match ended(solver, alloc, circuit, search, progress, budget)? {
+    induction.search.simulate(alloc, budget)?;
+    induction.search.shake(alloc, budget)?;
+    match ended(solver, alloc, circuit, induction, progress, budget)? {
         Round::Fixed(found) => Ok(Some(found)),
         _ => Ok(None),
     }
@@ -120,8 +122,9 @@ pub fn correspond<S: PartSat, P: Progress>(
     ensures none { IfOk result (λ r. r ≡ None → IsGivenUp circuit.now budget.old budget.new) }
 {
     let opened = opened(alloc, circuit)?;
-    let mut search = Search::new(alloc, circuit, opened.as_ref().unwrap_or(circuit))?;
-    let found = correspond_by(solver, alloc, circuit, &mut search, progress, budget);
-    *rounds = rounds.saturating_add(search.rounds);
+    let search = Search::new(alloc, circuit, opened.as_ref().unwrap_or(circuit))?;
+    let mut induction = Induction::new(search);
+    let found = correspond_by(solver, alloc, circuit, &mut induction, progress, budget);
+    *rounds = rounds.saturating_add(induction.count);
     found
 }

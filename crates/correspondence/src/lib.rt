@@ -7,29 +7,23 @@
 //!   engine about the circuit in which equal latches are merged (`merged`), and gives its finding back: a run as it is,
 //!   an invariant behind the clauses.
 //!
-//! Each latch that has a reset is taken as it is or negated, so that it begins with false. At first all are one
-//! class with the constant. 256 runs at once split the classes, from the first states and from random states in
-//! which the latches of each class are equal. Then come rounds of induction: a solver has the circuit at one time
+//! Simulation splits the latches into classes (`latch_classes`). Then come rounds of induction: a solver has the circuit at one time
 //! and the clauses of all classes, and is asked of each clause whether it holds after a step. A state in which it
-//! does not is simulated with its neighbours, and again from the state that split a class last, which splits many
-//! classes at once. A round that splits none ends this. Where the classes of a round don't exclude the bad literal,
+//! does not splits classes. A round that splits none ends this. Where the classes of a round don't exclude the bad literal,
 //! no later ones do: then the rounds go on for what can be merged, with a part of what is left of the budget.
 //!
 //! Before a round asks, SAT sweeping (`sweep`) has the solver learn which signals are equal at one time. That each clause holds
 //! at first is seen by the resets; that it holds after a step, and that all exclude the bad literal, by the last round's answers.
 //!
-//! A simulated step costs a pass over the gates and latches, and takes one step of the budget for 64 of them and one more.
 //! A round costs a pass and a query for each clause, which takes what the solver spends.
 #![tactic(auto)]
 
-mod classes;
 mod corresponding;
 mod equal_latches;
 mod equalities;
 mod finding;
 mod merging;
 mod rounds;
-mod search;
 mod sweeping;
 
 pub use corresponding::Corresponding;

@@ -19,12 +19,12 @@ ghost use Rattle.correspondence.specs.Rounds.{IsCoreOf, IsRound};
 
 use crate::equal_latches::Correspondence;
 use crate::equalities::{Equalities, Member};
-use crate::search::{Search, Situation};
 use crate::sweeping::sweep_pairs;
 use base::{Budget, Refused, Seq, push};
 use cnf::{NextTable, bad_unit, shared_base, step_units};
 use engine::Progress;
 use graph::{Lit, MOST_VARIABLES, Model};
+use latch_classes::{Search, Situation};
 use lrat::Clause;
 use solver::{Answer, Part, PartSat, Sat, SatError};
 use std::alloc::Global;
@@ -86,6 +86,19 @@ struct Question {
     member: Member,
     units: Vec<i32>,
     part: Part,
+}
+
+/// Rounds of induction over classes of a circuit's latches.
+#[derive(Drop)]
+pub(crate) struct Induction<'a> {
+    /// the classes, and the means to split them
+    pub search: Search<'a>,
+    /// whether signals are swept in this round
+    is_swept: bool,
+    /// how many steps a question may cost before they are
+    soon: u64,
+    /// how many rounds there were
+    pub count: u64,
 }
 
 /// Adds clauses.
@@ -159,10 +172,20 @@ fn situation_of(alloc: Global, circuit: &Model, values: &[bool]) -> Result<Situa
     Ok(Situation { state, inputs })
 }
 
-impl<'a> Search<'a> {
+impl<'a> Induction<'a> {
+    /// No round yet.
+    pub(crate) fn new(search: Search<'a>) -> Induction<'a> {
+        Induction {
+            search,
+            is_swept: false,
+            soon: u64::MAX,
+            count: 0,
+        }
+    }
+
     /// Whether the latch is still in its class.
     fn is_still(&self, member: Member) -> bool {
-        self.classes.class_of(member.place) == Some(member.class)
+        self.search.classes.class_of(member.place) == Some(member.class)
     }
 
     /// What the clause at a place is about, where its latch is still in its class.
@@ -191,9 +214,9 @@ impl<'a> Search<'a> {
         ensures { Spends budget.old budget.new }
     {
         let situation = situation_of(alloc, circuit, values)?;
-        self.chase(alloc, situation, budget)?;
+        self.search.chase(alloc, situation, budget)?;
         if self.is_still(member) {
-            self.classes.part(member.place)?;
+            self.search.classes.part(member.place)?;
         }
         Ok(())
     }
@@ -351,7 +374,7 @@ impl<'a> Search<'a> {
     }
 }
 
-impl<'a> Search<'a> {
+impl<'a> Induction<'a> {
     /// Whether the clauses, which are loaded, exclude the bad literal. No where earlier ones did not.
     fn excludes<S: PartSat>(
         &mut self,
@@ -433,12 +456,12 @@ impl<'a> Search<'a> {
         ensures fixed { IfOk result (IsRound circuit.now is_open budget.new) }
     {
         let bad = circuit.bad()[0];
-        let equalities = Equalities::of(alloc, circuit, &self.classes)?;
+        let equalities = Equalities::of(alloc, circuit, &self.search.classes)?;
         if equalities.clauses.len() > GREATEST {
             return Ok(Round::Over);
         }
-        self.rounds = self.rounds.saturating_add(1);
-        progress.round_begun(self.rounds, equalities.clauses.len(), budget);
+        self.count = self.count.saturating_add(1);
+        progress.round_begun(self.count, equalities.clauses.len(), budget);
         load(solver, alloc, circuit, equalities.clauses.as_slice())?;
         self.is_swept = false;
         self.soon = self

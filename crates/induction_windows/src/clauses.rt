@@ -1,12 +1,10 @@
 //! Clauses over what was.
 
-use crate::fact::{Fact, When, negated};
-use crate::frames::Frames;
 use crate::history::History;
-use crate::resting::Resting;
 use base::{Refused, Seq, push};
 use graph::Lit;
 use std::alloc::Global;
+use window_search::{Fact, Frames, Resting, When, negated};
 
 /// The most clauses of a certificate.
 const MOST_CLAUSES: usize = 4_194_303;

@@ -6,15 +6,13 @@ ghost use Rattle.graph.specs.Circuits.{variable};
 ghost use Rattle.induction_windows.specs.declared.finding.Found.TheVariants.{Spent};
 
 use crate::clauses::clauses_of;
-use crate::frames::Frames;
 use crate::history::History;
-use crate::resting::{Noted, Resting};
-use crate::window::{Window, find_window};
 use base::{Budget, Refused, Seq};
 use engine::Progress;
 use graph::{Latch, Lit, Model};
 use solver::{Sat, SatError};
 use std::alloc::Global;
+use window_search::{Frames, Noted, Resting, Window, find_window};
 
 /// Latches that extend a circuit, and clauses over both.
 #[derive(Drop)]

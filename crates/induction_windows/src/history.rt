@@ -3,12 +3,10 @@
 ghost use Rattle.std.specs.Prelude.{◌≡◌, ◌+◌, ◌≤◌, ◌++◌, ◌↔◌, IsTrue, OnOk};
 ghost use Rattle.induction_windows.specs.Rows.{delayed as delayed_of, negated_literal, row_latches, variable_literal};
 
-use crate::fact::Fact;
-use crate::frames::Frames;
-use crate::resting::Resting;
 use base::{Refused, filled, push};
 use graph::{Latch, Lit, MOST_VARIABLES, Model};
 use std::alloc::Global;
+use window_search::{Fact, Frames, Resting};
 
 /// The latches of a variable.
 #[derive(Clone, Copy)]

@@ -5,7 +5,7 @@ use Rattle.graph.specs.declared.circuit.Property.TheVariants.{Bad, Justice}
 use Rattle.graph.specs.declared.parts.Parts.{Parts}
 use Rattle.graph.specs.Circuits.{IsUpheld}
 use Rattle.engine.specs.Bounds.{IsClear}
-use Rattle.extension.specs.Accepted.{Evidence}
+use Rattle.cnf.specs.Evidences.{Evidence}
 use Rattle.extension.specs.Rounds.{HoldsFew, HoldsMore, rounds_of}
 use Rattle.certify3.specs.Outcomes.{IsTextOf}
 use Rattle.rounds.specs.declared.counted.Cause.{Cause}

@@ -20,7 +20,6 @@ ghost use Rattle.rounds.specs.declared.asking.Tried.TheVariants.{Exceeded};
 
 use crate::counted::Cause;
 use crate::shortening::{Counting, listed};
-use crate::sparing::spared;
 use base::{Budget, Lists, Seq};
 use certificate3::Claim;
 use certify3::{Certified, CertifyError, Effort, Extension, certify};
@@ -28,6 +27,7 @@ use engine::{Engine, Finding, Reason};
 use extension::{accepted_law, accepted_rounds_law, count_rounds, rounds_laws};
 use graph::{Lit, Model, Property};
 use live_safe::LiveError;
+use round_clauses::spared;
 use std::alloc::Global;
 use stimulus::{JudgeError, Stimulus, judge};
 use verdict::DecideError;

@@ -6,14 +6,12 @@ ghost use Rattle.engine.specs.Findings.{IsForBad};
 ghost use Rattle.rounds.specs.Asked.{IsTried};
 ghost use Rattle.rounds.specs.declared.asking.Tried.TheVariants.{Bounded};
 
-use crate::sharing::{with_gates, with_own_gates};
-use crate::sparing::spared;
-use crate::strengthening::{needed, strengthened};
 use base::{Budget, Lists, Refused, Seq, push};
 use certificate3::Claim;
 use certify3::{Certified, CertifyError, Effort, Extension, certify};
 use extension::{accepted_law, accepted_rounds_law};
 use graph::{Gate, Lit, Model, Property};
+use round_clauses::{needed, spared, strengthened, with_gates, with_own_gates};
 use std::alloc::Global;
 
 /// Shorter certificates are looked for with so many steps at most.

@@ -6,7 +6,7 @@ ghost use Rattle.graph.specs.Circuits.{IsWatched, position_of, variable, place};
 ghost use Rattle.transforms.specs.Extracted.{HasCause, IsPartOf, IsUnmade, StandsFor, bad_of, extract, kept_latch, outputs_of};
 
 use crate::error::TransformError;
-use crate::symbols::{add, name_others};
+use crate::symbols::{add_name, name_others};
 use base::{Refused, Seq};
 use cones::value_laws;
 use graph::{AigerFile, Gate, Latch, Lit, Model, Parts, Property, ReadError, Symbol, SymbolKind};
@@ -136,7 +136,7 @@ fn names(alloc: Global, file: &AigerFile, property: Property) -> Result<Vec<Symb
             SymbolKind::Input | SymbolKind::Latch | SymbolKind::Constraint
         ) {
             let name = symbol.name.as_slice();
-            add(alloc, &mut symbols, symbol.kind, symbol.position, name)?;
+            add_name(alloc, &mut symbols, symbol.kind, symbol.position, name)?;
         }
     }
     name_others(alloc, &mut symbols, file.model())?;
@@ -145,7 +145,7 @@ fn names(alloc: Global, file: &AigerFile, property: Property) -> Result<Vec<Symb
         _ => SymbolKind::Bad,
     };
     if let Some(name) = symbol_of(file, property) {
-        add(alloc, &mut symbols, kind, 0, name)?;
+        add_name(alloc, &mut symbols, kind, 0, name)?;
     }
     Ok(symbols)
 }

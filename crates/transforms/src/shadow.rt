@@ -6,7 +6,7 @@ ghost use Rattle.transforms.specs.Extracted.{IsUnmade};
 ghost use Rattle.transforms.specs.Shadowed.{IsRefused};
 
 use crate::error::TransformError;
-use crate::symbols::{SEEN, add, add_numbered, count, old_names};
+use crate::symbols::{SEEN, add_name, add_numbered, count, old_names};
 use base::{Refused, Seq, extend, push};
 use graph::{AigerFile, Model, Symbol, SymbolKind};
 use live_safe::to_safety;
@@ -29,7 +29,7 @@ fn add_copy(
     let mut name = Vec::new(alloc);
     extend(&mut name, COPY)?;
     extend(&mut name, latch)?;
-    add(alloc, symbols, SymbolKind::Latch, position, name.as_slice())
+    add_name(alloc, symbols, SymbolKind::Latch, position, name.as_slice())
 }
 
 /// Adds the names of the copies of the latches that have these names: the first copy is the latch at the position.
@@ -59,14 +59,14 @@ fn add_new(
     ensures { IfErr result IsUnmade }
 {
     let latches = count(circuit.latches().len());
-    add(
+    add_name(
         alloc,
         new,
         SymbolKind::Input,
         count(circuit.inputs().len()),
         SAVE,
     )?;
-    add(alloc, new, SymbolKind::Latch, latches, SAVED)?;
+    add_name(alloc, new, SymbolKind::Latch, latches, SAVED)?;
     let copies = latches.saturating_add(1);
     add_copies(alloc, new, old, copies)?;
     let seen = copies.saturating_add(latches);

@@ -15,7 +15,7 @@ const MOST: usize = MOST_VARIABLES as usize;
 pub const SEEN: &str = "seen.";
 
 /// Adds a name.
-pub fn add(
+pub fn add_name(
     alloc: Global,
     symbols: &mut Vec<Symbol>,
     kind: SymbolKind,
@@ -67,7 +67,7 @@ fn add_unnamed(
             let Ok(name) = format!(in alloc; "{letters}{position}") else {
                 return Err(TransformError::Name);
             };
-            add(alloc, symbols, kind, position, name.as_bytes())?;
+            add_name(alloc, symbols, kind, position, name.as_bytes())?;
         }
         position = position.saturating_add(1);
     }
@@ -106,10 +106,10 @@ fn add_old(
     let name = symbol.name.as_slice();
     match symbol.kind {
         SymbolKind::Input | SymbolKind::Latch | SymbolKind::Constraint => {
-            add(alloc, symbols, symbol.kind, symbol.position, name)
+            add_name(alloc, symbols, symbol.kind, symbol.position, name)
         }
         SymbolKind::Justice if symbol.position == justice => {
-            add(alloc, symbols, SymbolKind::Bad, 0, name)
+            add_name(alloc, symbols, SymbolKind::Bad, 0, name)
         }
         _ => Ok(()),
     }
@@ -147,7 +147,7 @@ pub fn add_numbered(
         let Ok(name) = format!(in alloc; "{letters}{number}") else {
             return Err(TransformError::Name);
         };
-        add(alloc, symbols, SymbolKind::Latch, position, name.as_bytes())?;
+        add_name(alloc, symbols, SymbolKind::Latch, position, name.as_bytes())?;
     }
     Ok(())
 }

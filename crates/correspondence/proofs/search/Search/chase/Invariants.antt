@@ -1,8 +1,0 @@
-use Rattle.base.specs.Budget.{Spends}
-use Rattle.correspondence.proofs.search.Search.chase.Given as goal
-
-abbrev pub invariant-chasing : goal.invariant-chasing
-invariant-chasing l = Spends l.initial.budget l.budget
-
-abbrev pub decreases-chasing : goal.decreases-chasing
-decreases-chasing l = l.budget.left

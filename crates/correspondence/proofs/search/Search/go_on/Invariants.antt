@@ -1,5 +1,0 @@
-use Rattle.base.specs.Budget.{Spends}
-use Rattle.correspondence.proofs.search.Search.go_on.Given as goal
-
-abbrev pub invariant-going : goal.invariant-going
-invariant-going l = Spends l.initial.budget l.budget

@@ -1,8 +1,0 @@
-use Rattle.base.specs.Budget.{Spends}
-use Rattle.correspondence.proofs.search.Search.shake.Given as goal
-
-abbrev pub invariant-shaking : goal.invariant-shaking
-invariant-shaking l = Spends l.initial.budget l.budget
-
-abbrev pub decreases-shaking : goal.decreases-shaking
-decreases-shaking l = l.budget.left

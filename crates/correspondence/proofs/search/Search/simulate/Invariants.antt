@@ -1,5 +1,0 @@
-use Rattle.base.specs.Budget.{Spends}
-use Rattle.correspondence.proofs.search.Search.simulate.Given as goal
-
-abbrev pub invariant-simulating : goal.invariant-simulating
-invariant-simulating l = Spends l.initial.budget l.budget

@@ -1,6 +1,0 @@
-use Rattle.std.proofs.Common.{All}
-use Rattle.lrat.specs.Literals.{IsLiteral}
-use Rattle.induction_windows.proofs.frames.Frames.add_literals.Given as goal
-
-abbrev pub invariant-loop-lit : goal.invariant-loop-lit
-invariant-loop-lit l = All (IsLiteral l.self) l.clause.items

@@ -1,6 +1,0 @@
-use Rattle.std.proofs.Common.{All}
-use Rattle.lrat.specs.Literals.{IsLiteral}
-use Rattle.induction_windows.proofs.resting.Question.add_time.Given as goal
-
-abbrev pub invariant-adding : goal.invariant-adding
-invariant-adding l = All (All (IsLiteral l.frames)) l.self.clauses

@@ -1,5 +1,0 @@
-use Rattle.base.specs.Budget.{Spends}
-use Rattle.induction_windows.proofs.resting.Resting.note_first.Given as goal
-
-abbrev pub invariant-noting : goal.invariant-noting
-invariant-noting l = Spends l.initial.budget l.budget

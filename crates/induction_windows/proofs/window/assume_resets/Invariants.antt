@@ -1,6 +1,0 @@
-use Rattle.std.proofs.Common.{All}
-use Rattle.lrat.specs.Literals.{IsLiteral}
-use Rattle.induction_windows.proofs.window.assume_resets.Given as goal
-
-abbrev pub invariant-assuming : goal.invariant-assuming
-invariant-assuming l = All (IsLiteral l.frames) l.assumed.items

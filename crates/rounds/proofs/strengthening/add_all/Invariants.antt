@@ -1,5 +1,0 @@
-use Rattle.std.proofs.Common.{◌≡◌}
-use Rattle.rounds.proofs.strengthening.add_all.Given as goal
-
-abbrev pub invariant-loop-clause : goal.invariant-loop-clause
-invariant-loop-clause g l = g.S.Sat.vars l.solver ≡ g.S.Sat.vars l.initial.solver

@@ -1,0 +1,6 @@
+use Rattle.std.proofs.Common.{All}
+use Rattle.lrat.specs.Literals.{IsLiteral}
+use Rattle.window_search.proofs.resting.Question.add_time.Given as goal
+
+abbrev pub invariant-adding : goal.invariant-adding
+invariant-adding l = All (All (IsLiteral l.frames)) l.self.clauses
