@@ -84,35 +84,34 @@ fn with_files<'a>(
     name: &'a str,
     about: &'a str,
     help: &'a str,
-    second: Arg<'a>,
+    second: &'a str,
+    second_about: &'a str,
 ) -> Result<Command<'a>, AllocError> {
     Command::new(alloc, name)
         .about(about)
         .after_help(help)
         .arg(file(alloc, "FILE", "The circuit (AIGER 1.9, ASCII or binary)"))?
-        .arg(second)?
+        .arg(file(alloc, second, second_about))?
         .arg(verbose(alloc))
 }
 
 /// The words of `safe`.
 fn safe_command<'a>(alloc: Global) -> Result<Command<'a>, AllocError> {
-    let certificate = file(alloc, "CERT", "The certificate");
     let about = "Whether a certificate shows that a circuit is safe";
-    with_files(alloc, "safe", about, SAFE, certificate)?.arg(property(alloc))
+    with_files(alloc, "safe", about, SAFE, "CERT", "The certificate")?.arg(property(alloc))
 }
 
 /// The words of `run`.
 fn run_command<'a>(alloc: Global) -> Result<Command<'a>, AllocError> {
-    let stimulus = file(alloc, "STIM", "The stimulus");
     let about = "Whether a stimulus shows that a property is violated";
-    with_files(alloc, "run", about, RUN, stimulus)?.arg(property(alloc))
+    with_files(alloc, "run", about, RUN, "STIM", "The stimulus")?.arg(property(alloc))
 }
 
 /// The words of `all`.
 fn all_command<'a>(alloc: Global) -> Result<Command<'a>, AllocError> {
-    let folder = file(alloc, "DIR", "The folder: b0.cert, b1.stim and so on");
     let about = "What the evidence in a folder shows of each property of a circuit";
-    with_files(alloc, "all", about, ALL, folder)?.arg(json(alloc))
+    let folder = "The folder: b0.cert, b1.stim and so on";
+    with_files(alloc, "all", about, ALL, "DIR", folder)?.arg(json(alloc))
 }
 
 /// The words of `explain`.
@@ -127,15 +126,27 @@ fn explain_command<'a>(alloc: Global) -> Result<Command<'a>, AllocError> {
         .arg(verbose(alloc))
 }
 
-/// The command line.
-pub fn command<'a>(alloc: Global) -> Result<Command<'a>, AllocError> {
+/// A command with one more subcommand.
+fn with_subcommand<'a>(
+    command: Command<'a>,
+    subcommand: Result<Command<'a>, AllocError>,
+) -> Result<Command<'a>, AllocError> {
+    command.subcommand(subcommand?)
+}
+
+/// The command line without its commands.
+fn without_commands<'a>(alloc: Global) -> Command<'a> {
     Command::new(alloc, "aigcheck")
         .about("Checks evidence about AIGER circuits")
         .version(VERSION)
         .after_help(STATUSES)
         .subcommand_required(true)
-        .subcommand(safe_command(alloc)?)?
-        .subcommand(run_command(alloc)?)?
-        .subcommand(all_command(alloc)?)?
-        .subcommand(explain_command(alloc)?)
+}
+
+/// The command line.
+pub fn command<'a>(alloc: Global) -> Result<Command<'a>, AllocError> {
+    let command = with_subcommand(without_commands(alloc), safe_command(alloc))?;
+    let command = with_subcommand(command, run_command(alloc))?;
+    let command = with_subcommand(command, all_command(alloc))?;
+    with_subcommand(command, explain_command(alloc))
 }
