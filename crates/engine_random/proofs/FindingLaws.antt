@@ -1,13 +1,17 @@
 -- What a finding of a batch says.
-use Rattle.std.proofs.Common.{◌≡◌, ℕ, true, false, List, Option, Some, None, Result, Ok, Err, IsSome, IfSome, IfOk, sym, ◌∙◌, arith}
+use Rattle.std.proofs.Common.{◌≡◌, ℕ, Bool, true, false, List, Option, Some, None, Result, Ok, Err, IsSome, IfSome, IfOk, sym, ◌∙◌, arith}
 use Rattle.base.specs.Budget.{Steps}
 use Rattle.graph.specs.declared.parts.Parts.{Parts}
+use Rattle.graph.specs.declared.circuit.Property.TheVariants.{Bad}
+use Rattle.stimulus.specs.declared.value.Stimulus.TheVariants.{Violated}
+use Rattle.stimulus.specs.Shown.{ShowsBad}
 use Rattle.engine.specs.declared.finding.Finding.{Finding}
+use Rattle.engine.specs.declared.finding.Finding.TheVariants.{Invariant, Run, Unknown}
 use Rattle.engine.specs.Findings.{IsSo}
 use Rattle.engine.specs.declared.engine_error.EngineError.{EngineError}
 use Rattle.simulate.specs.Lanes.{IsLowest}
 use Rattle.engine_random.specs.Batches.{Played, Marks}
-use Rattle.engine_random.specs.Findings.{IsLowestOf, IsRunOf, IsRunOrSpent}
+use Rattle.engine_random.specs.Findings.{IsJudged, IsLowestOf, IsRunOf, IsRunOrSpent}
 use Rattle.engine_random.proofs.SettingLaws.{some_is, if_some_at}
 
 -- a run of the batch is what an engine may answer
@@ -17,7 +21,7 @@ run_is_so m after b f same h = rw (h.found.is_run, ← same) h.found.shows
 pub run_is_run : (b : Played) (f : Finding) → IsLowestOf b f → IsRunOrSpent f
 run_is_run b f h = rw h.found.is_run tt
 
-ok_some_more : (P Q : Finding → Type 0) → ((f : Finding) → P f → Q f) → (answer : Result (Option Finding) EngineError) →
+pub ok_some_more : (P Q : Finding → Type 0) → ((f : Finding) → P f → Q f) → (answer : Result (Option Finding) EngineError) →
     IfOk answer (λ x. IfSome x P) → IfOk answer (λ x. IfSome x Q)
 ok_some_more P Q more (Ok None) h = h
 ok_some_more P Q more (Ok (Some f)) h = more f h
@@ -38,3 +42,17 @@ lowest_found b bad r some marks low =
       lowest = λ i i_in sets. let no : false ≡ true = sym (low.before i i_in) ∙ (marked i (omega (arith, i_in, low.inside))).1 sets in cc no;
       found = h;
     })
+
+-- a run that was judged is what an engine may answer
+pub judged_is : (m : Parts) (initial : List Bool) (inputs : List (List Bool)) (f : Finding) → (f ≡ Run initial inputs) × ShowsBad m (Violated (Bad 0) initial inputs) → IsJudged m f
+judged_is m initial inputs f h = rw h.0 h.1
+
+pub judged_is_so : (m : Parts) (after : Steps) (f : Finding) → IsJudged m f → IsSo m after f
+judged_is_so m after (Run initial inputs) h = h
+judged_is_so m after (Invariant clauses) h = absurd h
+judged_is_so m after (Unknown reason) h = absurd h
+
+pub judged_is_run : (m : Parts) (f : Finding) → IsJudged m f → IsRunOrSpent f
+judged_is_run m (Run initial inputs) h = tt
+judged_is_run m (Invariant clauses) h = absurd h
+judged_is_run m (Unknown reason) h = absurd h

@@ -1,6 +1,7 @@
 -- What is found by playing at random.
 use Rattle.std.specs.Prelude.{◌≡◌, ℕ, ◌<◌, true, List, Option, Some, None}
 use Rattle.graph.specs.declared.circuit.Property.TheVariants.{Bad}
+use Rattle.graph.specs.declared.parts.Parts.{Parts}
 use Rattle.stimulus.specs.declared.value.Stimulus.{Stimulus}
 use Rattle.stimulus.specs.declared.value.Stimulus.TheVariants as stimulus
 use Rattle.stimulus.specs.Shown.{ShowsBad}
@@ -40,3 +41,9 @@ abbrev pub IsRunOrSpent : Finding → Type 0
 IsRunOrSpent (Run initial inputs) = Unit {0}
 IsRunOrSpent (Invariant clauses) = ⊥
 IsRunOrSpent (Unknown reason) = reason ≡ Budget
+
+-- the finding is a run that shows the bad literal
+abbrev pub IsJudged : Parts → Finding → Type 0
+IsJudged m (Run initial inputs) = ShowsBad m (stimulus.Violated (Bad 0) initial inputs)
+IsJudged m (Invariant clauses) = ⊥
+IsJudged m (Unknown reason) = ⊥

@@ -69,7 +69,7 @@ fn first_value(latch: Latch, generator: &mut Lcg128Xsl64) -> u64x4
 }
 
 /// Gives the latches their first values, in their order.
-fn first_values(latches: &[Latch], generator: &mut Lcg128Xsl64, first: &mut [u64x4])
+pub fn first_values(latches: &[Latch], generator: &mut Lcg128Xsl64, first: &mut [u64x4])
     requires { length first.old ≡ length latches.now }
     ensures { AllStart latches.now first.new }
 {
@@ -107,7 +107,7 @@ fn told_run(stimulus: Stimulus) -> Option<Finding>
 }
 
 /// The run as a finding, where it is judged to show the bad literal.
-fn judged(
+pub fn judged(
     alloc: Global,
     circuit: &Model,
     initial: Seq<bool>,
