@@ -22,7 +22,8 @@
 //! `1`, P and a run that violates it, `0` and P where it holds, or `2` and P where nothing is known.
 //! `--engine` says what looks: `bmc`, bounded search through runs of at most `--depth` steps; `ic3`;
 //! `corr`, register correspondence and then bounded search; `all`, the default, which is bounded search and IC3 with few
-//! steps, then register correspondence, then the two again; or `random`, random simulation from `--seed`.
+//! steps, then random simulation of long runs, then register correspondence, then the two again; or `random`, random
+//! simulation from `--seed`.
 //! `--budget` is how many steps the search may cost. With `--cert OUT` the certificate of a property that
 //! holds is written to OUT before anything is printed; OUT may name neither the circuit's file nor the file
 //! that standard output goes to. With `--witness OUT` OUT gets the certificate's witness circuit, in the layouts of `convert`.

@@ -87,7 +87,7 @@ impl Question<'_> {
         )?;
         let rest = all.saturating_sub(few.saturating_sub(left));
         match verdict {
-            Verdict::Unknown(_) => self.behind(rt, candidates, rest, counters),
+            Verdict::Unknown(_) => self.simulated_first(rt, candidates, rest, counters),
             found => Ok((Conclusion::Decided(found), rest)),
         }
     }

@@ -13,6 +13,15 @@ use graph::{Lit, Property};
 use rounds::Counted;
 use verdict::{DecideError, Verdict};
 
+/// Random simulation of long runs has one of so many parts of what is left.
+const SIMULATION_PARTS: u64 = 16;
+
+/// How many steps it may take at first.
+const FIRST_SIMULATION_STEPS: u64 = 250_000;
+
+/// How many it may take once more, where equal registers and signals say nothing.
+const SIMULATION_STEPS: u64 = 4_000_000;
+
 /// Of a circuit with so many variables at most, equal registers alone are looked for before equal signals are.
 const FEW_VARIABLES: u32 = 4_000;
 
@@ -235,9 +244,75 @@ impl Question<'_> {
         self.by_text && !matches!(self.property, Property::Justice(_))
     }
 
-    /// What equal registers and signals come to, where signals may show the property; else what the counting of rounds comes to,
-    /// else register correspondence and the engines behind it.
-    pub(crate) fn behind(
+    /// The run that random simulation of long runs finds from this seed, with a part of so many steps and so many at most, where the
+    /// property is no justice property. Answers how many steps are left too.
+    fn long_run(
+        self,
+        rt: &HostRuntime,
+        seed: u64,
+        most: u64,
+        steps: u64,
+        counters: &mut Counters,
+    ) -> Result<(Option<Conclusion>, u64), DecideError>
+        ensures concluded { IfOk result (λ r. IfSome r.0 (IsConcluded self.entry.circuit.now self.entry.property)) }
+        ensures meant { IfOk result (λ r. IfSome r.0 (IsMeantIn self.entry.circuit.now self.entry.property r.1)) }
+        ensures left { IfOk result (λ r. r.1 ≤ steps) }
+    {
+        if let Property::Justice(_) = self.property {
+            return Ok((None, steps));
+        }
+        let part = (steps / SIMULATION_PARTS).min(most);
+        let (verdict, left) = self.simulated_long(rt, seed, part, counters)?;
+        let rest = steps.saturating_sub(part.saturating_sub(left));
+        match verdict {
+            Verdict::Unknown(_) => Ok((None, rest)),
+            found => Ok((Some(Conclusion::Decided(found)), rest)),
+        }
+    }
+
+    /// What random simulation of long runs says with few steps, and else what stands behind it.
+    pub(crate) fn simulated_first(
+        self,
+        rt: &HostRuntime,
+        candidates: Seq<Seq<Lit>>,
+        steps: u64,
+        counters: &mut Counters,
+    ) -> Result<(Conclusion, u64), DecideError>
+        ensures concluded { IfOk result (λ r. IsConcluded self.entry.circuit.now self.entry.property r.0) }
+        ensures meant { IfOk result (λ r. IsMeantIn self.entry.circuit.now self.entry.property r.1 r.0) }
+        ensures left { IfOk result (λ r. r.1 ≤ steps) }
+    {
+        let seed = self.timing.search.seed;
+        let (found, rest) = self.long_run(rt, seed, FIRST_SIMULATION_STEPS, steps, counters)?;
+        match found {
+            Some(conclusion) => Ok((conclusion, rest)),
+            None => self.behind(rt, candidates, rest, counters),
+        }
+    }
+
+    /// What it says with more steps from another seed; else what the counting of rounds comes to, else register correspondence and
+    /// the engines behind it.
+    fn simulated_again(
+        self,
+        rt: &HostRuntime,
+        candidates: Seq<Seq<Lit>>,
+        steps: u64,
+        counters: &mut Counters,
+    ) -> Result<(Conclusion, u64), DecideError>
+        ensures concluded { IfOk result (λ r. IsConcluded self.entry.circuit.now self.entry.property r.0) }
+        ensures meant { IfOk result (λ r. IsMeantIn self.entry.circuit.now self.entry.property r.1 r.0) }
+        ensures left { IfOk result (λ r. r.1 ≤ steps) }
+    {
+        let seed = !self.timing.search.seed;
+        let (found, rest) = self.long_run(rt, seed, SIMULATION_STEPS, steps, counters)?;
+        match found {
+            Some(conclusion) => Ok((conclusion, rest)),
+            None => self.counted_or_merged(rt, candidates, rest, counters),
+        }
+    }
+
+    /// What equal registers and signals come to, where signals may show the property, and else what stands behind them.
+    fn behind(
         self,
         rt: &HostRuntime,
         candidates: Seq<Seq<Lit>>,
@@ -249,13 +324,13 @@ impl Question<'_> {
         ensures left { IfOk result (λ r. r.1 ≤ steps) }
     {
         if !self.is_for_signals() {
-            return self.counted_or_merged(rt, candidates, steps, counters);
+            return self.simulated_again(rt, candidates, steps, counters);
         }
         let first = copied(rt.alloc(), candidates.as_slice())?;
         let (found, rest) = self.by_equals(rt, first, steps, counters)?;
         match found {
             Some(conclusion) => Ok((conclusion, rest)),
-            None => self.counted_or_merged(rt, candidates, rest, counters),
+            None => self.simulated_again(rt, candidates, rest, counters),
         }
     }
 }

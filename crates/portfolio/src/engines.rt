@@ -13,7 +13,7 @@ use base::{Budget, Seq};
 use cone_of_influence::ConeOfInfluence;
 use correspondence::Corresponding;
 use engine::{Counters, Engine};
-use engine_random::Random;
+use engine_random::{LongRuns, Random};
 use graph::{Lit, Property};
 use ic3::Ic3;
 use k_induction::decide_by_induction;
@@ -210,6 +210,24 @@ impl Question<'_> {
         let search = self.timing.search;
         let engine = Random::new(search.seed, u32::from(search.depth));
         let mut engine = engine.with_watch(self.timing.deadline);
+        self.decided_by(rt, &mut engine, steps, counters)
+    }
+
+    /// What random simulation of long runs from this seed says.
+    pub(crate) fn simulated_long(
+        self,
+        rt: &HostRuntime,
+        seed: u64,
+        steps: u64,
+        counters: &mut Counters,
+    ) -> Result<(Verdict, u64), DecideError>
+        ensures backed { IfOk result (λ r. IsBacked self.entry.circuit.now self.entry.property r.0) }
+        ensures meant { IfOk result (λ r. IsMeantWith self.entry.circuit.now self.entry.property r.1 r.0) }
+        ensures left { IfOk result (λ r. r.1 ≤ steps) }
+    {
+        let engine = LongRuns::new(seed);
+        let engine = engine.with_watch(self.timing.deadline);
+        let mut engine = ConeOfInfluence::new(engine);
         self.decided_by(rt, &mut engine, steps, counters)
     }
 
