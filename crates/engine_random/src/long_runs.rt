@@ -18,13 +18,13 @@ use simulate::lanes::{both, lowest};
 use std::alloc::Global;
 use std::simd::u64x4;
 
-/// So many inputs, latches and gates are looked at in 256 runs for a step.
+/// So many inputs are looked at in 256 runs for a step, so many latches, and so many gates.
 const SIZE_A_STEP: usize = 64;
 
 /// Random simulation of 256 runs at once, whose inputs keep their values for a while, batch after batch. Some batches are long.
 ///
-/// A time costs one step, and one more for each 64 inputs, latches and gates. Where the watch says that it is over, what is left
-/// of the budget is spent.
+/// A batch costs a step, and so does a time, with one more for each 64 inputs, each 64 latches and each 64 gates. Where the watch
+/// says that it is over, what is left of the budget is spent.
 #[derive(Drop)]
 pub struct LongRuns<W> {
     seed: u64,

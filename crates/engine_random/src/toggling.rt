@@ -17,9 +17,10 @@ const TIMES: u64 = 250;
 /// They are so many times doubled at most.
 const DOUBLINGS: u32 = 20;
 
-/// A run takes so many bytes at most, where a value of an input has one byte, and a time so many more.
+/// A run takes so many bytes at most, where the value of an input takes one.
 const RUN_BYTES: u64 = 33_554_432;
 
+/// A time takes so many more.
 const TIME_BYTES: u64 = 32;
 
 /// What a batch of 256 runs is drawn from, and how long it is.
