@@ -13,6 +13,12 @@ use graph::{Lit, Property};
 use rounds::Counted;
 use verdict::{DecideError, Verdict};
 
+/// Guesses of equal registers have one of so many parts of what is left.
+const GUESS_PARTS: u64 = 4;
+
+/// How many steps they may take at most.
+const GUESS_STEPS: u64 = 20_000_000;
+
 /// Random simulation of long runs has one of so many parts of what is left.
 const SIMULATION_PARTS: u64 = 16;
 
@@ -29,7 +35,7 @@ const FEW_VARIABLES: u32 = 4_000;
 const MANY_VARIABLES: u32 = 30_000;
 
 /// Register correspondence and the engines behind it have so many steps at most before equal signals are looked for.
-const MERGED_STEPS: u64 = 5_000_000;
+const MERGED_STEPS: u64 = 3_000_000;
 
 /// They have so many at most where the circuit has many variables.
 const MOST_MERGED_STEPS: u64 = 40_000_000;
@@ -270,6 +276,49 @@ impl Question<'_> {
         }
     }
 
+    /// What guesses of equal registers say, where the property is no justice property and they show it. Answers how many steps are
+    /// left too.
+    fn guess(
+        self,
+        rt: &HostRuntime,
+        steps: u64,
+        counters: &mut Counters,
+    ) -> Result<(Option<Conclusion>, u64), DecideError>
+        ensures concluded { IfOk result (λ r. IfSome r.0 (IsConcluded self.entry.circuit.now self.entry.property)) }
+        ensures meant { IfOk result (λ r. IfSome r.0 (IsMeantIn self.entry.circuit.now self.entry.property r.1)) }
+        ensures left { IfOk result (λ r. r.1 ≤ steps) }
+    {
+        if let Property::Justice(_) = self.property {
+            return Ok((None, steps));
+        }
+        let part = (steps / GUESS_PARTS).min(GUESS_STEPS);
+        let (verdict, left) = self.guessed(rt, part, counters)?;
+        let rest = steps.saturating_sub(part.saturating_sub(left));
+        match verdict {
+            Verdict::Unknown(_) => Ok((None, rest)),
+            found => Ok((Some(Conclusion::Decided(found)), rest)),
+        }
+    }
+
+    /// What guesses of equal registers say, and else what stands behind them.
+    fn guessed_first(
+        self,
+        rt: &HostRuntime,
+        candidates: Seq<Seq<Lit>>,
+        steps: u64,
+        counters: &mut Counters,
+    ) -> Result<(Conclusion, u64), DecideError>
+        ensures concluded { IfOk result (λ r. IsConcluded self.entry.circuit.now self.entry.property r.0) }
+        ensures meant { IfOk result (λ r. IsMeantIn self.entry.circuit.now self.entry.property r.1 r.0) }
+        ensures left { IfOk result (λ r. r.1 ≤ steps) }
+    {
+        let (found, rest) = self.guess(rt, steps, counters)?;
+        match found {
+            Some(conclusion) => Ok((conclusion, rest)),
+            None => self.behind(rt, candidates, rest, counters),
+        }
+    }
+
     /// What random simulation of long runs says with few steps, and else what stands behind it.
     pub(crate) fn simulated_first(
         self,
@@ -286,7 +335,7 @@ impl Question<'_> {
         let (found, rest) = self.long_run(rt, seed, FIRST_SIMULATION_STEPS, steps, counters)?;
         match found {
             Some(conclusion) => Ok((conclusion, rest)),
-            None => self.behind(rt, candidates, rest, counters),
+            None => self.guessed_first(rt, candidates, rest, counters),
         }
     }
 

@@ -17,6 +17,7 @@ use engine_random::{LongRuns, Random};
 use graph::{Lit, Property};
 use ic3::Ic3;
 use k_induction::decide_by_induction;
+use latch_guesses::Guessing;
 use round_clauses::order_of_counts;
 use rounds::{Counted, decide_rounds};
 use shown::Shown;
@@ -98,6 +99,21 @@ impl Question<'_> {
         let bounded = bounded_by(rt, timing, depth);
         let engine = Corresponding::new(timing.solver(alloc), bounded);
         let mut engine = engine.with_progress(Reporter::new(rt, timing.shown));
+        self.decided_by(rt, &mut engine, steps, counters)
+    }
+
+    /// What guesses of equal registers say, where a certificate comes of them.
+    pub(crate) fn guessed(
+        self,
+        rt: &HostRuntime,
+        steps: u64,
+        counters: &mut Counters,
+    ) -> Result<(Verdict, u64), DecideError>
+        ensures backed { IfOk result (λ r. IsBacked self.entry.circuit.now self.entry.property r.0) }
+        ensures left { IfOk result (λ r. r.1 ≤ steps) }
+    {
+        let (solver, shown) = (self.timing.solver(rt.alloc()), self.timing.shown);
+        let mut engine = Guessing::new(solver, Reporter::new(rt, shown));
         self.decided_by(rt, &mut engine, steps, counters)
     }
 
