@@ -6,6 +6,7 @@ ghost use Rattle.cnf.specs.Tables.{IsTableOf};
 ghost use Rattle.engine.specs.Findings.{IsForBad, IsSo};
 ghost use Rattle.unrolling.specs.Cones.{IsConeOf};
 ghost use Rattle.bmc.specs.Depths.{EndsAt, IsFoundBy, IsOfSteps, IsShortest, IsWithinDepth};
+ghost use Rattle.unrolling.specs.Merged.{IsReady};
 ghost use Rattle.unrolling.specs.Times.{IsAt, HasRoom};
 ghost use Rattle.bmc.specs.Times.{IsBadAnswer, IsBadModel};
 ghost use Rattle.engine.specs.declared.engine_error.EngineError.TheVariants.{Limit};
@@ -16,15 +17,22 @@ use base::{Budget, Refused};
 use cnf::NextTable;
 use engine::{Counters, Engine, EngineError, Finding, Progress, Reason, Silent};
 use graph::Model;
-use solver::{Answer, Sat, count};
+use solver::{Answer, PartSat, Sat, count};
 use std::alloc::Global;
-use unrolling::{Cone, Unrolling, begin, cone_of, literal};
+use unrolling::{Cone, Sweeping, Unrolling, begin, cone_of, literal};
+
+/// The solver that has the times, and the one that shows which of their functions are equal.
+#[derive(Drop)]
+pub struct Solvers<S> {
+    pub times: S,
+    pub sweeping: Sweeping<S>,
+}
 
 /// Bounded search (Biere, Cimatti, Clarke, Zhu 1999) through runs of 0 steps, 1 step, up to a
 /// depth, by any solver. A contract sees the depth and the solver.
 #[derive(Drop)]
 pub struct Bmc<S, P> {
-    solver: S,
+    solvers: Solvers<S>,
     depth: u32,
     /// where each search reports its progress
     progress: P,
@@ -38,7 +46,7 @@ impl<S, P> std::marker::Model for Bmc<S, P> {
 
     ghost Value = { Bounded S };
 
-    ghost view = { λ b. record { depth = b.depth; solver = b.solver } };
+    ghost view = { λ b. record { depth = b.depth; solver = b.solvers.times } };
 
     ghost invariant = { λ b. b.depth ≤ 255 };
 }
@@ -90,8 +98,8 @@ fn found_by(
 }
 
 /// Looks for a run of one step more that sets the bad literal at its last time.
-fn reach<S: Sat>(
-    solver: &mut S,
+fn reach<S: PartSat>(
+    solvers: &mut Solvers<S>,
     circuit: &Model,
     cone: &Cone,
     nexts: &NextTable,
@@ -102,35 +110,39 @@ fn reach<S: Sat>(
     requires for_bad { IsForBad circuit.now }
     requires cone { IsConeOf circuit.now cone.now }
     requires nexts { IsTableOf circuit.now.latches nexts.now }
-    requires at { IsAt circuit.now cone.now unrolling.old (S.clauses solver.old) }
+    requires at { IsAt circuit.now cone.now unrolling.old (S.clauses solvers.old.times) }
     requires times { length unrolling.old.firsts.items ≡ steps }
-    requires room { HasRoom cone.now 1 unrolling.old (S.vars solver.old) }
-    requires places { length unrolling.old.given.items ≡ S.vars solver.old + 1 }
-    requires small { S.vars solver.old ≤ 2147483647 }
-    ensures vars { S.vars solver.new ≡ S.vars solver.old }
+    requires room { HasRoom cone.now 1 unrolling.old (S.vars solvers.old.times) }
+    requires places { length unrolling.old.given.items ≡ S.vars solvers.old.times + 1 }
+    requires small { S.vars solvers.old.times ≤ 2147483647 }
+    requires ready { IsReady unrolling.old.encoder solvers.old.sweeping.given.items (S.vars solvers.old.sweeping.solver) (S.clauses solvers.old.sweeping.solver) solvers.old.sweeping.representatives }
+    ensures vars { S.vars solvers.new.times ≡ S.vars solvers.old.times }
     ensures spends { Spends budget.old budget.new }
-    ensures at { IfOk result (λ found. found ≡ None → IsAt circuit.now cone.now unrolling.new (S.clauses solver.new)) }
+    ensures at { IfOk result (λ found. found ≡ None → IsAt circuit.now cone.now unrolling.new (S.clauses solvers.new.times)) }
+    ensures ready { IfOk result (λ found. found ≡ None →
+        IsReady unrolling.new.encoder solvers.new.sweeping.given.items (S.vars solvers.new.sweeping.solver) (S.clauses solvers.new.sweeping.solver) solvers.new.sweeping.representatives) }
     ensures times { IfOk result (λ found. found ≡ None → length unrolling.new.firsts.items ≡ steps + 1) }
     ensures places { IfOk result (λ found. found ≡ None → length unrolling.new.given.items ≡ length unrolling.old.given.items) }
     ensures few { IfOk result (λ found. found ≡ None →
         unrolling.new.encoder.variables ≤ unrolling.old.encoder.variables + (length cone.now.inputs.items + length cone.now.cells.items)) }
     ensures lawful { IfOk result (IsOfSteps circuit.now steps budget.new) }
-    ensures limit { IfErr result (λ e. e ≡ Limit full → S.is_full solver.new) }
+    ensures limit { IfErr result (λ e. e ≡ Limit full → S.is_full solvers.new.times) }
 {
     if !budget.tick() {
         return Ok(Some(Finding::Unknown(Reason::Budget)));
     }
     circuit.well_formed();
     let alloc = unrolling.allocator();
-    unrolling.encode(solver, circuit, cone, nexts)?;
+    let times = &mut solvers.times;
+    unrolling.encode(times, circuit, cone, nexts, &mut solvers.sweeping, budget)?;
     let bad = literal(unrolling.table.as_slice(), circuit.bad()[0]);
-    let answer = solver.solve(alloc, &[bad], budget)?;
+    let answer = solvers.times.solve(alloc, &[bad], budget)?;
     Ok(found_by(alloc, circuit, cone, unrolling, answer, steps)?)
 }
 
 /// Looks through runs of 0 steps, 1 step, up to `depth` steps, and counts the queries.
-fn search_up_to<S: Sat, P: Progress>(
-    solver: &mut S,
+fn search_up_to<S: PartSat, P: Progress>(
+    solvers: &mut Solvers<S>,
     alloc: Global,
     circuit: &Model,
     depth: u32,
@@ -144,17 +156,18 @@ fn search_up_to<S: Sat, P: Progress>(
     ensures so { IfOk result (IsSo circuit.now budget.new) }
     ensures shortest { IfOk result (IsShortest circuit.now) }
     ensures depth { IfOk result (IsWithinDepth depth) }
-    ensures limit { IfErr result (λ e. e ≡ Limit full → S.is_full solver.new) }
+    ensures limit { IfErr result (λ e. e ≡ Limit full → S.is_full solvers.new.times) }
 {
     circuit.well_formed();
     let nexts = NextTable::new(alloc, circuit)?;
     let cone = cone_of(alloc, circuit, &nexts)?;
-    let mut unrolling = begin(solver, alloc, circuit, &cone, depth + 1)?;
+    let mut unrolling = begin(&mut solvers.times, alloc, circuit, &cone, depth + 1)?;
+    solvers.sweeping.begin(budget)?;
     'deepening: for steps in 0..depth + 1 {
         progress.depth_begun(steps, unrolling.encoder.variables, budget);
         count(queries);
         match reach(
-            solver,
+            solvers,
             circuit,
             &cone,
             &nexts,
@@ -169,14 +182,17 @@ fn search_up_to<S: Sat, P: Progress>(
     Ok(Finding::Unknown(Reason::Depth(depth)))
 }
 
-impl<S: Sat> Bmc<S, Silent> {
-    /// A search of up to `depth` steps, at most 255.
-    pub fn new(solver: S, depth: u32) -> Bmc<S, Silent>
+impl<S: PartSat> Bmc<S, Silent> {
+    /// A search of up to `depth` steps, at most 255, by a solver that has the times; the other one is asked which functions are equal.
+    pub fn new(alloc: Global, solver: S, questions: S, depth: u32) -> Bmc<S, Silent>
         requires { depth ≤ 255 }
         ensures { result ≡ record { depth = depth; solver = solver } }
     {
         Bmc {
-            solver,
+            solvers: Solvers {
+                times: solver,
+                sweeping: Sweeping::new(alloc, questions),
+            },
             depth,
             progress: Silent,
             queries: 0,
@@ -188,7 +204,7 @@ impl<S: Sat> Bmc<S, Silent> {
         ensures { result ≡ self }
     {
         Bmc {
-            solver: self.solver,
+            solvers: self.solvers,
             depth: self.depth,
             progress,
             queries: self.queries,
@@ -196,7 +212,7 @@ impl<S: Sat> Bmc<S, Silent> {
     }
 }
 
-impl<S: Sat, P: Progress> Engine for Bmc<S, P> {
+impl<S: PartSat, P: Progress> Engine for Bmc<S, P> {
     ghost honest = { λ _. Unit {0} };
 
     ghost answers = { λ b m _ r after. IfOk r (IsSo m after) × IfOk r (IsShortest m) × IfOk r (IsWithinDepth b.depth) };
@@ -219,7 +235,7 @@ impl<S: Sat, P: Progress> Engine for Bmc<S, P> {
         ensures limit { IfErr result (λ e. e ≡ Limit full → S.is_full self.new.solver) }
     {
         search_up_to(
-            &mut self.solver,
+            &mut self.solvers,
             alloc,
             circuit,
             self.depth,
@@ -230,7 +246,10 @@ impl<S: Sat, P: Progress> Engine for Bmc<S, P> {
     }
 
     fn count(&self, counters: &mut Counters) -> Result<(), Refused> {
+        let sweeping = &self.solvers.sweeping;
         counters.add("bmc", "queries", self.queries)?;
-        counters.add_statistics("bmc", &self.solver.statistics())
+        counters.add("bmc", "merged", sweeping.representatives.count())?;
+        counters.add_statistics("bmc", &self.solvers.times.statistics())?;
+        counters.add_statistics("bmc", &sweeping.solver.statistics())
     }
 }

@@ -2,7 +2,7 @@
 //! `robustness/again` one growth is refused in each run, one after the other: the call that is then made again has to answer as
 //! one that was never refused, with what was there before, and so have the calls behind it.
 
-ghost use Rattle.std.specs.Prelude.{◌≡◌, OnOk, IfOk, All};
+ghost use Rattle.std.specs.Prelude.{◌≡◌, ◌≤◌, OnOk, IfOk, All};
 ghost use Rattle.engine.specs.Findings.{IsForBad};
 ghost use Rattle.lrat.specs.Limits.{IsFormula};
 ghost use Rattle.lrat.specs.Literals.{IsLiteral};
@@ -168,11 +168,18 @@ fn compared<E: Engine>(
     Ok(Some(is_again))
 }
 
+/// Bounded search through runs of so many steps.
+fn bounded(alloc: Global, depth: u32) -> Bmc<Cdcl, Silent>
+    requires { depth ≤ 255 }
+{
+    Bmc::new(alloc, Cdcl::new(alloc), Cdcl::new(alloc), depth)
+}
+
 #[test]
 fn bounded_search(rt: HostRuntime) -> Result<(), Fail> {
     let alloc = rt.alloc();
-    let (first, second) = (Cdcl::new(alloc), Cdcl::new(alloc));
-    let call = compared(Bmc::new(first, 8), Bmc::new(second, 8), alloc, STEPS)?;
+    let (first, second) = (bounded(alloc, 8), bounded(alloc, 8));
+    let call = compared(first, second, alloc, STEPS)?;
     assert!(rt; is_right_call(&rt, call)?);
     Ok(())
 }
@@ -198,7 +205,7 @@ fn random_simulation(rt: HostRuntime) -> Result<(), Fail> {
 fn one_behind_the_other(
     alloc: Global,
 ) -> Corresponding<Cdcl, InOrder<Bmc<Cdcl, Silent>, Ic3<Cdcl, Silent>>, Silent> {
-    let behind = InOrder::new(Bmc::new(Cdcl::new(alloc), 1), Ic3::new(Cdcl::new(alloc)));
+    let behind = InOrder::new(bounded(alloc, 1), Ic3::new(Cdcl::new(alloc)));
     Corresponding::new(Cdcl::new(alloc), behind)
 }
 

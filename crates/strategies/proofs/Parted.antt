@@ -17,3 +17,7 @@ shown_of m after (Unknown reason) so = tt
 pub shown_by : (m : Parts) (after : Steps) (r : Result Finding EngineError) → IfOk r (IsSo m after) → IfOk r (IsShown m)
 shown_by m after (Ok f) so = shown_of m after f so
 shown_by m after (Err e) so = tt
+
+pub then_if : {T E : Type 0} (P Q : T → Type 0) (r : Result T E) → IfOk r P → ((x : T) → P x → Q x) → IfOk r Q
+then_if P Q (Ok x) p f = f x p
+then_if P Q (Err e) p f = tt

@@ -1,5 +1,5 @@
 -- What two engines answer that share a budget.
-use Rattle.std.specs.Prelude.{◌≡◌, ◌≤◌, ◌⊎◌, ℕ, Result, Ok}
+use Rattle.std.specs.Prelude.{◌≡◌, ◌≤◌, ◌⊎◌, Result, Ok}
 use Rattle.base.specs.Budget.{Spends, Steps}
 use Rattle.graph.specs.declared.circuit.Property.TheVariants.{Bad}
 use Rattle.graph.specs.declared.parts.Parts.{Parts}

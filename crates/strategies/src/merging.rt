@@ -25,7 +25,13 @@ const DEEPER_PARTS: u64 = 8;
 pub fn bounded_by(rt: &HostRuntime, timing: Timing, depth: u8) -> Bmc<Timed<Cdcl>, Reporter>
     ensures { result.depth ≡ depth }
 {
-    let bounded = Bmc::new(timing.solver(rt.alloc()), u32::from(depth));
+    let alloc = rt.alloc();
+    let bounded = Bmc::new(
+        alloc,
+        timing.solver(alloc),
+        timing.solver(alloc),
+        u32::from(depth),
+    );
     bounded.with_progress(Reporter::new(rt, timing.shown))
 }
 

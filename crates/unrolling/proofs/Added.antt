@@ -1,5 +1,5 @@
 -- What calls promise of an `Ok`, and numbers that are read back.
-use Rattle.std.proofs.Common.{◌≡◌, ℤ, Result, Ok, Err, OnOk, ◌∙◌, SFits, w32, to_z, of_z}
+use Rattle.std.proofs.Common.{◌≡◌, ℤ, Result, Ok, Err, IfOk, OnOk, ◌∙◌, SFits, w32, to_z, of_z}
 use Rattle.lrat.proofs.Fit.{read32}
 
 pub then_ok : {T E P Q : Type 0} (r : Result T E) → OnOk r P → (P → Q) → OnOk r Q
@@ -17,3 +17,7 @@ then_both (Err e) p q f = tt
 pub then_pair : {T E : Type 0} (P Q : Type 0) (r : Result T E) → OnOk r P → OnOk r Q → OnOk r (P × Q)
 then_pair P Q (Ok x) p q = (p, q)
 then_pair P Q (Err e) p q = tt
+
+pub then_if : {T E : Type 0} (P Q : T → Type 0) (r : Result T E) → IfOk r P → ((x : T) → P x → Q x) → IfOk r Q
+then_if P Q (Ok x) p f = f x p
+then_if P Q (Err e) p f = tt

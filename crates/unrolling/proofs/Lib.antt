@@ -5,6 +5,7 @@ pub mod Encoded
 pub mod Completed
 pub mod Tabled
 pub mod Demanded
+pub mod Swept
 pub mod Said
 pub mod Closed
 pub mod Coned

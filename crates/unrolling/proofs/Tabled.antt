@@ -48,7 +48,7 @@ table_weaker m c s cs ds t n k i j g table weaker le is = record {
 }
 
 -- one more variable
-table_set : (m : Parts) (c : Cone) (s : Leaves) (cs : Told) (t n i j g i2 j2 g2 x : ℕ) (l : ℤ) (table : List ℤ) → IsTable m c s cs t n i j g table → x < m.max_var + 1 →
+pub table_set : (m : Parts) (c : Cone) (s : Leaves) (cs : Told) (t n i j g i2 j2 g2 x : ℕ) (l : ℤ) (table : List ℤ) → IsTable m c s cs t n i j g table → x < m.max_var + 1 →
     IsLiteral n l → Stands m c s cs t x l → ((y : ℕ) → IsFilled m c i2 j2 g2 y → IsFilled m c i j g y ⊎ (y ≡ x)) → IsTable m c s cs t n i2 j2 g2 (set table x l)
 table_set m c s cs t n i j g i2 j2 g2 x l table is x_in l_in stands filled =
     let inside : x < length table = omega (arith, x_in, is.whole) in

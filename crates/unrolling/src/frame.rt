@@ -6,6 +6,8 @@ ghost use Rattle.lrat.specs.Shared.{unit_clauses};
 ghost use Rattle.graph.specs.Circuits.{variable};
 ghost use Rattle.cuts.specs.Cuts.{IsLeaf};
 ghost use Rattle.unrolling.specs.Cones.{IsConeOf};
+ghost use Rattle.base.specs.Budget.{Spends};
+ghost use Rattle.unrolling.specs.Merged.{IsReady};
 ghost use Rattle.unrolling.specs.Encodings.{IsEncoding, IsGrown, Told, told};
 ghost use Rattle.unrolling.specs.Unrollings.{Leaves, IsTable, AreFresh, AreStates, by_table, literal_at, literal_of};
 ghost use Rattle.engine.specs.declared.engine_error.EngineError.TheVariants.{Limit};
@@ -15,11 +17,12 @@ use crate::clauses::{add_one, negated, positive};
 use crate::cone::Cone;
 use crate::encoder::Encoder;
 use crate::function::Function;
-use base::Refused;
+use crate::sweeping::Sweeping;
+use base::{Budget, Refused};
 use cuts::Cut;
 use engine::EngineError;
 use graph::{Lit, Model};
-use solver::Sat;
+use solver::{PartSat, Sat};
 use std::alloc::Global;
 
 /// The literal at a place.
@@ -122,26 +125,64 @@ fn encode_cell(
     Ok(())
 }
 
-/// Makes the literals of the cone's cells.
-pub fn encode_cells(
+/// Makes the literal of the cone's cell at this place: of equal ones the earliest that is known.
+fn merge_cell<S: PartSat>(
     circuit: &Model,
     cone: &Cone,
     encoder: &mut Encoder,
+    sweeping: &mut Sweeping<S>,
     table: &mut [i32],
+    place: usize,
+    budget: &mut Budget,
+) -> Result<(), Refused>
+    requires cone { IsConeOf circuit.now cone.now }
+    requires inside { place < length cone.now.cells.items }
+    requires whole { length table.old ≡ circuit.now.max_var + 1 }
+    requires literals { All (IsLiteral encoder.old.variables) table.old }
+    requires encoding { IsEncoding encoder.old }
+    requires room { encoder.old.variables < 2147483647 }
+    requires ready { IsReady encoder.old sweeping.old.given.items (S.vars sweeping.old.solver) (S.clauses sweeping.old.solver) sweeping.old.representatives }
+    ensures grown { OnOk result (IsGrown 1 encoder.old encoder.new) }
+    ensures whole { length table.new ≡ length table.old }
+    ensures spends { Spends budget.old budget.new }
+    ensures literals { OnOk result (All (IsLiteral encoder.new.variables) table.new) }
+    ensures ready { OnOk result (IsReady encoder.new sweeping.new.given.items (S.vars sweeping.new.solver) (S.clauses sweeping.new.solver) sweeping.new.representatives) }
+    ensures table { (s : Leaves) (cs : List (List ℤ)) (t : ℕ) → IsTable circuit.now cone.now s (told encoder.old cs) t encoder.old.variables (length cone.now.inputs.items) (length cone.now.latches.items) place table.old →
+        OnOk result (IsTable circuit.now cone.now s (told encoder.new cs) t encoder.new.variables (length cone.now.inputs.items) (length cone.now.latches.items) (place + 1) table.new) }
+{
+    circuit.well_formed();
+    encode_cell(circuit, cone, encoder, table, place)?;
+    let variable = cone.cells[place].variable;
+    let literal = entry(table, variable);
+    table[variable as usize] = sweeping.merged(encoder, literal, budget)?;
+    Ok(())
+}
+
+/// Makes the literals of the cone's cells.
+pub fn encode_cells<S: PartSat>(
+    circuit: &Model,
+    cone: &Cone,
+    encoder: &mut Encoder,
+    sweeping: &mut Sweeping<S>,
+    table: &mut [i32],
+    budget: &mut Budget,
 ) -> Result<(), Refused>
     requires cone { IsConeOf circuit.now cone.now }
     requires whole { length table.old ≡ circuit.now.max_var + 1 }
     requires literals { All (IsLiteral encoder.old.variables) table.old }
     requires encoding { IsEncoding encoder.old }
     requires room { encoder.old.variables + length cone.now.cells.items ≤ 2147483647 }
+    requires ready { IsReady encoder.old sweeping.old.given.items (S.vars sweeping.old.solver) (S.clauses sweeping.old.solver) sweeping.old.representatives }
     ensures grown { OnOk result (IsGrown (length cone.now.cells.items) encoder.old encoder.new) }
     ensures whole { length table.new ≡ length table.old }
+    ensures spends { Spends budget.old budget.new }
     ensures literals { OnOk result (All (IsLiteral encoder.new.variables) table.new) }
+    ensures ready { OnOk result (IsReady encoder.new sweeping.new.given.items (S.vars sweeping.new.solver) (S.clauses sweeping.new.solver) sweeping.new.representatives) }
     ensures table { (s : Leaves) (cs : List (List ℤ)) (t : ℕ) → IsTable circuit.now cone.now s (told encoder.old cs) t encoder.old.variables (length cone.now.inputs.items) (length cone.now.latches.items) 0 table.old →
         OnOk result (IsTable circuit.now cone.now s (told encoder.new cs) t encoder.new.variables (length cone.now.inputs.items) (length cone.now.latches.items) (length cone.now.cells.items) table.new) }
 {
     for place in 0..cone.cells.len() {
-        encode_cell(circuit, cone, encoder, table, place)?;
+        merge_cell(circuit, cone, encoder, sweeping, table, place, budget)?;
     }
     Ok(())
 }

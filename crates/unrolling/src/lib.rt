@@ -20,8 +20,11 @@ mod demand;
 mod encoder;
 mod frame;
 mod function;
+mod representatives;
+mod sweeping;
 mod unrolling;
 
 pub use cone::{Cone, cone_of};
 pub use frame::literal;
+pub use sweeping::Sweeping;
 pub use unrolling::{Unrolling, begin};

@@ -5,6 +5,8 @@ ghost use Rattle.lrat.specs.Literals.{IsLiteral};
 ghost use Rattle.cnf.specs.Clauses.{next_of};
 ghost use Rattle.cnf.specs.Tables.{IsTableOf};
 ghost use Rattle.unrolling.specs.Cones.{IsConeOf, latch_at};
+ghost use Rattle.base.specs.Budget.{Spends};
+ghost use Rattle.unrolling.specs.Merged.{IsReady};
 ghost use Rattle.unrolling.specs.Encodings.{IsEncoding, IsExtended, told};
 ghost use Rattle.unrolling.specs.Demands.{AreGiven, AreAdded};
 ghost use Rattle.cones.specs.Marks.{IsMarked};
@@ -18,11 +20,12 @@ use crate::cone::Cone;
 use crate::demand::{CoverClauses, give};
 use crate::encoder::Encoder;
 use crate::frame::{add_units, encode_cells, entry, fill_inputs, fill_latches, literal};
-use base::{Refused, filled, push};
+use crate::sweeping::Sweeping;
+use base::{Budget, Refused, filled, push};
 use cnf::NextTable;
 use engine::EngineError;
 use graph::{Latch, Model};
-use solver::Sat;
+use solver::{PartSat, Sat};
 use std::alloc::Global;
 
 /// What is known of the times that were encoded.
@@ -117,7 +120,7 @@ fn next_state(circuit: &Model, cone: &Cone, nexts: &NextTable, table: &[i32], st
 }
 
 /// The variables that were given before the first time: the one that is true.
-fn given_first(alloc: Global, places: usize) -> Result<Vec<bool>, Refused>
+pub fn given_first(alloc: Global, places: usize) -> Result<Vec<bool>, Refused>
     requires some { 1 < places }
     requires few { places ≤ 2147483648 }
     ensures marks { IfOk result (λ given. given.items ≡ set (replicate places false) 1 true) }
@@ -168,12 +171,14 @@ pub fn begin<S: Sat>(
 }
 
 /// Makes the literals of one time.
-fn encode_frame(
+fn encode_frame<S: PartSat>(
     circuit: &Model,
     cone: &Cone,
     encoder: &mut Encoder,
+    sweeping: &mut Sweeping<S>,
     state: &[i32],
     table: &mut [i32],
+    budget: &mut Budget,
 ) -> Result<(), Refused>
     requires cone { IsConeOf circuit.now cone.now }
     requires whole { length table.old ≡ circuit.now.max_var + 1 }
@@ -182,9 +187,12 @@ fn encode_frame(
     requires states { All (IsLiteral encoder.old.variables) state.now }
     requires encoding { IsEncoding encoder.old }
     requires room { encoder.old.variables + (length cone.now.inputs.items + length cone.now.cells.items) ≤ 2147483647 }
+    requires ready { IsReady encoder.old sweeping.old.given.items (S.vars sweeping.old.solver) (S.clauses sweeping.old.solver) sweeping.old.representatives }
     ensures whole { length table.new ≡ length table.old }
     ensures literals { OnOk result (All (IsLiteral encoder.new.variables) table.new) }
     ensures few { OnOk result (encoder.new.variables ≤ encoder.old.variables + (length cone.now.inputs.items + length cone.now.cells.items)) }
+    ensures spends { Spends budget.old budget.new }
+    ensures ready { OnOk result (IsReady encoder.new sweeping.new.given.items (S.vars sweeping.new.solver) (S.clauses sweeping.new.solver) sweeping.new.representatives) }
     ensures encoding { OnOk result (IsEncoding encoder.new) }
     ensures extended { OnOk result (IsExtended (encoder.old.variables + length cone.now.inputs.items) encoder.old.functions.items encoder.new.variables encoder.new.functions.items) }
     ensures table { (s : Leaves) (cs : List (List ℤ)) → AreStates circuit.now cone.now s (told encoder.old cs) (length s.firsts) encoder.old.variables state.now →
@@ -197,7 +205,7 @@ fn encode_frame(
     table[0] = -1;
     fill_inputs(circuit, cone, first, table);
     fill_latches(circuit, cone, state, table);
-    encode_cells(circuit, cone, encoder, table)?;
+    encode_cells(circuit, cone, encoder, sweeping, table, budget)?;
     Ok(())
 }
 
@@ -244,12 +252,14 @@ impl Unrolling {
     }
 
     /// Makes the literals of the next time, and adds its constraints.
-    pub fn encode<S: Sat>(
+    pub fn encode<S: PartSat>(
         &mut self,
         solver: &mut S,
         circuit: &Model,
         cone: &Cone,
         nexts: &NextTable,
+        sweeping: &mut Sweeping<S>,
+        budget: &mut Budget,
     ) -> Result<(), EngineError>
         requires cone { IsConeOf circuit.now cone.now }
         requires nexts { IsTableOf circuit.now.latches nexts.now }
@@ -257,7 +267,10 @@ impl Unrolling {
         requires room { HasRoom cone.now 1 self.old (S.vars solver.old) }
         requires places { length self.old.given.items ≡ S.vars solver.old + 1 }
         requires small { S.vars solver.old ≤ 2147483647 }
+        requires ready { IsReady self.old.encoder sweeping.old.given.items (S.vars sweeping.old.solver) (S.clauses sweeping.old.solver) sweeping.old.representatives }
         ensures vars { S.vars solver.new ≡ S.vars solver.old }
+        ensures spends { Spends budget.old budget.new }
+        ensures ready { OnOk result (IsReady self.new.encoder sweeping.new.given.items (S.vars sweeping.new.solver) (S.clauses sweeping.new.solver) sweeping.new.representatives) }
         ensures at { OnOk result (IsAt circuit.now cone.now self.new (S.clauses solver.new)) }
         ensures bad { OnOk result (All (λ a. IsMarked self.new.given.items (unsigned_abs (literal_of self.new.table.items a))) circuit.now.bad) }
         ensures stands { OnOk result (IsTable circuit.now cone.now (leaves_of self.new) (told self.new.encoder (S.clauses solver.new)) (length self.old.firsts.items) self.new.encoder.variables
@@ -273,8 +286,10 @@ impl Unrolling {
             circuit,
             cone,
             &mut self.encoder,
+            sweeping,
             self.state.as_slice(),
             self.table.as_mut_slice(),
+            budget,
         )?;
         give_frame(
             solver,

@@ -7,7 +7,7 @@ pub reach-requires-clause-room : goal.reach-requires-clause-room
 reach-requires-clause-room g c =
     let a : ℕ = c.deepening.unrolling.encoder.variables in
     let each : ℕ = length c.in_ok-cone.cone.inputs.items + length c.in_ok-cone.cone.cells.items in
-    let vars : ℕ = g.S.Sat.vars c.deepening.solver in
+    let vars : ℕ = g.S.Sat.vars c.deepening.solvers.times in
     let k : ℕ = c.args.depth - c.deepening.steps in
     let e : c.args.depth + 1 - c.deepening.steps ≡ k + 1 = omega arith in
     room_one a k each vars (subst (λ q. a + q * each ≤ vars) e c.deepening.invariant.room)
@@ -18,7 +18,7 @@ deepening-preserved g c =
     let a : ℕ = c.deepening.unrolling.encoder.variables in
     let b : ℕ = c.reach.new.unrolling.encoder.variables in
     let each : ℕ = length c.in_ok-cone.cone.inputs.items + length c.in_ok-cone.cone.cells.items in
-    let vars : ℕ = g.S.Sat.vars c.deepening.solver in
+    let vars : ℕ = g.S.Sat.vars c.deepening.solvers.times in
     let k : ℕ = c.args.depth - c.deepening.steps in
     let e : c.args.depth + 1 - c.deepening.steps ≡ k + 1 = omega arith in
     let less : b + k * each ≤ vars = room_less a b k each vars (subst (λ q. a + q * each ≤ vars) e c.deepening.invariant.room) (c.in_ok-finding.ensures.few c.in-None.is) in
@@ -29,6 +29,7 @@ deepening-preserved g c =
       room = subst (λ q. b + (c.args.depth + 1 - (c.deepening.steps + 1)) * each ≤ q) (sym c.reach.ensures.vars) now;
       at = c.in_ok-finding.ensures.at c.in-None.is;
       places = c.in_ok-finding.ensures.places c.in-None.is ∙ c.deepening.invariant.places ∙ ap (λ q. q + 1) (sym c.reach.ensures.vars);
+      ready = c.in_ok-finding.ensures.ready c.in-None.is;
       times = c.in_ok-finding.ensures.times c.in-None.is;
       spends = search rules;
       unset = unset_more m c.deepening.steps c.deepening.invariant.unset (subst (IsOfSteps m c.deepening.steps c.reach.new.budget) c.in-None.is c.in_ok-finding.ensures.lawful);
@@ -43,6 +44,7 @@ deepening-init g c = record {
       subst (λ q. c.in_ok-unrolling.unrolling.encoder.variables + q * each ≤ g.S.Sat.vars c.begin.new.solver) all c.in_ok-unrolling.ensures.room;
   at = c.in_ok-unrolling.ensures.at;
   places = c.in_ok-unrolling.ensures.places;
+  ready = c.in_ok-begin.ensures c.in_ok-unrolling.unrolling.encoder;
   times = ap length c.in_ok-unrolling.ensures.none;
   spends = search rules;
   unset = unset_none c.args.circuit.now;

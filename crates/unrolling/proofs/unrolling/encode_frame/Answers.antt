@@ -4,14 +4,23 @@ use Rattle.lrat.specs.Literals.{IsLiteral}
 use Rattle.unrolling.specs.declared.encoder.Encoder.{Encoder}
 use Rattle.unrolling.specs.Encodings.{Told, told}
 use Rattle.unrolling.specs.Unrollings.{AreStates, later}
-use Rattle.unrolling.proofs.Encoded.{false_literal}
+use Rattle.unrolling.proofs.Encoded.{extended_more, false_literal}
 use Rattle.unrolling.proofs.Negated.{literal_up}
+use Rattle.unrolling.proofs.Swept.{ready_later}
 use Rattle.unrolling.proofs.Tabled.{literals_set}
 use Rattle.unrolling.proofs.Unrolled.{fresh_later, states_later, table_begins}
 use Rattle.unrolling.proofs.unrolling.encode_frame.Goals as goal
 
+pub encode_cells-requires-clause-ready : goal.encode_cells-requires-clause-ready
+encode_cells-requires-clause-ready g c =
+    let w = c.args.sweeping.now in
+    let e : Encoder = c.args.encoder.now in
+    let k : ℕ = e.variables + c.len.result in
+    let e1 : Encoder = record { variables = k; shared = e.shared; functions = e.functions } in
+    ready_later e e1 w.given.items (g.S.Sat.vars w.solver) (g.S.Sat.clauses w.solver) w.representatives (extended_more e.variables k e.functions.items (omega arith)) c.requires.ready
+
 pub encode_cells-requires-clause-literals : goal.encode_cells-requires-clause-literals
-encode_cells-requires-clause-literals c =
+encode_cells-requires-clause-literals g c =
     let n : ℕ = c.args.encoder.now.variables in
     let k : ℕ = n + c.len.result in
     let long : c.len.result ≡ length c.args.cone.now.inputs.items = search rules in
@@ -21,12 +30,12 @@ encode_cells-requires-clause-literals c =
     (literals_set n k c.args.table.now 0 (negsuc 0) c.requires.literals (omega arith) (omega (arith, c.requires.whole)) (literal_up n k (negsuc 0) (false_literal c.args.encoder.now c.requires.encoding) (omega arith))))
 
 pub returns-clause-extended : goal.returns-clause-extended
-returns-clause-extended c =
+returns-clause-extended g c =
     let long : c.len.result ≡ length c.args.cone.now.inputs.items = search rules in
     rw long at c.in_ok-encode_cells.ensures.grown.extended
 
 pub returns-clause-table : goal.returns-clause-table
-returns-clause-table c = λ s cs stands.
+returns-clause-table g c = λ s cs stands.
     let m = c.args.circuit.now in
     let cone = c.args.cone.now in
     let e : Encoder = c.args.encoder.now in
